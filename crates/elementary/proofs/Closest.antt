@@ -1,0 +1,48 @@
+-- `closest`, a fraction rounded to the nearest whole number with a tie to the even one, by the comparisons that decide it; and its bounds.
+-- Assumes nothing.
+use mathlib.Core.Path.{_≡_, refl, sym, ap, _∙_, subst}
+use mathlib.Core.Bool.{not}
+use Prim.Native.Nat.{ℕ, suc, _+_, _-_, _*_, _/_, _%_, _≤_, _<_, compare, Ordering, Ordering·lt, Ordering·eq, Ordering·gt}
+use native.Mathlib.Nat.{div-eq-of-lt, mod-eq-of-lt, le-trans}
+use native.Mathlib.Omega.{arith}
+use lib.Dec.{T, isLe, isEq, eqb, eqb-refl, leb→le, nleb→lt, eqb→eq}
+use lib.Arith.{lt-of-le-ne}
+use lib.Ieee.{nearest}
+use lib.Ieee.Fits.{nearest-le}
+use lib.Ieee.Nearest.{closest, nearest-ge}
+
+-- ---- `nearest` chooses as a and b compare
+nearest-is : (q a b r : ℕ) → (a < b → r ≡ q) → (a ≡ b → r ≡ q + q % 2) → (b < a → r ≡ suc q) → r ≡ nearest q (compare a b)
+nearest-is q a b r less same more = go (compare a b) (leb→le a b) (nleb→lt a b) (eqb→eq a b) (λ (e : a ≡ b). subst (λ (x : ℕ). T (eqb a x)) e (eqb-refl a))
+  where
+    go : (o : Ordering) → (T (isLe o) → a ≤ b) → (T (not (isLe o)) → b < a) → (T (isEq o) → a ≡ b) → (a ≡ b → T (isEq o)) → r ≡ nearest q o
+    go Ordering·lt le gt eq is = less (lt-of-le-ne (le tt) is)
+    go Ordering·eq le gt eq is = same (eq tt)
+    go Ordering·gt le gt eq is = more (gt tt)
+
+-- ---- y / u, by how far y is from the multiples of u below and above it
+pub closest-down : (y u : ℕ) → y % u < u - y % u → y / u ≡ closest y u
+closest-down y u h = nearest-is (y / u) (y % u * 2) u (y / u) (λ l. refl) (λ e. omega arith) (λ g. omega arith)
+
+pub closest-up : (y u : ℕ) → u - y % u < y % u → y / u + 1 ≡ closest y u
+closest-up y u h = nearest-is (y / u) (y % u * 2) u (y / u + 1) (λ l. omega arith) (λ e. omega arith) (λ g. omega arith)
+
+pub closest-even : (y u : ℕ) → y % u ≡ u - y % u → y % u < u → y / u + y / u % 2 ≡ closest y u
+closest-even y u h r = nearest-is (y / u) (y % u * 2) u (y / u + y / u % 2) (λ l. omega arith) (λ e. refl) (λ g. omega arith)
+
+-- ---- a fraction below 1
+proper : (y u r : ℕ) → y < u → r ≡ nearest 0 (compare (y * 2) u) → r ≡ closest y u
+proper y u r h e = e ∙ ap (λ (x : ℕ). nearest 0 (compare (x * 2) u)) (sym (mod-eq-of-lt h)) ∙ ap (λ (q : ℕ). nearest q (compare (y % u * 2) u)) (sym (div-eq-of-lt h))
+
+pub closest-none : (y u : ℕ) → y < u → y * 2 ≤ u → 0 ≡ closest y u
+closest-none y u h half = proper y u 0 h (nearest-is 0 (y * 2) u 0 (λ l. refl) (λ e. refl) (λ g. omega arith))
+
+pub closest-one : (y u : ℕ) → y < u → u < y * 2 → 1 ≡ closest y u
+closest-one y u h half = proper y u 1 h (nearest-is 0 (y * 2) u 1 (λ l. omega arith) (λ e. omega arith) (λ g. refl))
+
+-- ---- the bounds that the quotient has
+pub closest-at-most : (y u b : ℕ) → y / u < b → closest y u ≤ b
+closest-at-most y u b h = le-trans (nearest-le (y / u) (compare (y % u * 2) u)) h
+
+pub closest-at-least : (y u b : ℕ) → b ≤ y / u → b ≤ closest y u
+closest-at-least y u b h = le-trans h (nearest-ge (y / u) (compare (y % u * 2) u))

@@ -1,0 +1,68 @@
+-- The table of the exponents: each entry, times 2^58, is whole, is not zero and fits a word, by one test that antt computes; and where 3 and 4 stand in it.
+-- Assumes nothing.
+use mathlib.Core.Path.{_≡_, refl, sym, subst, _∙_}
+use mathlib.Core.Bool.{Bool, true, false, _&&_, Bool·beq}
+use mathlib.Core.Logic.{inl, inr}
+use Prim.Native.Nat.{ℕ, zero, suc, _*_, _%_, _^_, _<_}
+use native.Mathlib.Nat.{not-suc-le-zero, eq-or-lt-of-le, le-of-suc-le-suc}
+use borrow.Author.Tests.{eq-eqb, ne-eqb}
+use lib.Dec.{T, eqb, ltb, eqb→eq, ltb→lt}
+use lib.ListN.{getD}
+use lib.Ieee.{Float, nan, inf, fin, up, down}
+use lib.Ieee.Fits.{and-l, and-r}
+use Rattle.elementary.specs.Exponents.{Exponent, exponents, exponentAt, isThree, isFour}
+
+-- ---- a test at every number below n
+abbrev every : ℕ → (ℕ → Bool) → Bool
+every zero test = true
+every (suc n) test = test n && every n test
+
+at : (n : ℕ) (test : ℕ → Bool) → T (every n test) → (i : ℕ) → i < n → T (test i)
+at zero test t i h = absurd (not-suc-le-zero h)
+at (suc n) test t i h =
+    elim (eq-or-lt-of-le (le-of-suc-le-suc h)) [
+      | inl e ↦ subst (λ (k : ℕ). T (test k)) (sym e) (and-l (test n) (every n test) t)
+      | inr l ↦ at n test (and-r (test n) (every n test) t) i l
+    ]
+
+same : (a b : Bool) → T (Bool·beq a b) → a ≡ b
+same true true t = refl
+same true false t = absurd t
+same false true t = absurd t
+same false false t = refl
+
+-- ---- every exponent is finite, and times 2^58 a whole number from 1 up to 2^64
+pub isWhole : Float → Bool
+isWhole nan = false
+isWhole (inf s) = false
+isWhole (fin s m e) = eqb (m * up e * 2 ^ 58 % down e) 0
+
+pub exponents-whole : T (every 27 (λ i. isWhole (getD exponents i nan) && ltb 0 (exponentAt i .magnitude) && ltb (exponentAt i .magnitude) (2 ^ 64)))
+unfolding isWhole exponents
+exponents-whole = tt
+
+pub magnitude-pos : (i : ℕ) → i < 27 → 0 < exponentAt i .magnitude
+unfolding exponents
+magnitude-pos i h = ltb→lt 0 (exponentAt i .magnitude) (at 27 (λ k. ltb 0 (exponentAt k .magnitude)) tt i h)
+
+-- ---- 3 and 4 have the numbers 23 and 25
+three-at : (i : ℕ) → i < 27 → isThree (exponentAt i) ≡ eqb i 23
+unfolding exponents
+three-at i h = same (isThree (exponentAt i)) (eqb i 23) (at 27 (λ k. Bool·beq (isThree (exponentAt k)) (eqb k 23)) tt i h)
+
+four-at : (i : ℕ) → i < 27 → isFour (exponentAt i) ≡ eqb i 25
+unfolding exponents
+four-at i h = same (isFour (exponentAt i)) (eqb i 25) (at 27 (λ k. Bool·beq (isFour (exponentAt k)) (eqb k 25)) tt i h)
+
+-- by a test of the number
+pub is-three : (i : ℕ) → i < 27 → i ≡ 23 → isThree (exponentAt i) ≡ true
+is-three i h e = three-at i h ∙ eq-eqb i 23 e
+
+pub not-three : (i : ℕ) → i < 27 → (i ≡ 23 → ⊥) → isThree (exponentAt i) ≡ false
+not-three i h n = three-at i h ∙ ne-eqb i 23 n
+
+pub is-four : (i : ℕ) → i < 27 → i ≡ 25 → isFour (exponentAt i) ≡ true
+is-four i h e = four-at i h ∙ eq-eqb i 25 e
+
+pub not-four : (i : ℕ) → i < 27 → (i ≡ 25 → ⊥) → isFour (exponentAt i) ≡ false
+not-four i h n = four-at i h ∙ ne-eqb i 25 n

@@ -1,0 +1,24 @@
+-- The laws of the definitions, a file for each idea.
+pub mod Powers
+pub mod Range
+pub mod Monotone
+pub mod Distance
+pub mod Integers
+pub mod Order
+pub mod Rounding
+pub mod Parts
+pub mod Closest
+pub mod Pattern
+pub mod Scaled
+pub mod LogDigits
+pub mod Size
+pub mod Units
+pub mod NearestWhole
+pub mod RootDigits
+pub mod NearestRoot
+pub mod Exponents
+pub mod PowerCases
+pub mod Times
+pub mod Carried
+pub mod Floor
+pub mod Ordered

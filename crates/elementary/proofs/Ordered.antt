@@ -1,0 +1,103 @@
+-- The log word and the antilog as a whole keep the order, over any number of places: a greater double never has a smaller word, and a greater word never
+-- a smaller antilog, subnormals and infinity included. Assumes nothing.
+use mathlib.Core.Path.{_≡_, refl, sym, ap, ap₂, _∙_, subst, subst₂}
+use mathlib.Core.Logic.{_⊎_, inl, inr}
+use Prim.Native.Nat.{ℕ, zero, suc, _+_, _-_, _*_, _/_, _%_, _^_, _≤_, _<_, suc-le-suc}
+use native.Mathlib.Nat.{le-refl, le-trans, le-of-eq, eq-or-lt-of-le, add-mul, suc-mul, mul-comm, mul-assoc, mul-left-comm, mul-le-mul-left, mul-le-mul-right, mul-le-mul, one-mul, pow-succ', mod-lt, lt-of-not-le, not-le-of-lt}
+use native.Mathlib.Decide.{decLe}
+use native.Mathlib.Omega.{arith}
+use mathlib.Core.Bool.{Bool, true, false, not, cond}
+use lib.IntN.{ℤ, pos, negsuc, _+ℤ_, _-ℤ_, _*ℤ_}
+use lib.Dec.{T, leb, ltb, le→leb, lt→ltb, ltb→lt, nltb→le}
+use lib.Arith.{lt→nleb}
+use lib.Signed.{_≤ℤ_, _<ℤ_}
+use lib.Pow.{pow-pos, pow-mono}
+use lib.Ieee.{Float, binary64, up, down, size, minus, round, le}
+use lib.Ieee.Bits.{is-true, is-false}
+use lib.Ieee.Fits.{down-pos}
+use lib.Ieee.Order.{round-mono}
+use Rattle.elementary.specs.Whole.{floorDiv, floorMod}
+use Rattle.elementary.specs.Nearest.{nearestScaled}
+use Rattle.elementary.specs.Log.{exponentOf, mantissaOf, logBits, wordOfUnits}
+use Rattle.elementary.specs.Antilog.{antilogRoot, antilog}
+use Rattle.elementary.proofs.Integers.{le-of-pos, le-of-negsuc, div-mono, minus-mono}
+use Rattle.elementary.proofs.Range.{Mantissa, logBits-lt, antilogRoot-mantissa}
+use Rattle.elementary.proofs.Monotone.{units-mono, antilogRoot-mono, remainder-mono}
+use Rattle.elementary.proofs.LogDigits.{word-above, word-below}
+
+-- ---- the log word, counted from that of the smallest double
+word-counted : (p s b : ℕ) → b < 2 ^ p → (minus s 1074 *ℤ pos (2 ^ p) +ℤ pos b) ≡ minus (s * 2 ^ p + b) (1074 * 2 ^ p)
+word-counted p s b B = go (decLe 1074 s)
+  where
+    go : Dec (1074 ≤ s) → (minus s 1074 *ℤ pos (2 ^ p) +ℤ pos b) ≡ minus (s * 2 ^ p + b) (1074 * 2 ^ p)
+    go (yes h) =
+        let parts : s * 2 ^ p ≡ (s - 1074) * 2 ^ p + 1074 * 2 ^ p = ap (λ (x : ℕ). x * 2 ^ p) (omega arith) ∙ add-mul (s - 1074) 1074 (2 ^ p) in
+        word-above p s b h ∙ ap pos (omega arith) ∙ sym (ap (λ (t : Bool). cond t (pos (s * 2 ^ p + b - 1074 * 2 ^ p)) (negsuc (1074 * 2 ^ p - suc (s * 2 ^ p + b)))) (is-true (leb (1074 * 2 ^ p) (s * 2 ^ p + b)) (le→leb (1074 * 2 ^ p) (s * 2 ^ p + b) (omega arith))))
+    go (no h) =
+        let below : s < 1074 = lt-of-not-le h in
+        let parts : 1074 * 2 ^ p ≡ (1073 - s) * 2 ^ p + (s * 2 ^ p + 2 ^ p) = ap (λ (x : ℕ). x * 2 ^ p) (omega arith) ∙ add-mul (1073 - s) (suc s) (2 ^ p) ∙ ap (λ (x : ℕ). (1073 - s) * 2 ^ p + x) (suc-mul s (2 ^ p)) in
+        word-below p s b B below ∙ ap negsuc (omega arith) ∙ sym (ap (λ (t : Bool). cond t (pos (s * 2 ^ p + b - 1074 * 2 ^ p)) (negsuc (1074 * 2 ^ p - suc (s * 2 ^ p + b)))) (is-false (leb (1074 * 2 ^ p) (s * 2 ^ p + b)) (lt→nleb (1074 * 2 ^ p) (s * 2 ^ p + b) (omega arith))))
+
+pub wordOfUnits-mono : (p : ℕ) {m n : ℕ} → m ≤ n → wordOfUnits p m ≤ℤ wordOfUnits p n
+unfolding wordOfUnits
+wordOfUnits-mono p {m} {n} h =
+    let word : ℕ → ℕ = λ a. (size a - 1) * 2 ^ p + logBits p (mantissaOf a) in
+    let counted : (a : ℕ) → (exponentOf a *ℤ pos (2 ^ p) +ℤ pos (logBits p (mantissaOf a))) ≡ minus (word a) (1074 * 2 ^ p) = λ a. word-counted p (size a - 1) (logBits p (mantissaOf a)) (logBits-lt p (mantissaOf a)) in
+    subst₂ (λ (x y : ℤ). x ≤ℤ y) (sym (counted m)) (sym (counted n)) (minus-mono (1074 * 2 ^ p) (units-mono p h))
+
+-- ---- a floor and its remainder: the floors decide, and where they are the same, the remainders
+floors : (d : ℕ) → 0 < d → {a b : ℤ} → a ≤ℤ b → ((floorDiv a d ≡ floorDiv b d) × (floorMod a d ≤ floorMod b d)) ⊎ (floorDiv a d <ℤ floorDiv b d)
+floors d D {a = pos a} {b = pos b} h =
+    elim (eq-or-lt-of-le (div-mono d D (le-of-pos h))) [ inl e ↦ inl (ap pos e, remainder-mono d (le-of-pos h) e) | inr l ↦ inr (record { lt = lt→ltb (a / d) (b / d) l }) ]
+floors d D {a = pos a} {b = negsuc b} h = absurd (h .le)
+floors d D {a = negsuc a} {b = pos b} h = inr (record { lt = tt })
+floors d D {a = negsuc a} {b = negsuc b} h =
+    elim (eq-or-lt-of-le (div-mono d D (le-of-negsuc h))) [ inl e ↦ inl (ap negsuc (sym e), omega (arith, remainder-mono d (le-of-negsuc h) e)) | inr l ↦ inr (record { lt = lt→ltb (b / d) (a / d) l }) ]
+
+remainder-lt : (d : ℕ) → 0 < d → (a : ℤ) → floorMod a d < d
+remainder-lt d D (pos a) = mod-lt a D
+remainder-lt d D (negsuc a) = omega arith
+
+-- ---- 2 ^ (k - 62), one power of two more and one less
+twice : {a b : ℤ} → a <ℤ b → 2 * up a * down b ≤ up b * down a
+twice {a = pos a} {b = pos b} h = mul-le-mul-right 1 (le-trans (le-of-eq (sym (pow-succ' 2 a))) (pow-mono (ltb→lt a b (h .lt))))
+twice {a = pos a} {b = negsuc b} h = absurd (h .lt)
+twice {a = negsuc a} {b = pos b} h = mul-le-mul (pow-pos b) (pow-mono {i = 1} {j = suc a} (omega arith))
+twice {a = negsuc a} {b = negsuc b} h = le-trans (le-of-eq (sym (pow-succ' 2 (suc b)))) (le-trans (pow-mono (suc-le-suc (ltb→lt b a (h .lt)))) (le-of-eq (sym (one-mul (2 ^ suc a)))))
+
+below-62 : {a b : ℤ} → a <ℤ b → (a -ℤ pos 62) <ℤ (b -ℤ pos 62)
+below-62 {a = pos a} {b = pos b} h = go (ltb a 62) (ltb b 62) (nltb→le a 62) (ltb→lt b 62)
+  where
+    go : (x y : Bool) → (T (not x) → 62 ≤ a) → (T y → b < 62) → cond x (negsuc (62 - suc a)) (pos (a - 62)) <ℤ cond y (negsuc (62 - suc b)) (pos (b - 62))
+    go true true f g = record { lt = lt→ltb (62 - suc b) (62 - suc a) (omega (arith, ltb→lt a b (h .lt), g tt)) }
+    go true false f g = record { lt = tt }
+    go false true f g = absurd (not-le-of-lt (g tt) (le-trans (f tt) (omega (arith, ltb→lt a b (h .lt)))))
+    go false false f g = record { lt = lt→ltb (a - 62) (b - 62) (omega (arith, ltb→lt a b (h .lt), f tt)) }
+below-62 {a = pos a} {b = negsuc b} h = absurd (h .lt)
+below-62 {a = negsuc a} {b = pos b} h = go (ltb b 62)
+  where
+    go : (y : Bool) → negsuc (suc (a + 61)) <ℤ cond y (negsuc (62 - suc b)) (pos (b - 62))
+    go true = record { lt = lt→ltb (62 - suc b) (suc (a + 61)) (omega arith) }
+    go false = record { lt = tt }
+below-62 {a = negsuc a} {b = negsuc b} h = record { lt = lt→ltb (suc (b + 61)) (suc (a + 61)) (omega (arith, ltb→lt b a (h .lt))) }
+
+-- ---- the antilog: the exponents decide, since Y is below 2^63 and twice Z is not
+same-scale : {Y Z : ℕ} (a : ℤ) → Y ≤ Z → T (le (nearestScaled Y a) (nearestScaled Z a))
+same-scale {Y} {Z} a h = round-mono binary64 (Y * up a) (down a) (Z * up a) (down a) (down-pos a) (down-pos a) (mul-le-mul-right (down a) (mul-le-mul-right (up a) h))
+
+greater-scale : {Y Z : ℕ} {a b : ℤ} → Mantissa Y → Mantissa Z → a <ℤ b → T (le (nearestScaled Y a) (nearestScaled Z b))
+greater-scale {Y} {Z} {a} {b} hY hZ h =
+    let twice-more : Y ≤ Z * 2 = omega (arith, hY .high, hZ .low) in
+    round-mono binary64 (Y * up a) (down a) (Z * up b) (down b) (down-pos a) (down-pos b)
+    (le-trans (mul-le-mul-right (down b) (mul-le-mul-right (up a) twice-more))
+    (le-trans (le-of-eq (simp mul-assoc)) (le-trans (mul-le-mul-left Z (twice h)) (le-of-eq (sym (mul-assoc Z (up b) (down a)))))))
+
+pub antilog-mono : (p : ℕ) {P Q : ℤ} → P ≤ℤ Q → T (le (antilog p P) (antilog p Q))
+unfolding antilog
+antilog-mono p {P} {Q} h =
+    let root : ℤ → ℕ = λ z. antilogRoot p (floorMod z (2 ^ p)) in
+    let mantissa : (z : ℤ) → Mantissa (root z) = λ z. antilogRoot-mantissa p (floorMod z (2 ^ p)) (remainder-lt (2 ^ p) (pow-pos p) z) in
+    elim (floors (2 ^ p) (pow-pos p) h) [
+      | inl e ↦ subst (λ (k : ℤ). T (le (nearestScaled (root P) (floorDiv P (2 ^ p) -ℤ pos 62)) (nearestScaled (root Q) (k -ℤ pos 62)))) (e .0) (same-scale (floorDiv P (2 ^ p) -ℤ pos 62) (antilogRoot-mono p (e .1)))
+      | inr l ↦ greater-scale (mantissa P) (mantissa Q) (below-62 l)
+    ]

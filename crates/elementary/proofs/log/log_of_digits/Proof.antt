@@ -1,0 +1,79 @@
+-- `elementary::log::log_of_digits` meets its contract: the significand moved up is the mantissa, and the place of its highest digit the exponent.
+-- Assumes nothing.
+use mathlib.Core.Path.{_≡_, refl, sym, ap, _∙_, subst}
+use Prim.Native.Nat.{ℕ, suc, _+_, _-_, _*_, _%_, _^_, _≤_, _<_}
+use native.Mathlib.Omega.{arith}
+use borrow.Author.Needs.{needs}
+use lib.Count.{leadingZeros}
+use mathlib.Core.Bool.{true, false}
+use Rattle.elementary.specs.Log.{logBits, mantissaOf}
+use Rattle.elementary.proofs.Range.{logBits-lt}
+use Rattle.elementary.proofs.Times.{same-word}
+use Rattle.elementary.proofs.LogDigits.{Leading, leading, moved-up, moved-mantissa, units-mantissa, units-above, units-below}
+use Rattle.elementary.proofs.log.log_of_digits.Statement.{statement}
+use Rattle.elementary.proofs.log.log_of_digits.Tie as tie
+
+found : (c : tie.Start) → Leading (c .args .q) (leadingZeros 64 (c .args .q))
+found c = leading (c .args .q) (c .pre .positive) (c .pre .short)
+
+sub-log-bits : tie.Need-sub-log-bits
+sub-log-bits c = omega (arith, found c)
+
+cast-log-bits : tie.Need-cast-log-bits
+cast-log-bits c = omega (arith, found c)
+
+shl-log-bits : tie.Need-shl-log-bits
+shl-log-bits c = omega (arith, found c)
+
+log-bits-requires : tie.Need-log-bits-requires
+log-bits-requires c κs =
+    let m = moved-mantissa _ _ (found c) in
+    let same = sym (moved-up _ _ (found c)) in
+    (subst (λ (x : ℕ). 2 ^ 62 ≤ x) same (m .low), subst (λ (x : ℕ). x < 2 ^ 63) same (m .high))
+
+sub-highest : tie.Need-sub-highest
+sub-highest c = omega (arith, found (c .before))
+
+add-highest : tie.Need-add-highest
+add-highest c = search needs
+
+sub-t12 : tie.Need-sub-t12
+sub-t12 c = search needs
+
+bits-lt : (c : tie.After-log-bits) → c .log-bits .result < 2 ^ 52
+bits-lt c = subst (λ (x : ℕ). x < 2 ^ 52) (sym (c .log-bits .ensures)) (logBits-lt 52 _)
+
+bits-are : (c : tie.After-log-bits) → logBits 52 (mantissaOf (c .before .args .q * 2 ^ c .before .args .k)) ≡ c .log-bits .result
+bits-are c =
+    let l = found (c .before) in
+    ap (logBits 52) (units-mantissa _ (l .highest) (c .before .args .k) (l .low) (l .high) (omega arith) ∙ sym (moved-up _ _ l)) ∙ sym (c .log-bits .ensures)
+
+sub-t13 : tie.Need-sub-t13
+sub-t13 c = omega (arith, bits-lt (c .before))
+
+returns : tie.Need-returns
+returns c =
+    let at = c .before .before in
+    let l = found at in
+    (same-word false (omega arith) refl ∙ units-above (at .args .q) (l .highest) (at .args .k) (l .low) (l .high) 52 (c .before .log-bits .result) (bits-lt (c .before)) (bits-are (c .before)) (omega arith), omega (arith, at .pre .exponent))
+
+returns-2 : tie.Need-returns-2
+returns-2 c =
+    let at = c .before .before in
+    let l = found at in
+    (same-word true (omega arith) (omega arith) ∙ units-below (at .args .q) (l .highest) (at .args .k) (l .low) (l .high) 52 (c .before .log-bits .result) (bits-lt (c .before)) (bits-are (c .before)) (omega arith), omega arith)
+
+pub log-of-digits-spec : {M : Type 1} → statement M
+log-of-digits-spec =
+    tie.close
+    (tie.spec
+    sub-log-bits
+    cast-log-bits
+    shl-log-bits
+    log-bits-requires
+    sub-highest
+    add-highest
+    sub-t12
+    sub-t13
+    returns
+    returns-2)

@@ -1,0 +1,68 @@
+-- `elementary::log::log_word` meets its contract, kind by kind of a double. Assumes nothing.
+use mathlib.Core.Path.{_≡_, refl, sym, ap, _∙_, subst}
+use mathlib.Core.Bool.{Bool, true, false}
+use Prim.Native.Nat.{ℕ, _*_, _^_}
+use lib.Ieee.{Float}
+use borrow.Author.Needs.{needs}
+use Rattle.elementary.specs.declared.nearest.Parts.the-variants.{Finite}
+use Rattle.elementary.specs.declared.log.Logarithm.the-variants.{Defined, Undefined}
+use Rattle.elementary.specs.Whole.{asWord}
+use Rattle.elementary.specs.Nearest.{unitsOf}
+use Rattle.elementary.specs.Parts.{TakenApart}
+use Rattle.elementary.specs.Log.{wordOfUnits, logarithm}
+use Rattle.elementary.proofs.Parts.{told, signed-parts, finite-of-parts, units-of-parts}
+use Rattle.elementary.proofs.log.log_word.Statement.{statement}
+use Rattle.elementary.proofs.log.log_word.Tie as tie
+
+negative-undefined : {x : Float} {s : Bool} {q k : ℕ} → TakenApart x (Finite s q k) → s ≡ true → Undefined ≡ logarithm 52 x
+unfolding logarithm
+negative-undefined {x} {s} {q} {k} apart e =
+    ap (logarithm 52) (sym (finite-of-parts true q k (apart .within .positive) .2) ∙ signed-parts apart e)
+
+positive-defined : {x : Float} {s : Bool} {q k : ℕ} → TakenApart x (Finite s q k) → s ≡ false → Defined (asWord 52 (wordOfUnits 52 (q * 2 ^ k))) ≡ logarithm 52 x
+unfolding logarithm
+positive-defined {x} {s} {q} {k} apart e =
+    let f = finite-of-parts false q k (apart .within .positive) .2 in
+    ap (λ (n : ℕ). Defined (asWord 52 (wordOfUnits 52 n))) (sym (units-of-parts false q k) ∙ ap unitsOf f)
+    ∙ ap (logarithm 52) (sym f ∙ signed-parts apart e)
+
+log-of-digits-requires : tie.Need-log-of-digits-requires
+log-of-digits-requires c κs = told (c .before .before .before .before .take-apart .ensures) (c .before .before .negative .given .1) .within
+
+returns : tie.Need-returns
+returns c =
+    let at = c .before .before in
+    negative-undefined (told (at .before .before .take-apart .ensures) (at .negative .given .1)) (c .if1 .taken)
+
+returns-2 : tie.Need-returns-2
+returns-2 c =
+    let at = c .before .before .before in
+    ap Defined (c .log-of-digits .ensures .0) ∙ positive-defined (told (at .before .before .take-apart .ensures) (at .negative .given .1)) (c .before .if1 .left)
+
+returns-3 : tie.Need-returns-3
+unfolding logarithm
+returns-3 c = ap (logarithm 52) (told (c .before .before .take-apart .ensures) (c .enum-told .given .1) .same)
+
+returns-4 : tie.Need-returns-4
+unfolding logarithm
+returns-4 c = ap (logarithm 52) (told (c .before .before .take-apart .ensures) (c .enum-told2 .given .1) .same)
+
+returns-5 : tie.Need-returns-5
+unfolding logarithm
+returns-5 c = ap (logarithm 52) (told (c .before .before .take-apart .ensures) (c .enum-told3 .given .1) .same)
+
+pub log-word-spec : {M : Type 1} → statement M
+log-word-spec =
+    tie.close
+    (tie.spec
+    (λ c κs. search needs)
+    (λ c. search needs)
+    log-of-digits-requires
+    (λ c. search needs)
+    (λ c. search needs)
+    (λ c. search needs)
+    returns
+    returns-2
+    returns-3
+    returns-4
+    returns-5)

@@ -1,0 +1,33 @@
+-- Document 01, "exp", with p places for its 52. Definitions only.
+use Prim.Native.Nat.{ℕ, _*_, _^_}
+use mathlib.Core.Bool.{false, cond}
+use lib.IntN.{ℤ, pos, _*ℤ_}
+use lib.Ieee.{Float, nan, inf, fin, binary64, ofBits, neg, le, isNan}
+use Rattle.elementary.specs.Whole.{signed, floorDiv}
+use Rattle.elementary.specs.Nearest.{unitsOf}
+use Rattle.elementary.specs.Antilog.{antilog}
+
+-- floor(x * 2^p), for the finite x of so many units of 2 ^ -1074
+abbrev pub floorScaled : ℕ → Float → ℤ
+floorScaled p nan = pos 0
+floorScaled p (inf s) = pos 0
+floorScaled p (fin s m e) = floorDiv (signed s (unitsOf (fin s m e) * 2 ^ p)) (2 ^ 1074)
+
+-- 1 / ln 2, times 2^62
+abbrev pub log2e : ℕ
+log2e = 0x5c551d94ae0bf85d
+
+-- 1,024 and -1,100
+abbrev pub expTop : Float
+expTop = ofBits binary64 0x4090000000000000
+
+abbrev pub expBottom : Float
+expBottom = neg (ofBits binary64 0x4091300000000000)
+
+-- W = floor(x * 2^p), antilog of floor(W * log2e / 2^62)
+abbrev pub expWithin : ℕ → Float → Float
+expWithin p x = antilog p (floorDiv (floorScaled p x *ℤ pos log2e) (2 ^ 62))
+
+unfoldable pub exp : ℕ → Float → Float
+unfolding antilog isNan le neg ofBits
+exp p x = cond (isNan x) nan (cond (le expTop x) (inf false) (cond (le x expBottom) (fin false 0 (pos 0)) (expWithin p x)))

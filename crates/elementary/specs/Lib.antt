@@ -1,0 +1,14 @@
+-- What the contracts of `elementary` cite. Each file from Log to Ln is one paragraph of document 01, "Added: three functions by whole numbers",
+-- and takes the number of places, `p`, as its first argument: 52 today, and any number from 1 to 60 in the laws.
+pub mod Operators
+pub mod Whole
+pub mod Nearest
+pub mod Parts
+pub mod Normalised
+pub mod Log
+pub mod Antilog
+pub mod Exponents
+pub mod Power
+pub mod Exp
+pub mod Ln
+pub mod Sqrt

@@ -1,0 +1,25 @@
+-- Document 01, "ln", with p places for its 52. Definitions only.
+use Prim.Native.Nat.{ℕ, zero, suc, _^_}
+use mathlib.Core.Bool.{true, false}
+use lib.IntN.{pos, _*ℤ_}
+use lib.Ieee.{Float, nan, inf, fin, round}
+use Rattle.elementary.specs.Whole.{floorDiv}
+use Rattle.elementary.specs.Nearest.{nearestRatio}
+use Rattle.elementary.specs.Log.{logWord, wordOfUnits}
+
+-- ln 2, times 2^62
+abbrev pub ln2 : ℕ
+ln2 = 0x2c5c85fdf473de6a
+
+-- positive finite: the double nearest to floor(L * ln2 / 2^62) / 2^p
+abbrev pub lnPositive : ℕ → Float → Float
+lnPositive p x = nearestRatio (floorDiv (logWord p x *ℤ pos ln2) (2 ^ 62)) (2 ^ p)
+
+unfoldable pub ln : ℕ → Float → Float
+unfolding wordOfUnits round
+ln p nan = nan
+ln p (inf false) = inf false
+ln p (inf true) = nan
+ln p (fin s zero e) = inf true
+ln p (fin false (suc m) e) = lnPositive p (fin false (suc m) e)
+ln p (fin true (suc m) e) = nan

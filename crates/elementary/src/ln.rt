@@ -1,0 +1,56 @@
+// The natural logarithm of a double.
+ghost use mathlib.Core.Path.{_≡_};
+ghost use mathlib.Core.Bool.{false};
+ghost use Prim.Native.Nat.{_^_, _<_};
+ghost use lib.Ieee.{odd};
+ghost use Rattle.elementary.specs.Whole.{wordValue};
+ghost use Rattle.elementary.specs.Nearest.{nearestRatio};
+ghost use Rattle.elementary.specs.Parts.{Digits};
+ghost use Rattle.elementary.specs.Ln.{lnPositive, ln};
+use super::log::log_of_digits;
+use super::nearest::Parts;
+use super::nearest::nearest_quotient;
+use super::nearest::take_apart;
+use super::word::Word;
+use super::word::times;
+
+// ln 2, times 2^62
+const LN_2: u64 = 0x2c5c_85fd_f473_de6a;
+
+// The double nearest to w / 2^52.
+fn nearest_to_word(w: Word) -> f64
+    requires { ⌜ (w .whole < 2 ^ 11) × (w .part < 2 ^ 52) ⌝ }
+    ensures { λ r. ⌜ r ≡ nearestRatio (wordValue 52 w) (2 ^ 52) ⌝ }
+{
+    let digits = w.whole as u64 * 0x10_0000_0000_0000 + w.part;
+    if w.negative {
+        -nearest_quotient(digits + 1, 52)
+    } else {
+        nearest_quotient(digits, 52)
+    }
+}
+
+// The logarithm of q * 2^k units of 2^-1074.
+fn positive_ln(q: u64, k: u32) -> f64
+    requires { ⌜ Digits q k ⌝ }
+    ensures { λ r. ⌜ r ≡ lnPositive 52 (odd 53 false q k 1074) ⌝ }
+{
+    nearest_to_word(times(log_of_digits(q, k), LN_2, 62))
+}
+
+pub fn ln(x: f64) -> f64
+    ensures { λ r. ⌜ r ≡ ln 52 x ⌝ }
+{
+    match take_apart(x) {
+        Parts::NotANumber => x,
+        Parts::Infinite(negative) => { if negative { 0.0 / 0.0 } else { x } }
+        Parts::Zero(_) => f64::from_bits(0xFFF0_0000_0000_0000),
+        Parts::Finite(negative, q, k) => {
+            if negative {
+                0.0 / 0.0
+            } else {
+                positive_ln(q, k)
+            }
+        }
+    }
+}

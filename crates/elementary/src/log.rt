@@ -1,0 +1,86 @@
+// The log word: the logarithm to the base 2 of a positive finite double, in units of 2^-52, by
+// repeated squaring.
+ghost use mathlib.Core.Path.{_≡_};
+ghost use Prim.Native.Nat.{_+_, _*_, _/_, _^_, _≤_, _<_};
+ghost use Rattle.elementary.specs.Whole.{asWord};
+ghost use Rattle.elementary.specs.Log.{logBits, wordOfUnits, logarithm};
+ghost use Rattle.elementary.specs.Parts.{Digits};
+use super::nearest::Parts;
+use super::nearest::take_apart;
+use super::word::Word;
+use wide::words::product;
+
+// What `log_word` answers: the word of a positive finite double, and of no other.
+pub enum Logarithm {
+    Defined(Word),
+    Undefined,
+}
+
+// floor(m * m / 2^62).
+fn squared(m: u64) -> u64
+    requires { ⌜ m < 2 ^ 63 ⌝ }
+    ensures { λ r. ⌜ r ≡ m * m / 2 ^ 62 ⌝ }
+{
+    let w = product(m, m);
+    w.hi * 4 + w.lo / 0x4000_0000_0000_0000
+}
+
+// The 52 bits of the logarithm of m / 2^62, which lies from 1 up to 2. A square of 2 or more gives
+// the bit 1 and is halved; it has its highest digit set, so that digit is the bit.
+fn log_bits(m: u64) -> u64
+    requires { ⌜ (2 ^ 62 ≤ m) × (m < 2 ^ 63) ⌝ }
+    ensures { λ r. ⌜ r ≡ logBits 52 m ⌝ }
+{
+    let mut mantissa = m;
+    let mut bits = 0u64;
+    let mut left = 52u32;
+    while 0 < left {
+        let square = squared(mantissa);
+        let bit = square / 0x8000_0000_0000_0000;
+        mantissa = square >> bit;
+        bits = bits * 2 + bit;
+        left -= 1;
+    }
+    bits
+}
+
+// The log word of q * 2^k units of 2^-1074.
+pub(crate) fn log_of_digits(q: u64, k: u32) -> Word
+    requires { ⌜ Digits q k ⌝ }
+    ensures { λ r. ⌜ (r ≡ asWord 52 (wordOfUnits 52 (q * 2 ^ k))) × (r .whole < 2 ^ 11) ⌝ }
+{
+    let zeros = u64::leading_zeros(q);
+    let bits = log_bits(q << (zeros - 1));
+    let highest = 63 - zeros + k;
+    if 1074 <= highest {
+        Word {
+            negative: false,
+            whole: highest - 1074,
+            part: bits,
+        }
+    } else {
+        Word {
+            negative: true,
+            whole: 1073 - highest,
+            part: 0xf_ffff_ffff_ffff - bits,
+        }
+    }
+}
+
+// The log word of x.
+pub fn log_word(x: f64) -> Logarithm
+    ensures { λ r. ⌜ r ≡ logarithm 52 x ⌝ }
+{
+    match take_apart(x) {
+        Parts::Finite(negative, q, k) => {
+            if negative {
+                Logarithm::Undefined
+            } else {
+                Logarithm::Defined(log_of_digits(q, k))
+            }
+        }
+        Parts::NotANumber => Logarithm::Undefined,
+        Parts::Infinite(_) => Logarithm::Undefined,
+        Parts::Zero(_) => Logarithm::Undefined,
+    }
+}

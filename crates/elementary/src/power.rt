@@ -1,0 +1,173 @@
+// A double to the power of one of the source's exponents, which are picked by their numbers.
+ghost use mathlib.Core.Path.{_≡_};
+ghost use mathlib.Core.Bool.{false};
+ghost use Prim.Native.Nat.{_<_};
+ghost use lib.IntN.{pos};
+ghost use lib.Ieee.{inf, fin, odd};
+ghost use Rattle.elementary.specs.Parts.{Digits};
+ghost use Rattle.elementary.specs.Exponents.{exponentAt};
+ghost use Rattle.elementary.specs.Power.{positivePower, power, powerAt};
+use super::antilog::antilog;
+use super::log::log_of_digits;
+use super::nearest::Parts;
+use super::nearest::infinity_or_zero;
+use super::nearest::take_apart;
+use super::word::opposite;
+use super::word::times;
+
+// The exponents' magnitudes times 2^58, and which exponents are negative, by their numbers in
+// specs/Exponents.
+const MAGNITUDES: [u64; 27] = [
+    0x1506_0440_f093_5100,
+    0x88a7_1ba6_1bbd_8800,
+    0x30cd_f796_c0c3_b400,
+    0x30cd_f796_c0c3_b400,
+    0x4453_8dd3_0dde_c400,
+    0x00c2_d45e_e80a_e9d0,
+    0x00c2_d45e_e80a_e9c8,
+    0x001d_f949_ad8b_866f,
+    0x0053_ed34_b2b9_decc,
+    0x0053_ed34_b2b9_decc,
+    0x003b_f293_5b17_0cde,
+    0x00c2_d9cf_13ce_e9e0,
+    0x1505_6e0b_7be5_8b00,
+    0x1106_0440_f093_5100,
+    0x00f0_9bc9_0c53_0160,
+    0x8ca7_1ba6_1bbd_8800,
+    0x34cd_f796_c0c3_b400,
+    0x2ccd_f796_c0c3_b400,
+    0x001d_1f11_8807_84a7,
+    0x004d_91ad_e4fb_8114,
+    0x005b_6b55_255e_3b68,
+    0x003f_acde_b457_bdea,
+    0x0600_0000_0000_0000,
+    0x0c00_0000_0000_0000,
+    0x0e00_0000_0000_0000,
+    0x1000_0000_0000_0000,
+    0x1e00_0000_0000_0000,
+];
+
+const NEGATIVE: [bool; 27] = [
+    false,
+    true,
+    true,
+    false,
+    false,
+    false,
+    false,
+    true,
+    true,
+    false,
+    false,
+    false,
+    false,
+    false,
+    false,
+    true,
+    true,
+    false,
+    true,
+    true,
+    false,
+    false,
+    false,
+    false,
+    false,
+    false,
+    false,
+];
+
+// the numbers of the exponents 3 and 4
+const THREE: usize = 23;
+
+const FOUR: usize = 25;
+
+fn magnitude(number: usize) -> u64
+    requires { ⌜ number < 27 ⌝ }
+    ensures { λ r. ⌜ r ≡ exponentAt number .magnitude ⌝ }
+{
+    MAGNITUDES[number]
+}
+
+fn is_negative(number: usize) -> bool
+    requires { ⌜ number < 27 ⌝ }
+    ensures { λ r. ⌜ r ≡ exponentAt number .negative ⌝ }
+{
+    NEGATIVE[number]
+}
+
+// A positive finite base, q * 2^k units of 2^-1074: the antilog of floor(L * exponent).
+fn positive_power(q: u64, k: u32, number: usize) -> f64
+    requires { ⌜ Digits q k ⌝ }
+    requires { ⌜ number < 27 ⌝ }
+    ensures { λ r. ⌜ r ≡ positivePower 52 (exponentAt number) (odd 53 false q k 1074) ⌝ }
+{
+    let log = log_of_digits(q, k);
+    let word = if is_negative(number) {
+        opposite(log)
+    } else {
+        log
+    };
+    antilog(times(word, magnitude(number), 58))
+}
+
+// An infinite base.
+fn infinite_power(negative: bool, number: usize) -> f64
+    requires { ⌜ number < 27 ⌝ }
+    ensures { λ r. ⌜ r ≡ power 52 (exponentAt number) (inf negative) ⌝ }
+{
+    if negative {
+        if number == THREE {
+            return -infinity_or_zero(false);
+        }
+        return infinity_or_zero(is_negative(number));
+    }
+    infinity_or_zero(is_negative(number))
+}
+
+// A base of zero.
+fn zero_power(negative: bool, number: usize) -> f64
+    requires { ⌜ number < 27 ⌝ }
+    ensures { λ r. ⌜ r ≡ power 52 (exponentAt number) (fin negative 0 (pos 0)) ⌝ }
+{
+    if negative {
+        if number == THREE {
+            return -infinity_or_zero(true);
+        }
+        return infinity_or_zero(!is_negative(number));
+    }
+    infinity_or_zero(!is_negative(number))
+}
+
+// A finite base that is not zero, q * 2^k units of 2^-1074 in size.
+fn finite_power(negative: bool, q: u64, k: u32, number: usize) -> f64
+    requires { ⌜ Digits q k ⌝ }
+    requires { ⌜ number < 27 ⌝ }
+    ensures { λ r. ⌜ r ≡ power 52 (exponentAt number) (odd 53 negative q k 1074) ⌝ }
+{
+    if negative {
+        if number == THREE {
+            return -positive_power(q, k, number);
+        }
+        if number == FOUR {
+            return positive_power(q, k, number);
+        }
+        return 0.0 / 0.0;
+    }
+    positive_power(q, k, number)
+}
+
+// x to the power of the exponent of that number; NaN where there is none.
+pub fn power(x: f64, number: usize) -> f64
+    ensures { λ r. ⌜ r ≡ powerAt 52 number x ⌝ }
+{
+    if number >= 27 {
+        return 0.0 / 0.0;
+    }
+    match take_apart(x) {
+        Parts::NotANumber => x,
+        Parts::Infinite(negative) => infinite_power(negative, number),
+        Parts::Zero(negative) => zero_power(negative, number),
+        Parts::Finite(negative, q, k) => finite_power(negative, q, k, number),
+    }
+}
