@@ -1,0 +1,3 @@
+-- What the contracts of `checks` cite, and document 01's cases.
+pub mod Line
+pub mod Cases

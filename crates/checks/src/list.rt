@@ -1,0 +1,159 @@
+// A list: its form, and its lines compared with our answers, one by one.
+ghost use Prim.Native.Nat.{_≤_};
+use crate::double::between;
+use crate::double::double;
+use crate::double::same;
+use crate::line::is_line;
+use crate::line::word;
+use crate::word::Given;
+use crate::word::at_most;
+use crate::word::word_of;
+use elementary::antilog::antilog;
+use elementary::exp::exp;
+use elementary::ln::ln;
+use elementary::log::Logarithm;
+use elementary::log::log_word;
+use elementary::power::power;
+use elementary::sqrt::sqrt;
+use elementary::word::Word;
+
+// The function that a list is of.
+pub enum Function {
+    Log,
+    Antilog,
+    Power,
+    Exp,
+    Ln,
+    Sqrt,
+}
+
+// What came of a list: its lines, those that differ, and the number of the first that does.
+pub struct Tally {
+    pub lines: u64,
+    pub differ: u64,
+    pub first: u64,
+}
+
+enum Outcome {
+    End,
+    Agrees,
+    Differs,
+}
+
+// More lines than a list has. A proved loop has to end, and nothing says that a file does.
+const MOST_LINES: u64 = 1_000_000;
+
+// An exact list has the answer, any other the two ends between which it lies.
+pub(crate) fn compared(fd: i32, function: Function, exact: bool) -> Tally {
+    let mut lines = 0;
+    let mut differ = 0;
+    let mut first = 0;
+    while lines < MOST_LINES {
+        match next_line(fd, function, exact) {
+            Outcome::End => {
+                return Tally {
+                    lines,
+                    differ,
+                    first,
+                };
+            }
+            Outcome::Agrees => {}
+            Outcome::Differs => {
+                if differ == 0 {
+                    first = lines + 1;
+                }
+                differ += 1;
+            }
+        }
+        lines += 1;
+    }
+    Tally {
+        lines,
+        differ,
+        first,
+    }
+}
+
+fn next_line(fd: i32, function: Function, exact: bool) -> Outcome {
+    let mut line = [0u8; 85];
+    let width = 17 * words(function, exact);
+    let n = io::read_full(fd, &mut line[..width]);
+    if n == 0 {
+        return Outcome::End;
+    }
+    if n == width && is_line(&line, width) && agrees(&line, function, exact) {
+        Outcome::Agrees
+    } else {
+        Outcome::Differs
+    }
+}
+
+// How many words a line has: the argument's, and those of the answer or of the two ends.
+fn words(function: Function, exact: bool) -> usize
+    ensures { λ r. ⌜ r ≤ 5 ⌝ }
+{
+    match function {
+        Function::Log => if exact { 3 } else { 5 },
+        Function::Antilog | Function::Power => if exact { 3 } else { 4 },
+        Function::Exp | Function::Ln | Function::Sqrt => if exact { 2 } else { 3 },
+    }
+}
+
+fn agrees(line: &[u8; 85], function: Function, exact: bool) -> bool {
+    let first = word(line, 0);
+    let second = word(line, 1);
+    let third = word(line, 2);
+    let fourth = word(line, 3);
+    match function {
+        Function::Log => {
+            let low = word_of(second, third);
+            let high = if exact {
+                low
+            } else {
+                word_of(fourth, word(line, 4))
+            };
+            log_agrees(double(first), low, high)
+        }
+        Function::Antilog => match word_of(first, second) {
+            Given::Word(w) => double_agrees(antilog(w), exact, third, fourth),
+            Given::Undefined | Given::OutOfRange => false,
+        },
+        Function::Power => double_agrees(
+            power(double(second), first as usize),
+            exact,
+            third,
+            fourth,
+        ),
+        Function::Exp => double_agrees(exp(double(first)), exact, second, third),
+        Function::Ln => double_agrees(ln(double(first)), exact, second, third),
+        Function::Sqrt => double_agrees(sqrt(double(first)), exact, second, third),
+    }
+}
+
+fn double_agrees(answer: f64, exact: bool, low: u64, high: u64) -> bool {
+    if exact {
+        same(answer, low)
+    } else {
+        between(answer, low, high)
+    }
+}
+
+fn log_agrees(x: f64, low: Given, high: Given) -> bool {
+    match log_word(x) {
+        Logarithm::Defined(w) => word_agrees(w, low, high),
+        Logarithm::Undefined => match low {
+            Given::Undefined => true,
+            Given::Word(_) | Given::OutOfRange => false,
+        },
+    }
+}
+
+fn word_agrees(answer: Word, low: Given, high: Given) -> bool {
+    let Given::Word(low) = low else {
+        return false;
+    };
+    let Given::Word(high) = high else {
+        return false;
+    };
+    at_most(low, answer) && at_most(answer, high)
+}

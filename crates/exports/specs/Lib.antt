@@ -1,0 +1,2 @@
+-- What the contracts of `exports` cite besides the definitions of `elementary`.
+pub mod Words
