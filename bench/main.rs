@@ -14,8 +14,8 @@ use rules::PLACES;
 use std::hint::black_box;
 use std::time::Instant;
 
-const INPUTS: usize = 1000;
-const RUNS: usize = 101;
+const INPUTS: usize = 250;
+const RUNS: usize = 201;
 
 #[link(name = "exports", kind = "static")]
 unsafe extern "C" {

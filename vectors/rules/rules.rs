@@ -1,6 +1,7 @@
 //! Document 01, "Added: three functions by whole numbers", in plain Rust with 128-bit integers.
 //!
-//! Written from the document alone, so that the Rattle code and this can be held against each other.
+//! It follows the document's text and shares no code with the Rattle functions, so that the two can be held
+//! against each other.
 
 use crate::exponents::Exponent;
 

@@ -1,0 +1,119 @@
+-- The ICAO standard atmosphere, by ICAO Doc 7488, Manual of the ICAO Standard Atmosphere: geopotential height, the layers, and temperature and
+-- pressure in a layer. Constants and rounding order are those of src/atmosphere.rs; p is the number of places of exp and power. Definitions only.
+use Prim.Native.Nat.{ℕ, zero, suc}
+use mathlib.Core.Bool.{Bool, cond}
+use mathlib.Core.List.{List, [], _∷_}
+use lib.ListN.{getD}
+use lib.Ieee.{Float, nan, binary64, ofBits, neg, lt, le}
+use Rattle.elementary.specs.Operators.{_⊕_, _⊖_, _⊗_, _⊘_}
+use Rattle.elementary.specs.Exponents.{ofDouble}
+use Rattle.elementary.specs.Power.{power}
+use Rattle.elementary.specs.Exp.{exp}
+use Rattle.atmosphere.specs.declared.layers.StandardAir.{StandardAir}
+use Rattle.atmosphere.specs.Doubles.{clampDouble, absDouble}
+
+-- ---- Doc 7488, primary constants
+-- g₀, the standard acceleration of free fall: 9.80665 m/s²
+abbrev pub g₀ : Float
+g₀ = ofBits binary64 0x40239d013a92a305
+
+-- R, the specific gas constant of dry air: 287.0531 J/(kg K)
+abbrev pub R : Float
+R = ofBits binary64 0x4071f0d97f62b6ae
+
+-- r, the nominal radius of the Earth: 6,356,766 m
+abbrev pub r : Float
+r = ofBits binary64 0x41583fc780000000
+
+-- the ends of the range of heights, -5,000 m and 84,000 m
+abbrev pub lowestHeight : Float
+lowestHeight = ofBits binary64 0xc0b3880000000000
+
+abbrev pub highestHeight : Float
+highestHeight = ofBits binary64 0x40f4820000000000
+
+-- ---- Doc 7488, geopotential and geometric altitudes
+-- H = r h / (r + h), for the geometric altitude h
+abbrev pub geopotentialHeight : Float → Float
+geopotentialHeight h = r ⊗ h ⊘ (r ⊕ h)
+
+-- the same of an altitude clamped to the range, and clamped again
+unfoldable pub standardHeight : Float → Float
+standardHeight altitude = clampDouble (geopotentialHeight (clampDouble altitude lowestHeight highestHeight)) lowestHeight highestHeight
+
+-- ---- Doc 7488, temperature and vertical temperature gradient: the layers
+-- a layer's row: H_b (m), T_b (K) and p_b (Pa), the geopotential height, temperature and pressure of its base, and β (K/m), its temperature gradient
+abbrev row : ℕ → ℕ → ℕ → ℕ → List Float
+row H T P β = ofBits binary64 H ∷ ofBits binary64 T ∷ ofBits binary64 P ∷ ofBits binary64 β ∷ []
+
+unfoldable pub layers : List (List Float)
+layers =
+    -- 0: 0, 288.15, 101325, -0.0065
+    row 0x0000000000000000 0x4072026666666666 0x40f8bcd000000000 0xbf7a9fbe76c8b439 ∷
+    -- 1: 11000, 216.65, 22632.1, 0
+    row 0x40c57c0000000000 0x406b14cccccccccd 0x40d61a0666666666 0x0000000000000000 ∷
+    -- 2: 20000, 216.65, 5474.89, 0.001
+    row 0x40d3880000000000 0x406b14cccccccccd 0x40b562e3d70a3d71 0x3f50624dd2f1a9fc ∷
+    -- 3: 32000, 228.65, 868.02, 0.0028
+    row 0x40df400000000000 0x406c94cccccccccd 0x408b2028f5c28f5c 0x3f66f0068db8bac7 ∷
+    -- 4: 47000, 270.65, 110.91, 0
+    row 0x40e6f30000000000 0x4070ea6666666666 0x405bba3d70a3d70a 0x0000000000000000 ∷
+    -- 5: 51000, 270.65, 66.94, -0.0028
+    row 0x40e8e70000000000 0x4070ea6666666666 0x4050bc28f5c28f5c 0xbf66f0068db8bac7 ∷
+    -- 6: 71000, 214.65, 3.96, -0.002
+    row 0x40f1558000000000 0x406ad4cccccccccd 0x400fae147ae147ae 0xbf60624dd2f1a9fc ∷ []
+
+-- H_b, T_b, p_b and β of layer i
+abbrev pub baseHeight : ℕ → Float
+baseHeight i = getD (getD layers i []) 0 nan
+
+abbrev pub baseTemperature : ℕ → Float
+baseTemperature i = getD (getD layers i []) 1 nan
+
+abbrev pub basePressure : ℕ → Float
+basePressure i = getD (getD layers i []) 2 nan
+
+abbrev pub gradient : ℕ → Float
+gradient i = getD (getD layers i []) 3 nan
+
+-- the highest of the layers 1 to i whose base is at most H, and layer 0 where there is none
+unfoldable pub highestUpTo : ℕ → Float → ℕ
+highestUpTo zero H = 0
+highestUpTo (suc i) H = cond (le (baseHeight (suc i)) H) (suc i) (highestUpTo i H)
+
+-- the layer of the geopotential height H: a height equal to a base takes that layer, and NaN takes layer 0
+unfoldable pub layerAt : Float → ℕ
+layerAt H = highestUpTo 6 H
+
+-- in layer i at d = H - H_b above its base: T = T_b + β (H - H_b)
+abbrev pub layerTemperature : ℕ → Float → Float
+layerTemperature i d = baseTemperature i ⊕ gradient i ⊗ d
+
+-- ---- Doc 7488, pressure
+-- β counts as zero where its size is below 1e-10
+abbrev pub negligible : Float
+negligible = ofBits binary64 0x3ddb7cdfd9d7bdbb
+
+abbrev pub isothermal : ℕ → Bool
+isothermal i = lt (absDouble (gradient i)) negligible
+
+-- without a gradient: p_b exp (-g₀ (H - H_b) / (R T_b))
+abbrev pub isothermalPressure : ℕ → ℕ → Float → Float
+isothermalPressure p i d = basePressure i ⊗ exp p (neg g₀ ⊗ d ⊘ (R ⊗ baseTemperature i))
+
+-- with a gradient, at the temperature T: p_b (T / T_b) ^ (-g₀ / (β R))
+abbrev pub gradientPressure : ℕ → ℕ → Float → Float
+gradientPressure p i T = basePressure i ⊗ power p (ofDouble (neg g₀ ⊘ (gradient i ⊗ R))) (T ⊘ baseTemperature i)
+
+unfoldable pub layerPressure : ℕ → ℕ → Float → Float → Float
+layerPressure p i d T = cond (isothermal i) (isothermalPressure p i d) (gradientPressure p i T)
+
+-- ---- temperature and pressure at the geopotential height H in layer i, and at a geometric altitude
+abbrev pub layerAir : ℕ → ℕ → Float → StandardAir
+layerAir p i H =
+    let d = H ⊖ baseHeight i in
+    let T = layerTemperature i d in
+    record { «temperature_k» = T; «pressure_pa» = layerPressure p i d T }
+
+unfoldable pub standardAir : ℕ → Float → StandardAir
+standardAir p altitude = let H = standardHeight altitude in layerAir p (layerAt H) H

@@ -1,0 +1,64 @@
+-- The air at a station: what stands for a reading that is absent or a default, the reduction of an altimeter setting, and density and sound speed.
+-- Temperatures t in °C, pressures p in hPa, altitudes in m, humidities h in percent; `places` is the number of places of exp and power. Definitions only.
+use Prim.Native.Nat.{ℕ}
+use mathlib.Core.Bool.{Bool, _&&_, cond}
+use lib.Ieee.{Float, binary64, ofBits, lt}
+use Rattle.elementary.specs.Operators.{_⊕_, _⊖_, _⊗_, _⊘_}
+use Rattle.elementary.specs.Power.{powerAt}
+use Rattle.atmosphere.specs.declared.station.Reading.{Reading}
+use Rattle.atmosphere.specs.declared.station.Reading.the-variants.{Given, FromLayer}
+use Rattle.atmosphere.specs.declared.station.Air.{Air}
+use Rattle.atmosphere.specs.Doubles.{clampDouble, absDouble}
+use Rattle.atmosphere.specs.Saturation.{one}
+use Rattle.atmosphere.specs.MoistAir.{icePoint, nought, hundred, airDensity}
+use Rattle.atmosphere.specs.Sound.{soundSpeed}
+use Rattle.atmosphere.specs.Layers.{baseTemperature, basePressure, gradient, standardHeight, standardAir}
+
+-- ---- the default bands: within 0.5 hPa of 1013.25 hPa, and within 0.1 °C of 15 °C
+-- 1013.25
+abbrev pub standardPressure : Float
+standardPressure = ofBits binary64 0x408faa0000000000
+
+abbrev pub inPressureBand : Float → Bool
+inPressureBand p = lt (absDouble (p ⊖ standardPressure)) (ofBits binary64 0x3fe0000000000000)
+
+-- 15
+abbrev pub standardTemperature : Float
+standardTemperature = ofBits binary64 0x402e000000000000
+
+abbrev pub inTemperatureBand : Float → Bool
+inTemperatureBand t = lt (absDouble (t ⊖ standardTemperature)) (ofBits binary64 0x3fb999999999999a)
+
+-- a reading in its band, more than 1 m from sea level, is a default and comes from the layer
+abbrev pub resolved : Bool → Float → Float → Reading
+resolved inBand x altitude = cond (inBand && lt one (absDouble altitude)) FromLayer (Given x)
+
+abbrev pub stationPressure : Float → Float → Reading
+stationPressure p altitude = resolved (inPressureBand p) p altitude
+
+abbrev pub stationTemperature : Float → Float → Reading
+stationTemperature t altitude = resolved (inTemperatureBand t) t altitude
+
+-- ---- QNH, the altimeter setting, reduced to the station: QNH (1 + (β H / T₀) (p₀ / QNH)^n)^(1/n), with the troposphere's β, T₀ and p₀, and 1/n and n
+-- the exponents 0 and 5 of the table
+abbrev pub reducedQnh : ℕ → Float → Float → Float
+reducedQnh places qnh altitude =
+    qnh ⊗ powerAt places 0 (one ⊕ gradient 0 ⊗ standardHeight altitude ⊘ baseTemperature 0 ⊗ powerAt places 5 (basePressure 0 ⊘ hundred ⊘ qnh))
+
+-- ---- density and sound speed, of a temperature in K and a pressure in Pa
+abbrev pub airOf : ℕ → Float → Float → Float → Air
+airOf places T p h =
+    let h′ = clampDouble h nought hundred in
+    record { «density_kg_m3» = airDensity places (T ⊖ icePoint) (p ⊘ hundred) h′; «speed_of_sound_mps» = soundSpeed places T p h′ }
+
+-- a temperature or a pressure that is given, or else the standard atmosphere's at the altitude
+abbrev pub kelvins : ℕ → Float → Reading → Float
+kelvins places altitude (Given t) = t ⊕ icePoint
+kelvins places altitude FromLayer = standardAir places altitude .«temperature_k»
+
+abbrev pub pascals : ℕ → Float → Reading → Float
+pascals places altitude (Given p) = p ⊗ hundred
+pascals places altitude FromLayer = standardAir places altitude .«pressure_pa»
+
+unfoldable pub atmosphere : ℕ → Float → Reading → Reading → Float → Air
+atmosphere places altitude t p h = airOf places (kelvins places altitude t) (pascals places altitude p) h
