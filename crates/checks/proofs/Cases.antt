@@ -1,12 +1,14 @@
 -- Document 01's cases hold, by computing each. Assumes nothing.
 use mathlib.Core.Path.{refl}
-use lib.Ieee.{ofBits, round}
+use lib.Ieee.{ofBits, neg, add, sub, mul, div, lt, le}
 use Rattle.elementary.specs.Log.{wordOfUnits}
 use Rattle.elementary.specs.Antilog.{antilogRoot}
 use Rattle.elementary.specs.Exponents.{exponents}
-use Rattle.elementary.specs.Power.{power}
+use Rattle.elementary.specs.Power.{power, powerAt}
+use Rattle.atmosphere.specs.Doubles.{absDouble}
+use Rattle.atmosphere.specs.Layers.{layers, highestUpTo, layerAt, layerPressure, standardHeight, standardAir}
 use Rattle.checks.specs.Cases.{Hold, table}
 
 pub cases-hold : Hold table
-unfolding ofBits wordOfUnits antilogRoot exponents power
-cases-hold = (refl, (refl, (refl, (refl, (refl, (refl, tt))))))
+unfolding ofBits neg add sub mul div lt le wordOfUnits antilogRoot exponents power powerAt absDouble layers highestUpTo layerAt layerPressure standardHeight standardAir
+cases-hold = (refl, (refl, (refl, (refl, (refl, (refl, (refl, (refl, (refl, (refl, (refl, (refl, tt))))))))))))

@@ -10,6 +10,10 @@ use Rattle.elementary.specs.Log.{logWord}
 use Rattle.elementary.specs.Antilog.{antilogRoot}
 use Rattle.elementary.specs.Exponents.{exponents, ofDouble}
 use Rattle.elementary.specs.Power.{power}
+use Rattle.atmosphere.specs.declared.layers.StandardAir.{StandardAir}
+use Rattle.atmosphere.specs.declared.station.Reading.the-variants.{Given, FromLayer}
+use Rattle.atmosphere.specs.Layers.{standardAir}
+use Rattle.atmosphere.specs.Station.{stationPressure, stationTemperature, reducedQnh}
 
 -- what is computed, and what it has to be
 pub data Case : Type 1 where
@@ -19,21 +23,50 @@ abbrev pub Hold : List Case → Type 0
 Hold [] = Unit {0}
 Hold (case a b ∷ cases) = (a ≡ b) × Hold cases
 
--- ---- the doubles 1, 8, 0.5 and 1 + 2^-52
-abbrev one : Float
-one = ofBits binary64 0x3ff0000000000000
+-- ---- doubles
+abbrev double : ℕ → Float
+double bits = ofBits binary64 bits
 
-abbrev eight : Float
-eight = ofBits binary64 0x4020000000000000
+-- 0, 0.5, 1, 1 + 2^-52, 8 and 100
+abbrev nought : Float
+nought = double 0x0000000000000000
 
 abbrev half : Float
-half = ofBits binary64 0x3fe0000000000000
+half = double 0x3fe0000000000000
+
+abbrev one : Float
+one = double 0x3ff0000000000000
 
 abbrev nextAfterOne : Float
-nextAfterOne = ofBits binary64 0x3ff0000000000001
+nextAfterOne = double 0x3ff0000000000001
 
+abbrev eight : Float
+eight = double 0x4020000000000000
+
+abbrev hundred : Float
+hundred = double 0x4059000000000000
+
+-- 1012.75, 1013 and 1013.25 hPa
+abbrev hPa1012·75 : Float
+hPa1012·75 = double 0x408fa60000000000
+
+abbrev hPa1013 : Float
+hPa1013 = double 0x408fa80000000000
+
+abbrev hPa1013·25 : Float
+hPa1013·25 = double 0x408faa0000000000
+
+-- ---- the table, in the order of document 01
 abbrev pub table : List Case
 table =
+    -- `calculate_icao_standard_atmosphere`: 0 m gives 288.15 K, 101325 Pa
+    case (standardAir 52 nought) (record { «temperature_k» = double 0x4072026666666666; «pressure_pa» = double 0x40f8bcd000000000 }) ∷
+    -- `resolve_station_pressure`: 1013 hPa at 100 m is a default; 1012.75 at 100 m is kept; 1013.25 at 1 m is kept
+    case (stationPressure hPa1013 hundred) FromLayer ∷ case (stationPressure hPa1012·75 hundred) (Given hPa1012·75) ∷ case (stationPressure hPa1013·25 one) (Given hPa1013·25) ∷
+    -- `resolve_station_temperature`: 15.1 °C at 100 m is a default
+    case (stationTemperature (double 0x402e333333333333) hundred) FromLayer ∷
+    -- `reduce_qnh_to_station_pressure`: 1013.25 at 0 m gives 1013.25
+    case (reducedQnh 52 hPa1013·25 nought) hPa1013·25 ∷
     -- Log word: 1 gives 0; 8 gives 3 * 2^52; 0.5 gives -2^52; 1 + 2^-52 gives 1
     case (logWord 52 one) (pos 0) ∷ case (logWord 52 eight) (pos (3 * 2 ^ 52)) ∷ case (logWord 52 half) (negℤ (pos (2 ^ 52))) ∷ case (logWord 52 nextAfterOne) (pos 1) ∷
     -- Antilog: P = 2^51 ends with Y = 5A827999FCEF3242 hex

@@ -1,0 +1,60 @@
+//! Document 01's "Corners in src/atmosphere.rs", held against a build of the source.
+
+use crate::function::{named, Function};
+
+pub fn hold(functions: &[Function]) {
+    let at = |name: &str, inputs: &[f64]| -> Vec<u64> {
+        let figures = named(functions, name).at(inputs);
+        figures.into_iter().map(|figure| figure.word()).collect()
+    };
+    let value = |name: &str, inputs: &[f64]| named(functions, name).value(inputs);
+    let words = |figures: &[f64]| -> Vec<u64> { figures.iter().map(|x| x.to_bits()).collect() };
+
+    let standard = |h: f64| at("calculate_icao_standard_atmosphere", &[h]);
+    let standard_temperature = |h: f64| f64::from_bits(standard(h)[0]);
+    assert_eq!(standard(0.0), words(&[288.15, 101_325.0]));
+    assert_eq!(standard(f64::NAN), words(&[f64::NAN, f64::NAN]));
+    assert_eq!(standard_temperature(-5000.0), 288.15 + -0.0065 * -5000.0);
+    assert_eq!(standard_temperature(-1e9), standard_temperature(-5000.0));
+    assert!(standard_temperature(11_000.0) > 216.65);
+    let height = |h: f64| value("geometric_to_geopotential_height_m", &[h]);
+    assert!((height(-5000.0) + 5003.9).abs() < 0.05);
+    assert!((height(11_000.0) - 10_981.0).abs() < 0.5);
+
+    let pressure = |p: f64, h: f64| at("resolve_station_pressure", &[p, h]);
+    assert_eq!(pressure(1013.0, 100.0), [0, 0]);
+    assert_eq!(pressure(1012.75, 100.0), [1, 1012.75f64.to_bits()]);
+    assert_eq!(pressure(1013.25, 1.0), [1, 1013.25f64.to_bits()]);
+    assert_eq!(at("resolve_station_temperature", &[15.1, 100.0]), [0, 0]);
+    assert_eq!(
+        value("reduce_qnh_to_station_pressure", &[1013.25, 0.0]),
+        1013.25
+    );
+
+    assert!((value("pressure_altitude_m", &[0.0]) - 178_325.0).abs() < 0.5);
+    assert!(value("pressure_altitude_m", &[-1.0]).is_nan());
+
+    let density = |t: f64, h: f64| value("calculate_air_density_cimp", &[t, 1013.25, h]);
+    assert!(density(374.0, 0.0) > 0.0 && density(374.0, -0.0) > 0.0);
+    assert!(density(374.0, 1.0).is_nan());
+    let air = |h: f64| at("calculate_atmosphere", &[h, 20.0, 1000.0, 50.0]);
+    assert_eq!(air(0.0), air(f64::NAN));
+
+    let station = named(functions, "station_for_density_altitude");
+    let refusal = |d: f64, t: Option<f64>| (station.answer)(&[Some(d), t])[0].word();
+    let figures = |d: f64, t: Option<f64>| -> Vec<u64> {
+        let answer = (station.answer)(&[Some(d), t]);
+        answer.into_iter().map(|figure| figure.word()).collect()
+    };
+    let sea_level = words(&[0.0, 0.0, 15.0, 1013.25]);
+    assert_eq!(figures(0.0, None), sea_level);
+    assert_eq!(figures(0.0, Some(15.0)), sea_level);
+    assert_eq!((refusal(44_283.0, None), refusal(44_284.0, None)), (0, 4));
+    assert_eq!(refusal(54_852.0, Some(15.0)), 0);
+    assert_eq!(refusal(54_853.0, Some(15.0)), 4);
+    assert_eq!(refusal(0.0, Some(-273.15)), 3);
+    let next = (-273.15f64).next_up();
+    assert_eq!(refusal(0.0, Some(next)), 0);
+    assert_eq!(figures(0.0, Some(next))[2], next.to_bits());
+    assert_eq!(refusal(f64::NAN, Some(f64::NAN)), 1);
+}

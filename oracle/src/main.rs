@@ -1,0 +1,63 @@
+//! The oracle: the station part of the source, built once as it stands and once with document 01's
+//! rules for its `powf`, `exp` and `ln`. `README.md` has the commands.
+
+mod cases;
+mod distance;
+mod draw;
+mod edges;
+mod function;
+mod gravity;
+mod lists;
+mod quantity;
+mod rule_calls;
+
+#[path = "../../vectors/rules/exponents.rs"]
+mod exponents;
+#[path = "../../vectors/rules/random.rs"]
+mod random;
+#[allow(dead_code)]
+#[path = "../../vectors/rules/rules.rs"]
+mod rules;
+
+#[allow(dead_code)]
+#[path = "../../target/oracle/constants.rs"]
+mod constants;
+#[allow(dead_code, unused_imports)]
+#[path = "../../target/oracle/ruled.rs"]
+mod ruled;
+#[allow(dead_code, unused_imports)]
+#[path = "../../target/oracle/stock.rs"]
+mod stock;
+
+use std::path::Path;
+use std::process::ExitCode;
+
+const USE: &str = "oracle lists FOLDER, or oracle distance [POINTS]";
+const POINTS: u64 = 100_000;
+
+fn main() -> ExitCode {
+    let arguments: Vec<String> = std::env::args().skip(1).collect();
+    let arguments: Vec<&str> = arguments.iter().map(String::as_str).collect();
+    cases::hold(&stock::station::FUNCTIONS);
+    cases::hold(&ruled::station::FUNCTIONS);
+    let done = match arguments[..] {
+        ["lists", folder] => match lists::write(Path::new(folder)) {
+            Ok(()) => true,
+            Err(error) => {
+                eprintln!("{folder}: {error}");
+                false
+            }
+        },
+        ["distance"] => distance::measure(POINTS),
+        ["distance", points] => distance::measure(points.parse().expect(USE)),
+        _ => {
+            eprintln!("{USE}");
+            false
+        }
+    };
+    if done {
+        ExitCode::SUCCESS
+    } else {
+        ExitCode::FAILURE
+    }
+}
