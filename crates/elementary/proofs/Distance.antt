@@ -2,18 +2,24 @@
 -- logarithm of a to the base 2 is said by 2 ^ b ≤ a ^ 2 ^ p. Log and antilog share one lemma over their places, `next-place`. Assumes nothing.
 use mathlib.Core.Path.{_≡_, sym, ap, _∙_, subst, subst₂}
 use Prim.Native.Nat.{ℕ, zero, suc, _+_, _-_, _*_, _/_, _%_, _^_, _≤_, _<_}
-use native.Mathlib.Nat.{le-refl, le-trans, le-of-eq, lt-trans, lt-of-lt-of-le, lt-suc-self, ne-of-gt, add-zero, zero-add, add-assoc, add-mul, mul-add, mul-assoc, mul-comm, mul-left-comm, mul-right-comm, mul-mul-mul-comm, mul-pos, mul-le-mul-left, mul-le-mul-right, mul-lt-mul-of-pos-right, le-of-mul-le-mul-right, lt-of-mul-lt-mul-right, one-le-pow, pow-succ', pow-le-pow-left, pow-lt-pow-left, mod-lt, div-add-mod', div-mul-le-self, div-lt-iff-lt-mul}
+use native.Mathlib.Nat.{le-refl, le-trans, le-of-eq, lt-trans, lt-of-lt-of-le, lt-suc-self, ne-of-gt, add-zero, zero-add, add-assoc, add-mul, mul-add, mul-assoc, mul-comm, mul-left-comm, mul-right-comm, mul-mul-mul-comm, mul-pos, mul-le-mul-left, mul-le-mul-right, mul-lt-mul-of-pos-right, le-of-mul-le-mul-right, lt-of-mul-lt-mul-right, one-le-pow, pow-succ', pow-le-pow-left, pow-lt-pow-left, mod-lt, div-add-mod', div-mul-le-self, div-lt-iff-lt-mul, mul-div-cancel}
 use native.Mathlib.Omega.{arith}
-use lib.Dec.{lit<}
+use mathlib.Core.Bool.{false}
+use lib.IntN.{ℤ}
+use lib.Dec.{T, lit<}
 use lib.Arith.{lt-one}
-use lib.Pow.{pow-pos, pow-mono, pow-add}
-use lib.Ieee.{size}
+use lib.Pow.{pow-pos, pow-mono, pow-add, shl-lt}
+use lib.Ieee.{fin, binary64, size, minus, fits}
+use lib.Ieee.Digits.{size-le}
 use Rattle.wide.specs.Root.{root}
 use Rattle.wide.proofs.Root.{root-le, root-gt}
-use Rattle.elementary.specs.Log.{squared, bitOf, nextOf, logBits, mantissaOf}
+use Rattle.elementary.specs.Nearest.{unitsOf}
+use Rattle.elementary.specs.Log.{squared, bitOf, nextOf, logBits, mantissaOf, logWord}
 use Rattle.elementary.specs.Antilog.{antilogRoot}
 use Rattle.elementary.proofs.Powers.{pow-one, pow-product, pow-power, pow-scaled, pow-squared, lt-of-squares, near-one-le-two}
 use Rattle.elementary.proofs.Range.{Mantissa, bit-cases, next-mantissa, top-bit-le, antilogRoot-mantissa, mantissaOf-mantissa}
+use Rattle.elementary.proofs.Units.{Short, split-power, units-short, units-pos}
+use Rattle.elementary.proofs.Ordered.{biasedWord, word-biased}
 
 -- ---- the lemma over the places
 
@@ -189,3 +195,28 @@ units-above p {n} places some exact =
     let s : ℕ = size n - 1 in
     let b : ℕ = logBits p (mantissaOf n) in
     unscaled below (2 ^ p) n (mantissaOf n) s (62 * 2 ^ p + b + 2) (s * 2 ^ p + b + 2) exact (omega arith) (logBits-above p places (mantissaOf-mantissa some))
+
+-- ---- the log word of a positive double
+
+-- its mantissa is exact, since it has 53 digits at most
+exact-mantissa : {n : ℕ} → Short n → n * 2 ^ 62 ≡ mantissaOf n * 2 ^ (size n - 1)
+exact-mantissa {n} (c, k, few, same) =
+    let s : ℕ = size n - 1 in
+    let digits : size n ≤ 53 + k = size-le n (53 + k) (rw same (shl-lt 53 k few)) in
+    let whole : n * 2 ^ 62 ≡ c * 2 ^ (k + 62 - s) * 2 ^ s = ap (λ (x : ℕ). x * 2 ^ 62) same ∙ mul-assoc c (2 ^ k) (2 ^ 62) ∙ ap (λ (x : ℕ). c * x) (sym (pow-add 2 k 62)) ∙ split-power c (k + 62) s (omega arith) in
+    whole ∙ ap (λ (x : ℕ). x * 2 ^ s) (sym (ap (λ (x : ℕ). x / 2 ^ s) whole ∙ mul-div-cancel (c * 2 ^ (k + 62 - s)) (pow-pos s)))
+
+-- X is x in units of 2 ^ -1074 and L its word, so that 2 to the power L is at most x to the power 2 ^ p, and that is less than 2 to the power L + 2:
+-- both are written times 2 to the power 1074 * 2 ^ p, which makes them whole, and adds as much to L
+pub record NearLog (p X : ℕ) (L : ℤ) : Type 0 where
+  pub biased : ℕ
+  pub word : L ≡ minus biased (1074 * 2 ^ p)
+  pub below : 2 ^ biased ≤ X ^ 2 ^ p
+  pub above : X ^ 2 ^ p < 2 ^ (biased + 2)
+
+pub near-log : (p m : ℕ) (e : ℤ) → p ≤ 60 → T (fits binary64 (fin false (suc m) e)) → NearLog p (unitsOf (fin false (suc m) e)) (logWord p (fin false (suc m) e))
+near-log p m e places t =
+    let X : ℕ = unitsOf (fin false (suc m) e) in
+    let some : 0 < X = units-pos false m e t in
+    let exact : X * 2 ^ 62 ≡ mantissaOf X * 2 ^ (size X - 1) = exact-mantissa (units-short false (suc m) e t) in
+    record { biased = biasedWord p X; word = word-biased p X; below = units-below p some exact; above = units-above p places some exact }

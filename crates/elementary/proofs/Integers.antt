@@ -1,14 +1,14 @@
 -- The order of the whole numbers, and what keeps or turns it: the opposite, a product with a fixed factor, a floor. Assumes nothing.
 use mathlib.Core.Path.{_≡_, refl, sym, ap, _∙_, subst}
 use Prim.Native.Nat.{ℕ, zero, suc, _+_, _-_, _*_, _/_, _%_, _≤_, _<_, zero-le, suc-le-suc}
-use native.Mathlib.Nat.{le-refl, le-trans, le-of-eq, le-of-suc-le-suc, not-suc-le-zero, not-le-of-lt, zero-lt-suc, mul-le-mul-right, mul-pos, lt-of-lt-of-le, div-mul-le-self, le-div-iff-mul-le}
+use native.Mathlib.Nat.{le-refl, le-trans, le-of-eq, le-of-suc-le-suc, not-suc-le-zero, not-le-of-lt, zero-lt-suc, mul-le-mul-right, le-of-mul-le-mul-right, mul-pos, zero-mul, lt-of-lt-of-le, div-mul-le-self, le-div-iff-mul-le}
 use native.Mathlib.Omega.{arith}
 use mathlib.Core.Bool.{Bool, true, false, cond}
-use lib.IntN.{ℤ, pos, negsuc, negℤ, _*ℤ_, *ℤ-zero, *ℤ-negsuc}
+use lib.IntN.{ℤ, pos, negsuc, negℤ, negℤ-negℤ, _*ℤ_, *ℤ-zero, *ℤ-negsuc}
 use lib.Dec.{T, leb, leb→le, le→leb}
 use lib.Signed.{_≤ℤ_}
 use lib.Ieee.{minus}
-use Rattle.elementary.specs.Whole.{floorDiv}
+use Rattle.elementary.specs.Whole.{signed, floorDiv}
 
 -- ---- the order
 pub pos-le : {a b : ℕ} → a ≤ b → pos a ≤ℤ pos b
@@ -42,6 +42,10 @@ opposites {a = zero} {b = b} h = neg-below b 0
 opposites {a = suc a} {b = zero} h = absurd (not-suc-le-zero h)
 opposites {a = suc a} {b = suc b} h = negsuc-le (le-of-suc-le-suc h)
 
+pub not-below-neg : (a b : ℕ) → 0 < b → pos a ≤ℤ negℤ (pos b) → ⊥
+not-below-neg a zero some h = not-suc-le-zero some
+not-below-neg a (suc b) some h = h .le
+
 pub le-of-opposites : (a b : ℕ) → negℤ (pos b) ≤ℤ negℤ (pos a) → a ≤ b
 le-of-opposites zero b h = zero-le
 le-of-opposites (suc a) zero h = absurd (h .le)
@@ -54,9 +58,24 @@ times-mono q {a = pos a} {b = negsuc b} h = absurd (h .le)
 times-mono q {a = negsuc a} {b = pos b} h = neg-below (suc a * q) (b * q)
 times-mono q {a = negsuc a} {b = negsuc b} h = opposites (mul-le-mul-right q (suc-le-suc (le-of-negsuc h)))
 
+pub times-cancel : (q : ℕ) → 0 < q → (a b : ℤ) → (a *ℤ pos q) ≤ℤ (b *ℤ pos q) → a ≤ℤ b
+times-cancel q some (pos a) (pos b) h = pos-le (le-of-mul-le-mul-right (le-of-pos h) some)
+times-cancel q some (pos a) (negsuc b) h = absurd (not-below-neg (a * q) (suc b * q) (mul-pos (zero-lt-suc b) some) h)
+times-cancel q some (negsuc a) (pos b) h = record { le = tt }
+times-cancel q some (negsuc a) (negsuc b) h = negsuc-le (le-of-suc-le-suc (le-of-mul-le-mul-right (le-of-opposites (suc b * q) (suc a * q) h) some))
+
 pub neg-times : (a : ℤ) (q : ℕ) → a *ℤ negℤ (pos q) ≡ negℤ (a *ℤ pos q)
 neg-times a zero = *ℤ-zero a ∙ ap negℤ (sym (*ℤ-zero a))
 neg-times a (suc q) = *ℤ-negsuc a q
+
+pub neg-left : (a : ℤ) (q : ℕ) → negℤ a *ℤ pos q ≡ negℤ (a *ℤ pos q)
+neg-left (pos zero) q = ap pos (zero-mul q) ∙ ap (λ (n : ℕ). negℤ (pos n)) (sym (zero-mul q))
+neg-left (pos (suc a)) q = refl
+neg-left (negsuc a) q = sym (negℤ-negℤ (pos (suc a * q)))
+
+pub signed-times : (s : Bool) (a q : ℕ) → signed s a *ℤ pos q ≡ signed s (a * q)
+signed-times false a q = refl
+signed-times true a q = neg-left (pos a) q
 
 pub neg-mono : {a b : ℤ} → a ≤ℤ b → negℤ b ≤ℤ negℤ a
 neg-mono {a = pos a} {b = pos b} h = opposites (le-of-pos h)

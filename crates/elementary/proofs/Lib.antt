@@ -22,3 +22,4 @@ pub mod Times
 pub mod Carried
 pub mod Floor
 pub mod Ordered
+pub mod Rises

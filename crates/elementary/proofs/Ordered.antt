@@ -1,6 +1,6 @@
 -- The log word and the antilog as a whole keep the order, over any number of places: a greater double never has a smaller word, and a greater word never
 -- a smaller antilog, subnormals and infinity included. Assumes nothing.
-use mathlib.Core.Path.{_≡_, refl, sym, ap, ap₂, _∙_, subst, subst₂}
+use mathlib.Core.Path.{_≡_, refl, sym, ap, ap₂, _∙_, subst}
 use mathlib.Core.Logic.{_⊎_, inl, inr}
 use Prim.Native.Nat.{ℕ, zero, suc, _+_, _-_, _*_, _/_, _%_, _^_, _≤_, _<_, suc-le-suc}
 use native.Mathlib.Nat.{le-refl, le-trans, le-of-eq, eq-or-lt-of-le, add-mul, suc-mul, mul-comm, mul-assoc, mul-left-comm, mul-le-mul-left, mul-le-mul-right, mul-le-mul, one-mul, pow-succ', mod-lt, lt-of-not-le, not-le-of-lt}
@@ -18,7 +18,7 @@ use lib.Ieee.Fits.{down-pos}
 use lib.Ieee.Order.{round-mono}
 use Rattle.elementary.specs.Whole.{floorDiv, floorMod}
 use Rattle.elementary.specs.Nearest.{nearestScaled}
-use Rattle.elementary.specs.Log.{exponentOf, mantissaOf, logBits, wordOfUnits}
+use Rattle.elementary.specs.Log.{mantissaOf, logBits, wordOfUnits}
 use Rattle.elementary.specs.Antilog.{antilogRoot, antilog}
 use Rattle.elementary.proofs.Integers.{le-of-pos, le-of-negsuc, div-mono, minus-mono}
 use Rattle.elementary.proofs.Range.{Mantissa, logBits-lt, antilogRoot-mantissa}
@@ -38,12 +38,15 @@ word-counted p s b B = go (decLe 1074 s)
         let parts : 1074 * 2 ^ p ≡ (1073 - s) * 2 ^ p + (s * 2 ^ p + 2 ^ p) = ap (λ (x : ℕ). x * 2 ^ p) (omega arith) ∙ add-mul (1073 - s) (suc s) (2 ^ p) ∙ ap (λ (x : ℕ). (1073 - s) * 2 ^ p + x) (suc-mul s (2 ^ p)) in
         word-below p s b B below ∙ ap negsuc (omega arith) ∙ sym (ap (λ (t : Bool). cond t (pos (s * 2 ^ p + b - 1074 * 2 ^ p)) (negsuc (1074 * 2 ^ p - suc (s * 2 ^ p + b)))) (is-false (leb (1074 * 2 ^ p) (s * 2 ^ p + b)) (lt→nleb (1074 * 2 ^ p) (s * 2 ^ p + b) (omega arith))))
 
-pub wordOfUnits-mono : (p : ℕ) {m n : ℕ} → m ≤ n → wordOfUnits p m ≤ℤ wordOfUnits p n
+abbrev pub biasedWord : ℕ → ℕ → ℕ
+biasedWord p n = (size n - 1) * 2 ^ p + logBits p (mantissaOf n)
+
+pub word-biased : (p n : ℕ) → wordOfUnits p n ≡ minus (biasedWord p n) (1074 * 2 ^ p)
 unfolding wordOfUnits
-wordOfUnits-mono p {m} {n} h =
-    let word : ℕ → ℕ = λ a. (size a - 1) * 2 ^ p + logBits p (mantissaOf a) in
-    let counted : (a : ℕ) → (exponentOf a *ℤ pos (2 ^ p) +ℤ pos (logBits p (mantissaOf a))) ≡ minus (word a) (1074 * 2 ^ p) = λ a. word-counted p (size a - 1) (logBits p (mantissaOf a)) (logBits-lt p (mantissaOf a)) in
-    subst₂ (λ (x y : ℤ). x ≤ℤ y) (sym (counted m)) (sym (counted n)) (minus-mono (1074 * 2 ^ p) (units-mono p h))
+word-biased p n = word-counted p (size n - 1) (logBits p (mantissaOf n)) (logBits-lt p (mantissaOf n))
+
+pub wordOfUnits-mono : (p : ℕ) {m n : ℕ} → m ≤ n → wordOfUnits p m ≤ℤ wordOfUnits p n
+wordOfUnits-mono p {m} {n} h = rw (word-biased p m, word-biased p n) (minus-mono (1074 * 2 ^ p) (units-mono p h))
 
 -- ---- a floor and its remainder: the floors decide, and where they are the same, the remainders
 floors : (d : ℕ) → 0 < d → {a b : ℤ} → a ≤ℤ b → ((floorDiv a d ≡ floorDiv b d) × (floorMod a d ≤ floorMod b d)) ⊎ (floorDiv a d <ℤ floorDiv b d)

@@ -3,9 +3,11 @@ use mathlib.Core.Path.{_≡_, refl, sym, ap, ap₂, _∙_}
 use mathlib.Core.Bool.{Bool, true, false, not, _&&_, cond}
 use Prim.Native.Nat.{ℕ, suc, _<_}
 use lib.IntN.{ℤ, pos}
+use lib.Dec.{ltb, lt→ltb}
 use lib.Ieee.{Float, nan, inf, fin, neg, odd}
-use Rattle.elementary.specs.Exponents.{Exponent, isThree, isFour}
-use Rattle.elementary.specs.Power.{positivePower, infinityOrZero, power}
+use lib.Ieee.Bits.{is-true}
+use Rattle.elementary.specs.Exponents.{Exponent, exponentAt, isThree, isFour}
+use Rattle.elementary.specs.Power.{positivePower, infinityOrZero, power, powerAt}
 use Rattle.elementary.proofs.Parts.{finite-of-parts}
 use Rattle.elementary.proofs.Rounding.{odd-opposite}
 
@@ -48,3 +50,8 @@ module _ (p : ℕ) (e : Exponent) (q k : ℕ) (some : 0 < q) where
       let f = finite-of-parts false q k some .2 in
       ap (λ (x : Float). cond (isThree e) (neg (positivePower p e x)) (cond (isFour e) (positivePower p e x) nan)) f
       ∙ ap (power p e) (sym (odd-opposite 53 q k 1074 ∙ ap neg f))
+
+-- ---- by the number of the exponent
+pub in-table : (p i : ℕ) (x : Float) → i < 27 → power p (exponentAt i) x ≡ powerAt p i x
+unfolding powerAt
+in-table p i x h = sym (ap (λ (t : Bool). cond t (power p (exponentAt i) x) nan) (is-true (ltb i 27) (lt→ltb i 27 h)))

@@ -2,7 +2,7 @@
 -- Assumes nothing.
 use mathlib.Core.Path.{_≡_, refl, sym, ap, _∙_, subst}
 use Prim.Native.Nat.{ℕ, zero, suc, _+_, _*_, _/_, _^_, _≤_, _<_}
-use native.Mathlib.Nat.{mul-pos, zero-lt-suc, not-suc-le-zero}
+use native.Mathlib.Nat.{mul-pos, zero-lt-suc}
 use mathlib.Core.Bool.{Bool, true, false, cond}
 use lib.IntN.{ℤ, pos, negsuc, negℤ, _*ℤ_}
 use lib.Dec.{T, ltb}
@@ -11,7 +11,7 @@ use lib.Ieee.{Float, nan, inf, fin, Format, binary64, prec, emax, low, size, nea
 use lib.Ieee.Fits.{core, round-is}
 use lib.Ieee.Order.{round-mono}
 use Rattle.elementary.specs.Nearest.{nearestRatio}
-use Rattle.elementary.proofs.Integers.{le-of-pos, le-of-opposites}
+use Rattle.elementary.proofs.Integers.{le-of-pos, not-below-neg, le-of-opposites}
 use Rattle.elementary.proofs.Order.{unsigned, neg-below-unsigned, neg-turns}
 
 -- ---- the sign goes through `round`
@@ -51,11 +51,7 @@ round-unsigned f a c = subst (λ (x : Float). T (unsigned x)) (sym (round-is f f
 -- ---- a / c ≤ b / d
 pub ratio-mono : (a b : ℤ) (c d : ℕ) → 0 < c → 0 < d → (a *ℤ pos d) ≤ℤ (b *ℤ pos c) → T (le (nearestRatio a c) (nearestRatio b d))
 ratio-mono (pos a) (pos b) c d C D h = round-mono binary64 a c b d C D (le-of-pos h)
-ratio-mono (pos a) (negsuc b) c d C D h = absurd (never (a * d) (suc b * c) (mul-pos (zero-lt-suc b) C) h)
-  where
-    never : (x y : ℕ) → 0 < y → pos x ≤ℤ negℤ (pos y) → ⊥
-    never x zero Y k = not-suc-le-zero Y
-    never x (suc y) Y k = k .le
+ratio-mono (pos a) (negsuc b) c d C D h = absurd (not-below-neg (a * d) (suc b * c) (mul-pos (zero-lt-suc b) C) h)
 ratio-mono (negsuc a) (pos b) c d C D h = rw (round-opposite binary64 (suc a) c) (neg-below-unsigned (round binary64 false (suc a) c) (round binary64 false b d) (round-unsigned binary64 (suc a) c) (round-unsigned binary64 b d))
 ratio-mono (negsuc a) (negsuc b) c d C D h =
     rw (round-opposite binary64 (suc a) c, round-opposite binary64 (suc b) d)

@@ -2,15 +2,15 @@
 -- And the signed whole numbers that the two signs of a word stand for. Assumes nothing.
 use mathlib.Core.Path.{_≡_, refl, sym, ap, _∙_, subst}
 use Prim.Native.Nat.{ℕ, zero, suc, pred, _+_, _-_, _*_, _/_, _%_, _^_, _≤_, _<_, zero-le}
-use native.Mathlib.Nat.{add-assoc, add-comm, add-left-comm, mul-assoc, mul-comm, mul-left-comm, mul-right-comm, add-mul, mul-suc, suc-mul, add-suc, div-add-mod', mul-add-div-right, mul-add-mod-self-right, div-div-eq-div-mul, suc-pred-eq-of-pos, add-zero, not-suc-le-zero, le-refl, lt-of-lt-of-le, lt-of-le-of-lt, le-of-lt, le-of-suc-le-suc, zero-mul, mul-le-mul, mod-lt, div-lt-iff-lt-mul}
+use native.Mathlib.Nat.{add-assoc, add-comm, add-left-comm, mul-assoc, mul-comm, mul-left-comm, mul-right-comm, add-mul, mul-suc, suc-mul, add-suc, div-add-mod', mul-add-div-right, mul-add-mod-self-right, div-div-eq-div-mul, suc-pred-eq-of-pos, add-zero, not-suc-le-zero, le-refl, lt-of-lt-of-le, lt-of-le-of-lt, le-of-lt, le-of-suc-le-suc, mul-le-mul, mod-lt, div-lt-iff-lt-mul}
 use native.Mathlib.Numerals.{sub-one}
 use native.Mathlib.Omega.{arith}
 use mathlib.Core.Bool.{Bool, true, false, cond}
-use lib.IntN.{ℤ, pos, negsuc, negℤ, negℤ-negℤ, _*ℤ_}
+use lib.IntN.{ℤ, pos, negsuc, negℤ, _*ℤ_}
 use lib.Arith.{digits-lt}
 use lib.Pow.{pow-pos}
 use Rattle.elementary.specs.declared.word.Word.{Word}
-use Rattle.elementary.proofs.Integers.{neg-times}
+use Rattle.elementary.proofs.Integers.{neg-times, neg-left}
 use Rattle.elementary.specs.Whole.{signed, floorDiv, digits, wordValue, asWord}
 
 -- what is left to divide once the digits above the point have given their whole quotient
@@ -102,9 +102,4 @@ opposite-small p n w whole-lt part-lt = go (w .negative) (digits p w) (digits-lt
 -- ---- a product with an exponent that may be negative
 pub times-sign : (s : Bool) (a : ℤ) (q : ℕ) → cond s (negℤ a) a *ℤ pos q ≡ a *ℤ signed s q
 times-sign false a q = refl
-times-sign true a q = neg-left a ∙ sym (neg-times a q)
-  where
-    neg-left : (b : ℤ) → negℤ b *ℤ pos q ≡ negℤ (b *ℤ pos q)
-    neg-left (pos zero) = ap pos (zero-mul q) ∙ ap (λ (n : ℕ). negℤ (pos n)) (sym (zero-mul q))
-    neg-left (pos (suc b)) = refl
-    neg-left (negsuc b) = sym (negℤ-negℤ (pos (suc b * q)))
+times-sign true a q = neg-left a q ∙ sym (neg-times a q)

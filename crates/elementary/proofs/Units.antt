@@ -28,7 +28,7 @@ pub one-higher : (k : ℕ) → 2 ^ 53 * 2 ^ k ≡ 2 ^ 52 * 2 ^ suc k
 one-higher k = omega (arith, pow-suc 2 k)
 
 -- 2 ^ e in units of 2 ^ -l, for an e of -l at least
-unit-exponent : (l : ℕ) (e : ℤ) → down e ≤ 2 ^ l → (j : ℕ) × (up e * 2 ^ l ≡ 2 ^ j * down e)
+pub unit-exponent : (l : ℕ) (e : ℤ) → down e ≤ 2 ^ l → (j : ℕ) × (up e * 2 ^ l ≡ 2 ^ j * down e)
 unit-exponent l (pos k) h = (k + l, sym (mul-one (2 ^ (k + l)) ∙ pow-add 2 k l))
 unit-exponent l (negsuc k) h =
     let le : suc k ≤ l = le-of-suc-le-suc (lt-of-not-le (λ (g : suc l ≤ suc k). not-le-of-lt (pow-lt g) h)) in
@@ -36,7 +36,7 @@ unit-exponent l (negsuc k) h =
 
 -- ---- the count of a double
 -- what it takes for a number that is not zero to be a double: few digits, not too far behind the point, and not too great
-in-range : (s : Bool) (m : ℕ) (e : ℤ) → T (fits binary64 (fin s (suc m) e)) → (suc m < 2 ^ 53) × (down e ≤ 2 ^ 1074) × (suc m * up e < 2 ^ 1024 * down e)
+pub in-range : (s : Bool) (m : ℕ) (e : ℤ) → T (fits binary64 (fin s (suc m) e)) → (suc m < 2 ^ 53) × (down e ≤ 2 ^ 1074) × (suc m * up e < 2 ^ 1024 * down e)
 unfolding fits
 in-range s m e t =
     let odd : Bool = eqb (suc m % 2) 1 in

@@ -1,25 +1,22 @@
 -- `elementary::power::power` meets its contract, kind by kind of a double. Assumes nothing.
 use mathlib.Core.Path.{_≡_, refl, sym, ap, _∙_}
 use mathlib.Core.Bool.{Bool, cond}
-use Prim.Native.Nat.{ℕ, _≤_, _<_}
+use Prim.Native.Nat.{ℕ, _≤_}
 use borrow.Author.Needs.{needs}
-use lib.Dec.{ltb, lt→ltb}
+use lib.Dec.{ltb}
 use lib.Arith.{le→nltb}
 use lib.Ieee.{Float, nan, ofBits, div}
-use lib.Ieee.Bits.{is-true, is-false}
+use lib.Ieee.Bits.{is-false}
 use Rattle.elementary.specs.Exponents.{exponentAt}
 use Rattle.elementary.specs.Power.{power, powerAt}
 use Rattle.elementary.proofs.Parts.{told}
+use Rattle.elementary.proofs.PowerCases.{in-table}
 use Rattle.elementary.proofs.power.power.Statement.{statement}
 use Rattle.elementary.proofs.power.power.Tie as tie
 
 no-exponent : (p i : ℕ) (x : Float) → 27 ≤ i → nan ≡ powerAt p i x
 unfolding powerAt
 no-exponent p i x h = sym (ap (λ (t : Bool). cond t (power p (exponentAt i) x) nan) (is-false (ltb i 27) (le→nltb i 27 h)))
-
-in-table : (p i : ℕ) (x : Float) → i < 27 → power p (exponentAt i) x ≡ powerAt p i x
-unfolding powerAt
-in-table p i x h = sym (ap (λ (t : Bool). cond t (power p (exponentAt i) x) nan) (is-true (ltb i 27) (lt→ltb i 27 h)))
 
 of-nan : (p i : ℕ) → nan ≡ power p (exponentAt i) nan
 unfolding power
