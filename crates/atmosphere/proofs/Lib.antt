@@ -1,3 +1,6 @@
 -- The laws of the definitions, a file for each idea.
+pub mod NotANumber
 pub mod LayerNumber
+pub mod LayerFrom
+pub mod Chained
 pub mod Overrides

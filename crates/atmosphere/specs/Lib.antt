@@ -5,3 +5,4 @@ pub mod Saturation
 pub mod MoistAir
 pub mod Sound
 pub mod Station
+pub mod Altitudes

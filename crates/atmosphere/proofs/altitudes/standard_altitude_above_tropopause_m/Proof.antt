@@ -1,0 +1,41 @@
+-- `atmosphere::altitudes::standard_altitude_above_tropopause_m` meets its contract, by the tables of proofs/Chained. Assumes nothing.
+use mathlib.Core.Path.{ap, _∙_}
+use Prim.Native.Nat.{ℕ, _<_}
+use native.Mathlib.Omega.{arith}
+use lib.ListN.{getD}
+use lib.Ieee.{Float, nan}
+use Rattle.elementary.specs.Operators.{_⊘_}
+use Rattle.elementary.specs.Exponents.{ofDouble}
+use Rattle.elementary.specs.Power.{power, powerAt}
+use Rattle.atmosphere.specs.Saturation.{one}
+use Rattle.atmosphere.specs.Altitudes.{heightIn, densityExponent, chainedRatio, heightOfRatio}
+use Rattle.atmosphere.proofs.LayerFrom.{layer-from-le, height-from-same}
+use Rattle.atmosphere.proofs.Chained.{ratios, ratioNumbers, ratio-at, ratio-power}
+use Rattle.atmosphere.proofs.altitudes.standard_altitude_above_tropopause_m.Statement.{statement}
+use Rattle.atmosphere.proofs.altitudes.standard_altitude_above_tropopause_m.Tie as tie
+
+in-table : (c : tie.After-layer-from) → c .layer-from .result < 7
+unfolding ratios
+in-table c = omega (arith, c .layer-from .ensures, layer-from-le (λ (i : ℕ). getD ratios i nan) 5 1 (c .before .args .ratio))
+
+returns : tie.Need-returns
+unfolding ratios ratioNumbers heightOfRatio
+returns c =
+    let x = c .before .before .args .ratio in
+    let table : ℕ → Float = λ i. getD ratios i nan in
+    let raised : ℕ → Float → Float = λ i. powerAt 52 (getD ratioNumbers i 0) in
+    c .height-in .ensures
+    ∙ ap (λ (i : ℕ). heightIn 52 (raised i) i (table i) x) (c .before .layer-from .ensures)
+    ∙ height-from-same 52 raised (λ (i : ℕ). power 52 (ofDouble (one ⊘ densityExponent i))) table (chainedRatio 52) 5 1 x (λ j l h. ratio-at j (omega arith)) (λ j b l h. ratio-power j b x l (omega arith))
+
+pub standard-altitude-above-tropopause-m-spec : {M : Type 1} → statement M
+standard-altitude-above-tropopause-m-spec =
+    tie.close
+    (tie.spec
+    (λ c κs. omega arith)
+    (λ c. omega (arith, in-table c))
+    (λ c. in-table c)
+    (λ c. omega (arith, in-table c))
+    (λ c. in-table c)
+    (λ c κs. in-table c)
+    returns)

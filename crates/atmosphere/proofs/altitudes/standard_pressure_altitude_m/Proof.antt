@@ -1,0 +1,39 @@
+-- `atmosphere::altitudes::standard_pressure_altitude_m` meets its contract, by the tables of proofs/Chained. Assumes nothing.
+use mathlib.Core.Path.{ap, _∙_}
+use Prim.Native.Nat.{ℕ, _<_}
+use native.Mathlib.Omega.{arith}
+use lib.ListN.{getD}
+use lib.Ieee.{Float, nan}
+use Rattle.elementary.specs.Exponents.{ofDouble}
+use Rattle.elementary.specs.Power.{power, powerAt}
+use Rattle.atmosphere.specs.Altitudes.{heightIn, temperatureExponent, chainedPressure, heightOfPressure}
+use Rattle.atmosphere.proofs.LayerFrom.{layer-from-le, height-from-same}
+use Rattle.atmosphere.proofs.Chained.{pressures, temperatureNumbers, pressure-at, temperature-power}
+use Rattle.atmosphere.proofs.altitudes.standard_pressure_altitude_m.Statement.{statement}
+use Rattle.atmosphere.proofs.altitudes.standard_pressure_altitude_m.Tie as tie
+
+in-table : (c : tie.After-layer-from) → c .layer-from .result < 7
+unfolding pressures
+in-table c = omega (arith, c .layer-from .ensures, layer-from-le (λ (i : ℕ). getD pressures i nan) 6 0 (c .before .args .pressure-pa))
+
+returns : tie.Need-returns
+unfolding pressures temperatureNumbers heightOfPressure
+returns c =
+    let x = c .before .before .args .pressure-pa in
+    let table : ℕ → Float = λ i. getD pressures i nan in
+    let raised : ℕ → Float → Float = λ i. powerAt 52 (getD temperatureNumbers i 0) in
+    c .height-in .ensures
+    ∙ ap (λ (i : ℕ). heightIn 52 (raised i) i (table i) x) (c .before .layer-from .ensures)
+    ∙ height-from-same 52 raised (λ (i : ℕ). power 52 (ofDouble (temperatureExponent i))) table (chainedPressure 52) 6 0 x (λ j l h. pressure-at j (omega arith)) (λ j b l h. temperature-power j b x (omega arith))
+
+pub standard-pressure-altitude-m-spec : {M : Type 1} → statement M
+standard-pressure-altitude-m-spec =
+    tie.close
+    (tie.spec
+    (λ c κs. omega arith)
+    (λ c. omega (arith, in-table c))
+    (λ c. in-table c)
+    (λ c. omega (arith, in-table c))
+    (λ c. in-table c)
+    (λ c κs. in-table c)
+    returns)

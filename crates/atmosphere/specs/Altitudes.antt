@@ -1,0 +1,136 @@
+-- Pressure altitude and density altitude: the National Weather Service's formula, the FAA's rule, and the heights of a pressure and of a density in the
+-- layers of ICAO Doc 7488, Manual of the ICAO Standard Atmosphere. Constants and rounding order are those of src/atmosphere.rs; places is the number of
+-- places of exp, ln and power. Definitions only.
+use Prim.Native.Nat.{ℕ, zero, suc}
+use mathlib.Core.Bool.{_&&_, _||_, cond}
+use lib.Ieee.{Float, binary64, ofBits, neg, le, isNan}
+use Rattle.elementary.specs.Operators.{_⊕_, _⊖_, _⊗_, _⊘_}
+use Rattle.elementary.specs.Exponents.{ofDouble}
+use Rattle.elementary.specs.Power.{power}
+use Rattle.elementary.specs.Exp.{exp}
+use Rattle.elementary.specs.Ln.{ln}
+use Rattle.atmosphere.specs.declared.station.Reading.the-variants.{Given}
+use Rattle.atmosphere.specs.Saturation.{one}
+use Rattle.atmosphere.specs.MoistAir.{hundred, nought}
+use Rattle.atmosphere.specs.Layers.{g₀, R, lowestHeight, baseHeight, baseTemperature, basePressure, gradient, isothermal}
+use Rattle.atmosphere.specs.Station.{standardPressure, standardTemperature, atmosphere}
+
+-- ---- National Weather Service, "Pressure Altitude" (weather.gov/media/epz/wxcalc/pressureAltitude.pdf), of a station pressure p in hPa
+-- h = 145366.45 ft (1 - (p / 1013.25)^0.190284)
+abbrev pub nwsAltitude : ℕ → Float → Float
+nwsAltitude places p = ofBits binary64 0x4101beb39999999a ⊗ (one ⊖ power places (ofDouble (ofBits binary64 0x3fc85b39e279dd3c)) (p ⊘ standardPressure))
+
+-- ---- the FAA's rule, of a station pressure p in hPa and a temperature t in °F
+-- the standard temperature at h feet, in °F: 59 - 3.57 h / 1000
+abbrev pub standardFahrenheit : Float → Float
+standardFahrenheit h = ofBits binary64 0x404d800000000000 ⊖ h ⊘ ofBits binary64 0x408f400000000000 ⊗ ofBits binary64 0x400c8f5c28f5c28f
+
+-- 120 ft for each °C, which is 120 * 5 / 9 for each °F
+abbrev pub feetPerDegree : Float
+feetPerDegree = ofBits binary64 0x405e000000000000 ⊗ ofBits binary64 0x4014000000000000 ⊘ ofBits binary64 0x4022000000000000
+
+abbrev pub faaDensityAltitude : ℕ → Float → Float → Float
+faaDensityAltitude places p t = let h = nwsAltitude places p in h ⊕ feetPerDegree ⊗ (t ⊖ standardFahrenheit h)
+
+-- ---- Doc 7488, a layer from its base to its top, the next layer's base
+abbrev pub thickness : ℕ → Float
+thickness i = baseHeight (suc i) ⊖ baseHeight i
+
+-- the scale height, R T_b / g₀
+abbrev pub scaleHeight : ℕ → Float
+scaleHeight i = R ⊗ baseTemperature i ⊘ g₀
+
+-- what a pressure or a density at the base is multiplied by at the top: exp (-ΔH / scale height) without a gradient, and with one the q-th power of
+-- the temperatures' ratio, 1 + β ΔH / T_b
+abbrev pub across : ℕ → Float → ℕ → Float
+across places q i =
+    cond (isothermal i) (exp places (neg (thickness i) ⊘ scaleHeight i)) (power places (ofDouble q) (one ⊕ gradient i ⊗ thickness i ⊘ baseTemperature i))
+
+-- The first of the layers i, i + 1, .., i + n at whose top the value, which falls with height, is at most x. The last of them has no top, and has what
+-- is left, NaN too.
+unfoldable pub layerFrom : (ℕ → Float) → ℕ → ℕ → Float → ℕ
+layerFrom value zero i x = i
+layerFrom value (suc n) i x = cond (le (value (suc i)) x) i (layerFrom value n (suc i) x)
+
+-- The height in layer i of the value x, where it is b at the base: H_b + scale height ln (b / x) without a gradient. With one it is
+-- H_b + (T - T_b) / β at the temperature T = T_b (x / b)^q, of which `raised` is the power.
+abbrev pub heightIn : ℕ → (Float → Float) → ℕ → Float → Float → Float
+heightIn places raised i b x =
+    cond (isothermal i) (baseHeight i ⊕ scaleHeight i ⊗ ln places (b ⊘ x)) (baseHeight i ⊕ (baseTemperature i ⊗ raised (x ⊘ b) ⊖ baseTemperature i) ⊘ gradient i)
+
+-- The height of the value x, in the first layer that has it of the layers i, i + 1, .., i + n: by the values at the bases and the layers' powers.
+abbrev pub heightFrom : ℕ → (ℕ → Float → Float) → (ℕ → Float) → ℕ → ℕ → Float → Float
+heightFrom places raised value n i x = let j = layerFrom value n i x in heightIn places (raised j) j (value j) x
+
+-- ---- the height of a pressure in Pa
+-- -g₀ / (β R), and the other way -β R / g₀
+abbrev pub pressureExponent : ℕ → Float
+pressureExponent i = neg g₀ ⊘ (gradient i ⊗ R)
+
+abbrev pub temperatureExponent : ℕ → Float
+temperatureExponent i = neg (gradient i) ⊗ R ⊘ g₀
+
+-- the base pressures, each chained from the one below by the layer's formula; they are not the rounded p_b of the table
+unfoldable pub chainedPressure : ℕ → ℕ → Float
+chainedPressure places zero = basePressure 0
+chainedPressure places (suc i) = chainedPressure places i ⊗ across places (pressureExponent i) i
+
+unfoldable pub heightOfPressure : ℕ → Float → Float
+heightOfPressure places p = heightFrom places (λ (i : ℕ). power places (ofDouble (temperatureExponent i))) (chainedPressure places) 6 0 p
+
+-- ---- the pressure altitude of a station pressure p in hPa
+-- 11,000 m, the top of the troposphere
+abbrev pub tropopause : Float
+tropopause = ofBits binary64 0x40c57c0000000000
+
+-- a foot is 0.3048 m
+abbrev pub foot : Float
+foot = ofBits binary64 0x3fd381d7dbf487fd
+
+-- the National Weather Service's from -5,000 m to 11,000 m, both included, and where it is NaN; else the height in the layers
+unfoldable pub pressureAltitude : ℕ → Float → Float
+pressureAltitude places p =
+    let h = nwsAltitude places p ⊗ foot in
+    cond (isNan h || (le lowestHeight h && le h tropopause)) h (heightOfPressure places (p ⊗ hundred))
+
+-- ---- the height of a density, as its ratio x to that at sea level
+-- of a layer, -g₀ / (R β) - 1
+abbrev pub densityExponent : ℕ → Float
+densityExponent i = neg g₀ ⊘ (R ⊗ gradient i) ⊖ one
+
+-- the troposphere's lapse rate, 0.0065 K/m
+abbrev pub lapse : Float
+lapse = ofBits binary64 0x3f7a9fbe76c8b439
+
+-- and its exponent, g₀ / (R lapse) - 1
+abbrev pub troposphereExponent : Float
+troposphereExponent = g₀ ⊘ (R ⊗ lapse) ⊖ one
+
+-- the ratios at the bases: at the tropopause by the temperatures, (T₁ / T₀)^n, and above it each chained from the one below
+unfoldable pub chainedRatio : ℕ → ℕ → Float
+chainedRatio places zero = one
+chainedRatio places (suc zero) = power places (ofDouble troposphereExponent) (baseTemperature 1 ⊘ baseTemperature 0)
+chainedRatio places (suc (suc i)) = chainedRatio places (suc i) ⊗ across places (densityExponent (suc i)) (suc i)
+
+-- above the tropopause
+unfoldable pub heightOfRatio : ℕ → Float → Float
+heightOfRatio places x = heightFrom places (λ (i : ℕ). power places (ofDouble (one ⊘ densityExponent i))) (chainedRatio places) 5 1 x
+
+-- in the troposphere: T₀ / lapse (1 - x^(1/n))
+abbrev pub troposphereHeight : ℕ → Float → Float
+troposphereHeight places x = baseTemperature 0 ⊘ lapse ⊗ (one ⊖ power places (ofDouble (one ⊘ troposphereExponent)) x)
+
+-- ---- the density altitude of air at t °C, p hPa and h percent
+abbrev pub density : ℕ → Float → Float → Float → Float
+density places t p h = atmosphere places nought (Given t) (Given p) h .«density_kg_m3»
+
+-- the density at sea level is that of dry air at 15 °C and 1013.25 hPa, by the same formula
+unfoldable pub seaLevelDensity : ℕ → Float
+seaLevelDensity places = density places standardTemperature standardPressure nought
+
+-- the troposphere's height up to 11,000 m, and where it is NaN; else the height in the layers above
+unfoldable pub densityAltitude : ℕ → Float → Float → Float → Float
+densityAltitude places t p h =
+    let x = density places t p h ⊘ seaLevelDensity places in
+    let H = troposphereHeight places x in
+    cond (isNan H || le H tropopause) H (heightOfRatio places x)
