@@ -1,4 +1,4 @@
-// A line of a list: up to five words of 16 hex digits in lower case, a blank between, a newline last.
+// A line of a list: up to nine words of 16 hex digits in lower case, a blank between, a newline last.
 ghost use mathlib.Core.Path.{_≡_};
 ghost use mathlib.Core.Bool.{true};
 ghost use Prim.Native.Nat.{_*_, _≤_, _<_};
@@ -22,8 +22,8 @@ fn digit(b: u8) -> u64
 }
 
 // The word number n, from 0.
-pub(crate) fn word(line: &[u8; 85], n: usize) -> u64
-    requires { ⌜ n < 5 ⌝ }
+pub(crate) fn word(line: &[u8; 153], n: usize) -> u64
+    requires { ⌜ n < 9 ⌝ }
     ensures { λ r. ⌜ r ≡ wordAt (now (line .entry)) (17 * n) 16 ⌝ }
 {
     let mut value = 0;
@@ -49,8 +49,8 @@ fn is_in_place(b: u8, i: usize, width: usize) -> bool
     }
 }
 
-pub(crate) fn is_line(line: &[u8; 85], width: usize) -> bool
-    requires { ⌜ width ≤ 85 ⌝ }
+pub(crate) fn is_line(line: &[u8; 153], width: usize) -> bool
+    requires { ⌜ width ≤ 153 ⌝ }
     ensures { λ r. ⌜ (r ≡ true → IsLine (now (line .entry)) width) ⌝ }
 {
     let mut i = 0;

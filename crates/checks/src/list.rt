@@ -5,6 +5,9 @@ use crate::double::double;
 use crate::double::same;
 use crate::line::is_line;
 use crate::line::word;
+use crate::published::figure_agrees;
+use crate::source;
+use crate::source::Part;
 use crate::word::Given;
 use crate::word::at_most;
 use crate::word::word_of;
@@ -17,7 +20,14 @@ use elementary::power::power;
 use elementary::sqrt::sqrt;
 use elementary::word::Word;
 
-// The function that a list is of.
+// What a list is of, and whether a line has the answer or the two ends between which it lies.
+pub enum List {
+    Exact(Function),
+    Ends(Function),
+    Source(Part),
+}
+
+// A function of `elementary`, or a figure that the line names.
 pub enum Function {
     Log,
     Antilog,
@@ -25,6 +35,7 @@ pub enum Function {
     Exp,
     Ln,
     Sqrt,
+    Figure,
 }
 
 // What came of a list: its lines, those that differ, and the number of the first that does.
@@ -34,7 +45,7 @@ pub struct Tally {
     pub first: u64,
 }
 
-enum Outcome {
+pub enum Outcome {
     End,
     Agrees,
     Differs,
@@ -43,13 +54,12 @@ enum Outcome {
 // More lines than a list has. A proved loop has to end, and nothing says that a file does.
 const MOST_LINES: u64 = 1_000_000;
 
-// An exact list has the answer, any other the two ends between which it lies.
-pub(crate) fn compared(fd: i32, function: Function, exact: bool) -> Tally {
+pub(crate) fn compared(fd: i32, list: List) -> Tally {
     let mut lines = 0;
     let mut differ = 0;
     let mut first = 0;
     while lines < MOST_LINES {
-        match next_line(fd, function, exact) {
+        match next_outcome(fd, list) {
             Outcome::End => {
                 return Tally {
                     lines,
@@ -74,8 +84,16 @@ pub(crate) fn compared(fd: i32, function: Function, exact: bool) -> Tally {
     }
 }
 
+fn next_outcome(fd: i32, list: List) -> Outcome {
+    match list {
+        List::Exact(function) => next_line(fd, function, true),
+        List::Ends(function) => next_line(fd, function, false),
+        List::Source(part) => source::next_line(fd, part),
+    }
+}
+
 fn next_line(fd: i32, function: Function, exact: bool) -> Outcome {
-    let mut line = [0u8; 85];
+    let mut line = [0u8; 153];
     let width = 17 * words(function, exact);
     let n = io::read_full(fd, &mut line[..width]);
     if n == 0 {
@@ -90,16 +108,17 @@ fn next_line(fd: i32, function: Function, exact: bool) -> Outcome {
 
 // How many words a line has: the argument's, and those of the answer or of the two ends.
 fn words(function: Function, exact: bool) -> usize
-    ensures { λ r. ⌜ r ≤ 5 ⌝ }
+    ensures { λ r. ⌜ r ≤ 6 ⌝ }
 {
     match function {
         Function::Log => if exact { 3 } else { 5 },
         Function::Antilog | Function::Power => if exact { 3 } else { 4 },
         Function::Exp | Function::Ln | Function::Sqrt => if exact { 2 } else { 3 },
+        Function::Figure => 6,
     }
 }
 
-fn agrees(line: &[u8; 85], function: Function, exact: bool) -> bool {
+fn agrees(line: &[u8; 153], function: Function, exact: bool) -> bool {
     let first = word(line, 0);
     let second = word(line, 1);
     let third = word(line, 2);
@@ -127,6 +146,7 @@ fn agrees(line: &[u8; 85], function: Function, exact: bool) -> bool {
         Function::Exp => double_agrees(exp(double(first)), exact, second, third),
         Function::Ln => double_agrees(ln(double(first)), exact, second, third),
         Function::Sqrt => double_agrees(sqrt(double(first)), exact, second, third),
+        Function::Figure => figure_agrees(line),
     }
 }
 

@@ -1,38 +1,48 @@
-// Replays the lists of `data/` through the functions of `elementary`, and says of each list how
+// Replays the lists of `data/` through the functions of `elementary` and `atmosphere`, and says of each list how
 // many lines it has and how many of them differ from our answers. `vectors/README.md` says where
 // the lists come from. A line that is not in its list's form counts as one that differs.
+mod calls;
 mod double;
 mod line;
 mod list;
+mod published;
+mod source;
 mod word;
 
 use libc::STDOUT_FILENO;
 use list::Function;
+use list::List;
+use source::Part;
 
 fn main() {
-    replay(b"rules_log.txt", Function::Log, true);
-    replay(b"rules_antilog.txt", Function::Antilog, true);
-    replay(b"rules_power.txt", Function::Power, true);
-    replay(b"rules_exp.txt", Function::Exp, true);
-    replay(b"rules_ln.txt", Function::Ln, true);
-    replay(b"rules_sqrt.txt", Function::Sqrt, true);
-    replay(b"true_log.txt", Function::Log, false);
-    replay(b"true_antilog.txt", Function::Antilog, false);
-    replay(b"true_power.txt", Function::Power, false);
-    replay(b"true_exp.txt", Function::Exp, false);
-    replay(b"true_ln.txt", Function::Ln, false);
-    replay(b"true_sqrt.txt", Function::Sqrt, false);
+    replay(b"rules_log.txt", List::Exact(Function::Log));
+    replay(b"rules_antilog.txt", List::Exact(Function::Antilog));
+    replay(b"rules_power.txt", List::Exact(Function::Power));
+    replay(b"rules_exp.txt", List::Exact(Function::Exp));
+    replay(b"rules_ln.txt", List::Exact(Function::Ln));
+    replay(b"rules_sqrt.txt", List::Exact(Function::Sqrt));
+    replay(b"true_log.txt", List::Ends(Function::Log));
+    replay(b"true_antilog.txt", List::Ends(Function::Antilog));
+    replay(b"true_power.txt", List::Ends(Function::Power));
+    replay(b"true_exp.txt", List::Ends(Function::Exp));
+    replay(b"true_ln.txt", List::Ends(Function::Ln));
+    replay(b"true_sqrt.txt", List::Ends(Function::Sqrt));
+    replay(b"source_layers.txt", List::Source(Part::Layers));
+    replay(b"source_humid.txt", List::Source(Part::Humid));
+    replay(b"source_station.txt", List::Source(Part::Station));
+    replay(b"source_altitudes.txt", List::Source(Part::Altitudes));
+    replay(b"published.txt", List::Ends(Function::Figure));
 }
 
 // Prints what came of one list. Where it cannot be opened, that is printed, and the run goes on.
-fn replay(name: &[u8], function: Function, exact: bool) {
+fn replay(name: &[u8], list: List) {
     io::write_all(STDOUT_FILENO, name);
     let fd = os::open_read(name);
     if fd < 0 {
         io::write_all(STDOUT_FILENO, b": cannot be opened\n");
         return;
     }
-    let tally = list::compared(fd, function, exact);
+    let tally = list::compared(fd, list);
     libc::close(fd);
     io::write_all(STDOUT_FILENO, b": ");
     io::print_decimal(STDOUT_FILENO, tally.lines);

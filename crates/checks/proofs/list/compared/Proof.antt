@@ -8,16 +8,16 @@ use Rattle.checks.proofs.list.compared.Statement.{statement}
 use Rattle.checks.proofs.list.compared.Tie as tie
 
 abbrev Inv-loop : tie.InvT-loop
-Inv-loop fd function exact lines₀ differ₀ first₀ lines differ first = differ ≤ lines
+Inv-loop fd list lines₀ differ₀ first₀ lines differ first = differ ≤ lines
 
 abbrev μ-loop : tie.MeasureT-loop
-μ-loop fd function exact lines₀ differ₀ first₀ lines differ first = 1000000 - lines
+μ-loop fd list lines₀ differ₀ first₀ lines differ first = 1000000 - lines
 
 loop-holds : tie.Need-loop-holds Inv-loop μ-loop
 loop-holds c = search needs
 
-next-line-requires : tie.Need-next-line-requires Inv-loop μ-loop
-next-line-requires c κs = search needs
+next-outcome-requires : tie.Need-next-outcome-requires Inv-loop μ-loop
+next-outcome-requires c κs = search needs
 
 enum-told : tie.Need-enum-told Inv-loop μ-loop
 enum-told c = search needs
@@ -56,7 +56,7 @@ compared-spec =
     Inv-loop
     μ-loop
     loop-holds
-    next-line-requires
+    next-outcome-requires
     enum-told
     returns
     enum-told-2
