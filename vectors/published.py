@@ -4,7 +4,7 @@ from pathlib import Path
 from struct import pack
 from sys import argv
 
-TEMPERATURE, PRESSURE, SATURATION, DENSITY, SOUND, HEIGHT = range(6)
+TEMPERATURE, PRESSURE, SATURATION, DENSITY, SOUND, HEIGHT, NWS, FAA = range(8)
 
 EARTH_RADIUS_M = 6356766
 
@@ -84,6 +84,10 @@ def values():
     yield SOUND, (288.15, 101325, 0), "340.294"
     for pressure, height in HEIGHTS + LEVELS:
         yield HEIGHT, (pressure,), height
+    # the National Weather Service's formula and the FAA's rule at standard pressure, 15 and 25 degrees Celsius, ft
+    yield NWS, (1013.25,), "0"
+    yield FAA, (1013.25, 59), "0"
+    yield FAA, (1013.25, 77), "1200"
 
 
 def bits(value):

@@ -4,3 +4,4 @@ pub mod LayerNumber
 pub mod LayerFrom
 pub mod Chained
 pub mod Overrides
+pub mod AltitudeOrder

@@ -10,7 +10,6 @@ use Rattle.elementary.specs.Log.{logWord}
 use Rattle.elementary.specs.Antilog.{antilogRoot}
 use Rattle.elementary.specs.Exponents.{exponents, ofDouble}
 use Rattle.elementary.specs.Power.{power}
-use Rattle.atmosphere.specs.declared.layers.StandardAir.{StandardAir}
 use Rattle.atmosphere.specs.declared.station.Reading.the-variants.{Given, FromLayer}
 use Rattle.atmosphere.specs.Layers.{standardAir}
 use Rattle.atmosphere.specs.Station.{stationPressure, stationTemperature, reducedQnh}

@@ -2,6 +2,8 @@
 use crate::double::between;
 use crate::double::double;
 use crate::line::word;
+use atmosphere::altitudes::faa_rule_density_altitude_ft;
+use atmosphere::altitudes::nws_pressure_altitude_ft;
 use atmosphere::altitudes::standard_pressure_altitude_m;
 use atmosphere::humid::calculate_air_density_cimp;
 use atmosphere::humid::enhanced_saturation_vapor_pressure;
@@ -25,6 +27,8 @@ pub(crate) fn figure_agrees(line: &[u8; 153]) -> bool {
         3 => between(calculate_air_density_cimp(x, y, z), low, high),
         4 => between(moist_speed_of_sound(x, y, z), low, high),
         5 => between(standard_pressure_altitude_m(x), low, high),
+        6 => between(nws_pressure_altitude_ft(x), low, high),
+        7 => between(faa_rule_density_altitude_ft(x, y), low, high),
         _ => false,
     }
 }

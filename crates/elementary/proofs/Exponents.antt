@@ -6,11 +6,11 @@ use mathlib.Core.Logic.{inl, inr}
 use Prim.Native.Nat.{ℕ, zero, suc, _*_, _%_, _^_, _<_}
 use native.Mathlib.Nat.{not-suc-le-zero, eq-or-lt-of-le, le-of-suc-le-suc}
 use borrow.Author.Tests.{eq-eqb, ne-eqb}
-use lib.Dec.{T, eqb, ltb, eqb→eq, ltb→lt}
+use lib.Dec.{T, eqb, ltb, ltb→lt}
 use lib.ListN.{getD}
 use lib.Ieee.{Float, nan, inf, fin, up, down}
 use lib.Ieee.Fits.{and-l, and-r}
-use Rattle.elementary.specs.Exponents.{Exponent, exponents, exponentAt, isThree, isFour}
+use Rattle.elementary.specs.Exponents.{exponents, exponentAt, isThree, isFour}
 
 -- ---- a test at every number below n
 abbrev every : ℕ → (ℕ → Bool) → Bool

@@ -1,7 +1,7 @@
 -- The order of the whole numbers, and what keeps or turns it: the opposite, a product with a fixed factor, a floor. Assumes nothing.
-use mathlib.Core.Path.{_≡_, refl, sym, ap, _∙_, subst}
-use Prim.Native.Nat.{ℕ, zero, suc, _+_, _-_, _*_, _/_, _%_, _≤_, _<_, zero-le, suc-le-suc}
-use native.Mathlib.Nat.{le-refl, le-trans, le-of-eq, le-of-suc-le-suc, not-suc-le-zero, not-le-of-lt, zero-lt-suc, mul-le-mul-right, le-of-mul-le-mul-right, mul-pos, zero-mul, lt-of-lt-of-le, div-mul-le-self, le-div-iff-mul-le}
+use mathlib.Core.Path.{_≡_, refl, sym, ap, _∙_}
+use Prim.Native.Nat.{ℕ, zero, suc, _-_, _*_, _/_, _≤_, _<_, zero-le, suc-le-suc}
+use native.Mathlib.Nat.{le-trans, le-of-suc-le-suc, not-suc-le-zero, zero-lt-suc, mul-le-mul-right, le-of-mul-le-mul-right, mul-pos, zero-mul, div-mul-le-self, le-div-iff-mul-le}
 use native.Mathlib.Omega.{arith}
 use mathlib.Core.Bool.{Bool, true, false, cond}
 use lib.IntN.{ℤ, pos, negsuc, negℤ, negℤ-negℤ, _*ℤ_, *ℤ-zero, *ℤ-negsuc}

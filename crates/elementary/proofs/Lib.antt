@@ -23,3 +23,6 @@ pub mod Carried
 pub mod Floor
 pub mod Ordered
 pub mod Rises
+pub mod CommonDenominator
+pub mod Sums
+pub mod Products

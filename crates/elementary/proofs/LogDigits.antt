@@ -1,12 +1,12 @@
 -- The log word of q * 2^k units of the smallest double, by q's highest digit: what `log_of_parts` computes. Assumes nothing.
-use mathlib.Core.Path.{_≡_, refl, sym, ap, ap₂, _∙_, subst}
-use Prim.Native.Nat.{ℕ, zero, suc, pred, _+_, _-_, _*_, _/_, _%_, _^_, _≤_, _<_}
-use native.Mathlib.Nat.{le-refl, le-trans, le-of-eq, le-of-lt, lt-of-lt-of-le, lt-of-not-le, not-le-of-lt, mul-assoc, mul-comm, mul-right-comm, mul-le-mul-right, mul-div-cancel, mul-div-mul-right, suc-add, suc-mul, suc-pred-eq-of-pos, mul-pos, le-mul-of-pos-right, zero-lt-suc, le-add-left}
+use mathlib.Core.Path.{_≡_, sym, ap, ap₂, _∙_, subst}
+use Prim.Native.Nat.{ℕ, suc, pred, _+_, _-_, _*_, _/_, _%_, _^_, _≤_, _<_}
+use native.Mathlib.Nat.{le-trans, le-of-eq, lt-of-lt-of-le, lt-of-not-le, not-le-of-lt, mul-assoc, mul-right-comm, mul-le-mul-right, mul-div-cancel, mul-div-mul-right, suc-add, suc-mul, suc-pred-eq-of-pos}
 use native.Mathlib.Numerals.{sub-one}
 use native.Mathlib.Omega.{arith}
 use mathlib.Core.Bool.{Bool, true, false, cond}
-use lib.IntN.{ℤ, pos, negsuc, negℤ, subℕ, _+ℤ_, _*ℤ_}
-use lib.Dec.{T, leb, ltb, le→leb, lt→ltb, lit≤}
+use lib.IntN.{pos, negsuc, negℤ, subℕ, _+ℤ_, _*ℤ_}
+use lib.Dec.{leb, ltb, le→leb, lt→ltb, lit≤}
 use lib.Count.{leadingZeros, leading-top}
 use lib.Arith.{digits-div, digits-mod, lt→nleb}
 use lib.Pow.{pow-add, pow-pos, pow-mono, shl-lt, shl-exact}
@@ -14,7 +14,7 @@ use lib.Ieee.{size, minus}
 use lib.Ieee.Bits.{is-true, is-false}
 use Rattle.elementary.specs.declared.word.Word.{Word}
 use Rattle.elementary.specs.Whole.{asWord}
-use Rattle.elementary.specs.Log.{exponentOf, mantissaOf, logBits, wordOfUnits}
+use Rattle.elementary.specs.Log.{mantissaOf, logBits, wordOfUnits}
 use Rattle.elementary.proofs.Pattern.{size-is}
 use Rattle.elementary.proofs.Range.{Mantissa}
 

@@ -1,9 +1,9 @@
 -- The log word and the antilog as a whole keep the order, over any number of places: a greater double never has a smaller word, and a greater word never
 -- a smaller antilog, subnormals and infinity included. Assumes nothing.
-use mathlib.Core.Path.{_≡_, refl, sym, ap, ap₂, _∙_, subst}
+use mathlib.Core.Path.{_≡_, sym, ap, _∙_, subst}
 use mathlib.Core.Logic.{_⊎_, inl, inr}
-use Prim.Native.Nat.{ℕ, zero, suc, _+_, _-_, _*_, _/_, _%_, _^_, _≤_, _<_, suc-le-suc}
-use native.Mathlib.Nat.{le-refl, le-trans, le-of-eq, eq-or-lt-of-le, add-mul, suc-mul, mul-comm, mul-assoc, mul-left-comm, mul-le-mul-left, mul-le-mul-right, mul-le-mul, one-mul, pow-succ', mod-lt, lt-of-not-le, not-le-of-lt}
+use Prim.Native.Nat.{ℕ, suc, _+_, _-_, _*_, _/_, _^_, _≤_, _<_, suc-le-suc}
+use native.Mathlib.Nat.{le-trans, le-of-eq, eq-or-lt-of-le, add-mul, suc-mul, mul-assoc, mul-le-mul-left, mul-le-mul-right, mul-le-mul, one-mul, pow-succ', mod-lt, lt-of-not-le, not-le-of-lt}
 use native.Mathlib.Decide.{decLe}
 use native.Mathlib.Omega.{arith}
 use mathlib.Core.Bool.{Bool, true, false, not, cond}
@@ -12,7 +12,7 @@ use lib.Dec.{T, leb, ltb, le→leb, lt→ltb, ltb→lt, nltb→le}
 use lib.Arith.{lt→nleb}
 use lib.Signed.{_≤ℤ_, _<ℤ_}
 use lib.Pow.{pow-pos, pow-mono}
-use lib.Ieee.{Float, binary64, up, down, size, minus, round, le}
+use lib.Ieee.{binary64, up, down, size, minus, le}
 use lib.Ieee.Bits.{is-true, is-false}
 use lib.Ieee.Fits.{down-pos}
 use lib.Ieee.Order.{round-mono}

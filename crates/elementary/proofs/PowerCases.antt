@@ -1,8 +1,8 @@
 -- The power of each kind of double, as the code tells them apart: the rule at an exponent of which it is known whether it is 3 or 4. Assumes nothing.
-use mathlib.Core.Path.{_≡_, refl, sym, ap, ap₂, _∙_}
-use mathlib.Core.Bool.{Bool, true, false, not, _&&_, cond}
-use Prim.Native.Nat.{ℕ, suc, _<_}
-use lib.IntN.{ℤ, pos}
+use mathlib.Core.Path.{_≡_, refl, sym, ap, _∙_}
+use mathlib.Core.Bool.{Bool, true, false, not, cond}
+use Prim.Native.Nat.{ℕ, _<_}
+use lib.IntN.{pos}
 use lib.Dec.{ltb, lt→ltb}
 use lib.Ieee.{Float, nan, inf, fin, neg, odd}
 use lib.Ieee.Bits.{is-true}

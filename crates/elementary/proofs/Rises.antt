@@ -3,27 +3,26 @@
 use mathlib.Core.Path.{_≡_, refl, sym, ap, subst, subst₂}
 use mathlib.Core.Logic.{_⊎_, inl, inr}
 use mathlib.Core.Bool.{Bool, true, false, not, _&&_, cond, and-false}
-use Prim.Native.Nat.{ℕ, zero, suc, _+_, _*_, _^_, _≤_, _<_}
+use Prim.Native.Nat.{ℕ, zero, suc, _*_, _^_, _≤_, _<_}
 use native.Mathlib.Nat.{zero-lt-suc}
-use lib.IntN.{ℤ, pos, negsuc, negℤ, _*ℤ_, _-ℤ_}
-use lib.Dec.{T, ltb, eqb, eqb→eq, lt→ltb, lit<}
+use lib.IntN.{ℤ, pos, negℤ, _*ℤ_, _-ℤ_}
+use lib.Dec.{T, eqb, eqb→eq, lt→ltb, lit<}
 use lib.Signed.{_≤ℤ_, ≤ℤ-refl}
 use lib.Pow.{pow-pos}
 use lib.Ieee.{Float, nan, inf, fin, binary64, up, down, ofBits, neg, fits, le, isNan}
 use lib.Ieee.Bits.{ofBits-fits}
-use lib.Ieee.Fits.{neg-fits}
+use lib.Ieee.Fits.{round-fits, cond-fits, neg-fits}
 use lib.Ieee.Positive.{above-of-le}
 use Rattle.elementary.specs.Whole.{signed, floorDiv, floorMod}
 use Rattle.elementary.specs.Nearest.{unitsOf, nearestRatio}
 use Rattle.elementary.specs.Log.{logWord}
 use Rattle.elementary.specs.Antilog.{antilogRoot, antilog}
-use Rattle.elementary.specs.Exponents.{Exponent, exponents, exponentAt, isThree}
-use Rattle.elementary.specs.Power.{positivePower, power, powerAt}
+use Rattle.elementary.specs.Exponents.{Exponent, exponentAt, isThree, isFour}
+use Rattle.elementary.specs.Power.{positivePower, infinityOrZero, power, powerAt}
 use Rattle.elementary.specs.Exp.{floorScaled, log2e, expTop, expBottom, expWithin, exp}
 use Rattle.elementary.specs.Ln.{ln2, ln}
 use Rattle.elementary.proofs.Integers.{le-of-pos, times-mono, times-anti, signed-times, floorDiv-mono}
-use Rattle.elementary.proofs.Units.{units-pos}
-use Rattle.elementary.proofs.Order.{count, count-of-le, number, numbers-of-le, unsigned, unsigned-cases, ordered-cases, lowest, highest, zero-below, below-infinity, neg-below-unsigned, neg-turns, le-trans-double}
+use Rattle.elementary.proofs.Order.{count-of-le, number, numbers-of-le, unsigned, ordered-cases, lowest, highest, zero-below, below-infinity, neg-below-unsigned, neg-turns, le-trans-double}
 use Rattle.elementary.proofs.Rounding.{round-unsigned, ratio-mono}
 use Rattle.elementary.proofs.PowerCases.{in-table}
 use Rattle.elementary.proofs.Ordered.{wordOfUnits-mono, antilog-mono}
@@ -139,6 +138,27 @@ power-rises p e h = subst (λ (b : Bool). RisesFromZero (power p (record { negat
 
 pub power-falls : (p : ℕ) (e : Exponent) → e .negative ≡ true → FallsFromZero (power p e)
 power-falls p e h = subst (λ (b : Bool). FallsFromZero (power p (record { negative = b; magnitude = e .magnitude }))) (sym h) (falls p (e .magnitude))
+
+-- every power is a double
+antilog-fits : (p : ℕ) (P : ℤ) → T (fits binary64 (antilog p P))
+unfolding antilog
+antilog-fits p P = let e : ℤ = floorDiv P (2 ^ p) -ℤ pos 62 in round-fits binary64 false (antilogRoot p (floorMod P (2 ^ p)) * up e) (down e)
+
+positive-fits : (p : ℕ) (q : Exponent) (x : Float) → T (fits binary64 (positivePower p q x))
+positive-fits p q x = antilog-fits p (floorDiv (logWord p x *ℤ signed (q .negative) (q .magnitude)) (2 ^ 58))
+
+pub power-fits : (p : ℕ) (q : Exponent) (x : Float) → T (fits binary64 (power p q x))
+unfolding power fits
+power-fits p q nan = tt
+power-fits p q (inf false) = cond-fits binary64 (q .negative) (fin false 0 (pos 0)) (inf false) tt tt
+power-fits p q (inf true) = cond-fits binary64 (isThree q) (inf true) (infinityOrZero (q .negative)) tt (cond-fits binary64 (q .negative) (fin false 0 (pos 0)) (inf false) tt tt)
+power-fits p q (fin s zero e) =
+    cond-fits binary64 (s && isThree q) (fin true 0 (pos 0)) (cond (q .negative) (inf false) (fin false 0 (pos 0))) tt (cond-fits binary64 (q .negative) (inf false) (fin false 0 (pos 0)) tt tt)
+power-fits p q (fin false (suc m) e) = positive-fits p q (fin false (suc m) e)
+power-fits p q (fin true (suc m) e) =
+    let x : Float = positivePower p q (fin false (suc m) e) in
+    let y : T (fits binary64 x) = positive-fits p q (fin false (suc m) e) in
+    cond-fits binary64 (isThree q) (neg x) (cond (isFour q) x nan) (neg-fits binary64 x y) (cond-fits binary64 (isFour q) x nan y tt)
 
 -- ---- the power 3, whose sign is the base's, over all doubles
 abbrev three : Exponent

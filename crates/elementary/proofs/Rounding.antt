@@ -1,14 +1,14 @@
 -- The rounding of a signed fraction keeps the order: the larger fraction rounds to a double that is no smaller, subnormals and infinities included.
 -- Assumes nothing.
 use mathlib.Core.Path.{_≡_, refl, sym, ap, _∙_, subst}
-use Prim.Native.Nat.{ℕ, zero, suc, _+_, _*_, _/_, _^_, _≤_, _<_}
+use Prim.Native.Nat.{ℕ, zero, suc, _+_, _*_, _^_, _≤_, _<_}
 use native.Mathlib.Nat.{mul-pos, zero-lt-suc}
 use mathlib.Core.Bool.{Bool, true, false, cond}
-use lib.IntN.{ℤ, pos, negsuc, negℤ, _*ℤ_}
+use lib.IntN.{ℤ, pos, negsuc, _*ℤ_}
 use lib.Dec.{T, ltb}
 use lib.Signed.{_≤ℤ_}
-use lib.Ieee.{Float, nan, inf, fin, Format, binary64, prec, emax, low, size, nearest, odd, units, round, neg, le}
-use lib.Ieee.Fits.{core, round-is}
+use lib.Ieee.{Float, inf, Format, binary64, prec, emax, low, odd, units, round, neg, le}
+use lib.Ieee.Fits.{round-is}
 use lib.Ieee.Order.{round-mono}
 use Rattle.elementary.specs.Nearest.{nearestRatio}
 use Rattle.elementary.proofs.Integers.{le-of-pos, not-below-neg, le-of-opposites}

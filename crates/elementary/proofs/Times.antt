@@ -2,7 +2,7 @@
 -- And the signed whole numbers that the two signs of a word stand for. Assumes nothing.
 use mathlib.Core.Path.{_≡_, refl, sym, ap, _∙_, subst}
 use Prim.Native.Nat.{ℕ, zero, suc, pred, _+_, _-_, _*_, _/_, _%_, _^_, _≤_, _<_, zero-le}
-use native.Mathlib.Nat.{add-assoc, add-comm, add-left-comm, mul-assoc, mul-comm, mul-left-comm, mul-right-comm, add-mul, mul-suc, suc-mul, add-suc, div-add-mod', mul-add-div-right, mul-add-mod-self-right, div-div-eq-div-mul, suc-pred-eq-of-pos, add-zero, not-suc-le-zero, le-refl, lt-of-lt-of-le, lt-of-le-of-lt, le-of-lt, le-of-suc-le-suc, mul-le-mul, mod-lt, div-lt-iff-lt-mul}
+use native.Mathlib.Nat.{add-assoc, mul-right-comm, add-mul, suc-mul, add-suc, div-add-mod', mul-add-div-right, mul-add-mod-self-right, div-div-eq-div-mul, suc-pred-eq-of-pos, add-zero, not-suc-le-zero, le-refl, lt-of-lt-of-le, lt-of-le-of-lt, le-of-lt, le-of-suc-le-suc, mul-le-mul, mod-lt, div-lt-iff-lt-mul}
 use native.Mathlib.Numerals.{sub-one}
 use native.Mathlib.Omega.{arith}
 use mathlib.Core.Bool.{Bool, true, false, cond}

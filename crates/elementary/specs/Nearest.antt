@@ -2,7 +2,7 @@
 -- as IEEE 754, by the logic's own `round`. Definitions only.
 use Prim.Native.Nat.{ℕ, suc, _*_, _/_, _^_}
 use lib.IntN.{ℤ, pos, negsuc}
-use mathlib.Core.Bool.{Bool, true, false}
+use mathlib.Core.Bool.{true, false}
 use lib.Ieee.{Float, nan, inf, fin, binary64, up, down, round}
 
 -- the size of a finite double, as a count of the smallest positive double, 2 ^ -1074; every double is a whole count

@@ -1,7 +1,7 @@
 -- Document 01, "Power", with p places for its 52. Definitions only.
 use Prim.Native.Nat.{ℕ, zero, suc, _^_}
 use mathlib.Core.Bool.{Bool, true, false, _&&_, cond}
-use lib.IntN.{ℤ, pos, _*ℤ_}
+use lib.IntN.{pos, _*ℤ_}
 use lib.Dec.{ltb}
 use lib.Ieee.{Float, nan, inf, fin, neg}
 use Rattle.elementary.specs.Whole.{signed, floorDiv}

@@ -1,9 +1,8 @@
 -- `atmosphere::layers::calculate_icao_standard_atmosphere` meets its contract. Assumes nothing.
-use mathlib.Core.Path.{_≡_, ap, _∙_}
 use native.Mathlib.Omega.{arith}
 use Prim.Native.Nat.{_<_}
 use borrow.Author.Needs.{needs}
-use Rattle.atmosphere.specs.Layers.{layers, layerAt, standardAir}
+use Rattle.atmosphere.specs.Layers.{layers, standardAir}
 use Rattle.atmosphere.proofs.LayerNumber.{layer-lt}
 use Rattle.atmosphere.proofs.layers.calculate_icao_standard_atmosphere.Statement.{statement}
 use Rattle.atmosphere.proofs.layers.calculate_icao_standard_atmosphere.Tie as tie

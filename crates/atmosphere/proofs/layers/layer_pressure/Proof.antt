@@ -6,9 +6,9 @@ use Prim.Native.Nat.{ℕ, zero, suc, _<_}
 use native.Mathlib.Omega.{arith}
 use borrow.Author.Needs.{needs}
 use lib.ListN.{getD}
-use lib.Ieee.{Float, ofBits, neg, mul, div, lt}
+use lib.Ieee.{Float, ofBits, neg, lt}
 use Rattle.elementary.specs.Operators.{_⊗_, _⊘_}
-use Rattle.elementary.specs.Exponents.{exponents, ofDouble}
+use Rattle.elementary.specs.Exponents.{ofDouble}
 use Rattle.elementary.specs.Power.{power, powerAt}
 use Rattle.atmosphere.specs.Doubles.{absDouble}
 use Rattle.atmosphere.specs.Layers.{g₀, R, layers, basePressure, gradient, negligible, isothermal, isothermalPressure, gradientPressure, layerPressure}

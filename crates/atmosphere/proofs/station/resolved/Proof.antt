@@ -1,9 +1,8 @@
 -- `atmosphere::station::resolved` meets its contract: each answer is the one that its tests pick. Assumes nothing.
 use mathlib.Core.Path.{_≡_, sym, ap, ap₂, _∙_}
-use mathlib.Core.Bool.{Bool, true, false, _&&_, cond}
+use mathlib.Core.Bool.{Bool, _&&_, cond}
 use borrow.Author.Needs.{needs}
 use lib.Ieee.{Float, lt}
-use Rattle.atmosphere.specs.declared.station.Reading.{Reading}
 use Rattle.atmosphere.specs.declared.station.Reading.the-variants.{Given, FromLayer}
 use Rattle.atmosphere.specs.Doubles.{absDouble}
 use Rattle.atmosphere.specs.Saturation.{one}

@@ -1,6 +1,6 @@
 -- `elementary::antilog::antilog` meets its contract: the digits above the point scale the root of those below it. Assumes nothing.
 use mathlib.Core.Path.{_≡_, refl, sym, ap, ap₂, _∙_}
-use mathlib.Core.Bool.{Bool, true, false, cond}
+use mathlib.Core.Bool.{Bool, false, cond}
 use Prim.Native.Nat.{ℕ, suc, _+_, _-_, _*_, _/_, _%_, _^_, _≤_, _<_}
 use native.Mathlib.Nat.{mul-one}
 use native.Mathlib.Omega.{arith}
@@ -8,7 +8,7 @@ use borrow.Author.Needs.{needs}
 use lib.IntN.{ℤ, pos, negsuc, _-ℤ_}
 use lib.Dec.{ltb, lt→ltb}
 use lib.Arith.{le→nltb}
-use lib.Ieee.{Float, binary64, round}
+use lib.Ieee.{binary64, round}
 use lib.Ieee.Bits.{is-true, is-false}
 use Rattle.elementary.specs.Whole.{floorDiv, floorMod, digits}
 use Rattle.elementary.specs.Nearest.{nearestScaled, nearestRatio}

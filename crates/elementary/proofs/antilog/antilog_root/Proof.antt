@@ -1,6 +1,6 @@
 -- `elementary::antilog::antilog_root` meets its contract. The invariant: y is the root for the bits below the place, and the rest are the bits from there on.
 -- The measure is the number of places that remain. Assumes nothing.
-use mathlib.Core.Path.{_≡_, refl, sym, ap, ap₂, _∙_, subst}
+use mathlib.Core.Path.{_≡_, refl, sym, ap, ap₂, _∙_}
 use Prim.Native.Nat.{ℕ, suc, _+_, _-_, _*_, _/_, _%_, _^_, _≤_, _<_}
 use native.Mathlib.Nat.{div-one, mod-eq-of-lt, mul-div-mul-right, div-add-mod'}
 use native.Mathlib.Numerals.{one-add, add-one}

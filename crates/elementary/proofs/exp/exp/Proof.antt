@@ -10,7 +10,7 @@ use lib.Ieee.{Float, nan, inf, fin, binary64, ofBits, neg, odd, fits, le, isNan}
 use lib.Ieee.Bits.{is-true}
 use Rattle.elementary.specs.declared.nearest.Parts.the-variants.{Finite}
 use Rattle.elementary.specs.declared.word.Word.{Word}
-use Rattle.elementary.specs.Whole.{signed, floorDiv, wordValue, asWord}
+use Rattle.elementary.specs.Whole.{signed, floorDiv, wordValue}
 use Rattle.elementary.specs.Nearest.{unitsOf}
 use Rattle.elementary.specs.Parts.{TakenApart, Digits}
 use Rattle.elementary.specs.Power.{infinityOrZero}
@@ -18,7 +18,7 @@ use Rattle.elementary.specs.Antilog.{antilog}
 use Rattle.elementary.specs.Exp.{log2e, expTop, expBottom, expWithin, exp}
 use Rattle.elementary.proofs.Integers.{pos-le, opposites}
 use Rattle.elementary.proofs.Order.{le-of-count}
-use Rattle.elementary.proofs.Parts.{told, signed-parts, finite-of-parts, units-of-parts, parts-fit}
+use Rattle.elementary.proofs.Parts.{told, finite-of-parts, units-of-parts, parts-fit}
 use Rattle.elementary.proofs.Times.{word-value, part-lt}
 use Rattle.elementary.proofs.exp.exp.Statement.{statement}
 use Rattle.elementary.proofs.exp.exp.Tie as tie

@@ -1,13 +1,13 @@
 -- `elementary::exp::floor_word` meets its contract: the shifted words hold floor(x * 2^52), or for a negative x what -(a + 1) leaves of it (`Floor`).
 -- Assumes nothing.
-use mathlib.Core.Path.{_≡_, refl, sym, ap, ap₂, _∙_, subst}
+use mathlib.Core.Path.{_≡_, refl, sym, ap, _∙_, subst}
 use mathlib.Core.Bool.{Bool, true, false}
 use mathlib.Core.Logic.{⊎-elim}
-use Prim.Native.Nat.{ℕ, _+_, _-_, _*_, _/_, _%_, _^_, _≤_, _<_}
+use Prim.Native.Nat.{ℕ, _+_, _-_, _*_, _/_, _%_, _^_, _<_}
 use native.Mathlib.Nat.{le-refl, sub-le, add-zero}
 use native.Mathlib.Omega.{arith}
 use borrow.Author.Needs.{needs}
-use lib.IntN.{ℤ, pos, negsuc}
+use lib.IntN.{ℤ}
 use Rattle.wide.specs.declared.words.Wide.{Wide}
 use Rattle.wide.specs.Value.{value}
 use Rattle.elementary.specs.declared.word.Word.{Word}

@@ -1,9 +1,9 @@
 -- `elementary::ln::ln` meets its contract, kind by kind of a double. Assumes nothing.
-use mathlib.Core.Path.{_≡_, refl, sym, ap, _∙_}
+use mathlib.Core.Path.{_≡_, sym, ap, _∙_}
 use mathlib.Core.Bool.{Bool, true, false}
 use Prim.Native.Nat.{ℕ}
 use borrow.Author.Needs.{needs}
-use lib.Ieee.{Float, nan, inf, binary64, ofBits, nanBits, div, odd}
+use lib.Ieee.{Float, nan, inf, ofBits, nanBits, div, odd}
 use Rattle.elementary.specs.declared.nearest.Parts.the-variants.{Infinite, Finite}
 use Rattle.elementary.specs.Parts.{TakenApart}
 use Rattle.elementary.specs.Ln.{lnPositive, ln}

@@ -6,7 +6,7 @@ use native.Mathlib.Numerals.{add-one}
 use native.Mathlib.Omega.{arith}
 use borrow.Author.Needs.{needs}
 use lib.IntN.{pos, negsuc}
-use lib.Ieee.{binary64, neg, round}
+use lib.Ieee.{binary64, neg}
 use Rattle.elementary.specs.Whole.{digits}
 use Rattle.elementary.specs.Nearest.{nearestRatio}
 use Rattle.elementary.proofs.Rounding.{round-opposite}
