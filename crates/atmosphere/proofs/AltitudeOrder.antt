@@ -14,7 +14,7 @@ use Rattle.elementary.proofs.Order.{number}
 use Rattle.elementary.proofs.Rises.{Rises, FallsFromZero, power-rises, power-fits}
 use Rattle.elementary.proofs.Sums.{add-comm-double, sum-keeps, sub-falls}
 use Rattle.elementary.proofs.Products.{mul-by-rises, div-rises}
-use Rattle.atmosphere.specs.Saturation.{one}
+use Rattle.humid_air.specs.Saturation.{one}
 use Rattle.atmosphere.specs.Station.{standardPressure}
 use Rattle.atmosphere.specs.Altitudes.{nwsAltitude, standardFahrenheit, feetPerDegree, faaDensityAltitude}
 

@@ -10,8 +10,8 @@ use Rattle.elementary.specs.Operators.{_⊗_, _⊘_}
 use Rattle.elementary.specs.Exponents.{ofDouble}
 use Rattle.elementary.specs.Power.{power, powerAt}
 use Rattle.elementary.specs.Exp.{exp}
-use Rattle.atmosphere.specs.Doubles.{absDouble}
-use Rattle.atmosphere.specs.Saturation.{one}
+use Rattle.humid_air.specs.Doubles.{absDouble}
+use Rattle.humid_air.specs.Saturation.{one}
 use Rattle.atmosphere.specs.Layers.{layers}
 use Rattle.atmosphere.specs.Altitudes.{across, heightIn, pressureExponent, temperatureExponent, chainedPressure, densityExponent, chainedRatio}
 

@@ -1,5 +1,4 @@
 -- The laws of the definitions, a file for each idea.
-pub mod NotANumber
 pub mod LayerNumber
 pub mod LayerFrom
 pub mod Chained

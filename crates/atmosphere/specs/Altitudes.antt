@@ -9,10 +9,11 @@ use Rattle.elementary.specs.Exponents.{ofDouble}
 use Rattle.elementary.specs.Power.{power}
 use Rattle.elementary.specs.Exp.{exp}
 use Rattle.elementary.specs.Ln.{ln}
+use Rattle.humid_air.specs.Saturation.{one}
+use Rattle.humid_air.specs.MoistAir.{hundred, nought}
+use Rattle.humid_air.specs.Sound.{R}
 use Rattle.atmosphere.specs.declared.station.Reading.the-variants.{Given}
-use Rattle.atmosphere.specs.Saturation.{one}
-use Rattle.atmosphere.specs.MoistAir.{hundred, nought}
-use Rattle.atmosphere.specs.Layers.{g₀, R, lowestHeight, baseHeight, baseTemperature, basePressure, gradient, isothermal}
+use Rattle.atmosphere.specs.Layers.{g₀, lowestHeight, baseHeight, baseTemperature, basePressure, gradient, isothermal}
 use Rattle.atmosphere.specs.Station.{standardPressure, standardTemperature, atmosphere}
 
 -- ---- National Weather Service, "Pressure Altitude" (weather.gov/media/epz/wxcalc/pressureAltitude.pdf), of a station pressure p in hPa

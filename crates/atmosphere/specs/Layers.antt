@@ -9,17 +9,14 @@ use Rattle.elementary.specs.Operators.{_⊕_, _⊖_, _⊗_, _⊘_}
 use Rattle.elementary.specs.Exponents.{ofDouble}
 use Rattle.elementary.specs.Power.{power}
 use Rattle.elementary.specs.Exp.{exp}
+use Rattle.humid_air.specs.Doubles.{clampDouble, absDouble}
+use Rattle.humid_air.specs.Sound.{R}
 use Rattle.atmosphere.specs.declared.layers.StandardAir.{StandardAir}
-use Rattle.atmosphere.specs.Doubles.{clampDouble, absDouble}
 
--- ---- Doc 7488, primary constants
+-- ---- Doc 7488, primary constants; R, the specific gas constant of dry air, is that of the speed of sound
 -- g₀, the standard acceleration of free fall: 9.80665 m/s²
 abbrev pub g₀ : Float
 g₀ = ofBits binary64 0x40239d013a92a305
-
--- R, the specific gas constant of dry air: 287.0531 J/(kg K)
-abbrev pub R : Float
-R = ofBits binary64 0x4071f0d97f62b6ae
 
 -- r, the nominal radius of the Earth: 6,356,766 m
 abbrev pub r : Float

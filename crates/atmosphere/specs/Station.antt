@@ -5,13 +5,13 @@ use mathlib.Core.Bool.{Bool, _&&_, cond}
 use lib.Ieee.{Float, binary64, ofBits, lt}
 use Rattle.elementary.specs.Operators.{_⊕_, _⊖_, _⊗_, _⊘_}
 use Rattle.elementary.specs.Power.{powerAt}
+use Rattle.humid_air.specs.Doubles.{clampDouble, absDouble}
+use Rattle.humid_air.specs.Saturation.{one}
+use Rattle.humid_air.specs.MoistAir.{icePoint, nought, hundred, airDensity}
+use Rattle.humid_air.specs.Sound.{soundSpeed}
 use Rattle.atmosphere.specs.declared.station.Reading.{Reading}
 use Rattle.atmosphere.specs.declared.station.Reading.the-variants.{Given, FromLayer}
 use Rattle.atmosphere.specs.declared.station.Air.{Air}
-use Rattle.atmosphere.specs.Doubles.{clampDouble, absDouble}
-use Rattle.atmosphere.specs.Saturation.{one}
-use Rattle.atmosphere.specs.MoistAir.{icePoint, nought, hundred, airDensity}
-use Rattle.atmosphere.specs.Sound.{soundSpeed}
 use Rattle.atmosphere.specs.Layers.{baseTemperature, basePressure, gradient, standardHeight, standardAir}
 
 -- ---- the default bands: within 0.5 hPa of 1013.25 hPa, and within 0.1 °C of 15 °C

@@ -6,29 +6,29 @@ ghost use lib.ListN.{getD};
 ghost use lib.Ieee.{nan};
 ghost use Rattle.elementary.specs.Power.{powerAt};
 ghost use Rattle.atmosphere.specs.Altitudes.{nwsAltitude, faaDensityAltitude, layerFrom, heightIn, heightOfPressure, pressureAltitude, heightOfRatio, densityAltitude};
-use super::doubles::abs;
 use super::layers::G_ACCEL_MPS2;
 use super::layers::ICAO_LAYERS;
-use super::layers::R_AIR;
 use super::station::Reading;
 use super::station::calculate_atmosphere;
 use elementary::ln::ln;
 use elementary::power::power;
+use humid_air::doubles::abs;
+use humid_air::humid::R_AIR;
 
-const DA_NWS_SEA_LEVEL_HPA: f64 = 1013.25;
+pub const DA_NWS_SEA_LEVEL_HPA: f64 = 1013.25;
 
-const DA_NWS_PRESSURE_ALT_FT: f64 = 145_366.45;
+pub const DA_NWS_PRESSURE_ALT_FT: f64 = 145_366.45;
 
 // the number of the exponent 0.190284 in elementary's table
-const DA_NWS_EXPONENT: usize = 11;
+pub const DA_NWS_EXPONENT: usize = 11;
 
-const DA_NWS_SEA_LEVEL_TEMP_F: f64 = 59.0;
+pub const DA_NWS_SEA_LEVEL_TEMP_F: f64 = 59.0;
 
-const DA_NWS_LAPSE_F_PER_1000FT: f64 = 3.57;
+pub const DA_NWS_LAPSE_F_PER_1000FT: f64 = 3.57;
 
-const DA_FAA_RULE_FT_PER_DEG_F: f64 = 120.0 * 5.0 / 9.0;
+pub const DA_FAA_RULE_FT_PER_DEG_F: f64 = 120.0 * 5.0 / 9.0;
 
-const DA_FT_TO_M: f64 = 0.3048;
+pub const DA_FT_TO_M: f64 = 0.3048;
 
 const LOWEST_PRESSURE_ALTITUDE_M: f64 = -5000.0;
 

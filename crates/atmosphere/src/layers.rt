@@ -3,14 +3,13 @@
 ghost use mathlib.Core.Path.{_≡_};
 ghost use Prim.Native.Nat.{_<_};
 ghost use Rattle.atmosphere.specs.Layers.{geopotentialHeight, standardHeight, layerAt, layerPressure, standardAir};
-use super::doubles::abs;
-use super::doubles::clamp;
 use elementary::exp::exp;
 use elementary::power::power;
+use humid_air::doubles::abs;
+use humid_air::doubles::clamp;
+use humid_air::humid::R_AIR;
 
 pub(crate) const G_ACCEL_MPS2: f64 = 9.80665;
-
-pub(crate) const R_AIR: f64 = 287.0531;
 
 const GEOPOTENTIAL_EARTH_RADIUS_M: f64 = 6_356_766.0;
 

@@ -2,13 +2,13 @@
 // sound speed.
 ghost use mathlib.Core.Path.{_≡_};
 ghost use Rattle.atmosphere.specs.Station.{inPressureBand, inTemperatureBand, resolved, stationPressure, stationTemperature, reducedQnh, airOf, atmosphere};
-use super::doubles::abs;
-use super::doubles::clamp;
-use super::humid::calculate_air_density_cimp;
-use super::humid::moist_speed_of_sound;
 use super::layers::calculate_icao_standard_atmosphere;
 use super::layers::standard_geopotential_height_m;
 use elementary::power::power;
+use humid_air::doubles::abs;
+use humid_air::doubles::clamp;
+use humid_air::humid::calculate_air_density_cimp;
+use humid_air::humid::moist_speed_of_sound;
 
 // A temperature or a pressure that is given, or taken from the standard atmosphere's layer.
 pub enum Reading {

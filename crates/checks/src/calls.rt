@@ -1,4 +1,4 @@
-// The functions of `atmosphere`, called by number with a line's inputs, and their answers compared
+// The functions of `atmosphere` and `density_altitude`, called by number with a line's inputs, and their answers compared
 // with the line's. A number of another module agrees with nothing. `oracle/README.md` has the numbers.
 use crate::double::double;
 use crate::double::same;
@@ -9,17 +9,6 @@ use atmosphere::altitudes::nws_pressure_altitude_ft;
 use atmosphere::altitudes::pressure_altitude_m;
 use atmosphere::altitudes::standard_altitude_above_tropopause_m;
 use atmosphere::altitudes::standard_pressure_altitude_m;
-use atmosphere::humid::calculate_air_density_cimp;
-use atmosphere::humid::capped_vapor_mole_fraction;
-use atmosphere::humid::enhanced_compressibility_factor;
-use atmosphere::humid::enhanced_enhancement_factor;
-use atmosphere::humid::enhanced_saturation_vapor_pressure;
-use atmosphere::humid::moist_air_vapor_mole_fraction;
-use atmosphere::humid::moist_molar_mass_ratio;
-use atmosphere::humid::moist_sound_speed_at_mole_fraction;
-use atmosphere::humid::moist_speed_of_sound;
-use atmosphere::humid::vapor_mole_fraction;
-use atmosphere::humid::water_vapor_mole_fraction_uncapped;
 use atmosphere::layers::calculate_icao_standard_atmosphere;
 use atmosphere::layers::geometric_to_geopotential_height_m;
 use atmosphere::station::Reading;
@@ -29,6 +18,21 @@ use atmosphere::station::in_legacy_default_temperature_band;
 use atmosphere::station::reduce_qnh_to_station_pressure;
 use atmosphere::station::resolve_station_pressure;
 use atmosphere::station::resolve_station_temperature;
+use density_altitude::inverse::Answer;
+use density_altitude::inverse::Station;
+use density_altitude::inverse::resolve_atmosphere_for_density_altitude;
+use density_altitude::inverse::station_for_density_altitude;
+use humid_air::humid::calculate_air_density_cimp;
+use humid_air::humid::capped_vapor_mole_fraction;
+use humid_air::humid::enhanced_compressibility_factor;
+use humid_air::humid::enhanced_enhancement_factor;
+use humid_air::humid::enhanced_saturation_vapor_pressure;
+use humid_air::humid::moist_air_vapor_mole_fraction;
+use humid_air::humid::moist_molar_mass_ratio;
+use humid_air::humid::moist_sound_speed_at_mole_fraction;
+use humid_air::humid::moist_speed_of_sound;
+use humid_air::humid::vapor_mole_fraction;
+use humid_air::humid::water_vapor_mole_fraction_uncapped;
 
 pub(crate) fn layers_agrees(line: &[u8; 153]) -> bool {
     let altitude = double(word(line, 1));
@@ -147,5 +151,50 @@ pub(crate) fn altitudes_agrees(line: &[u8; 153]) -> bool {
         ),
         0x18 => same(standard_altitude_above_tropopause_m(x), answer),
         _ => false,
+    }
+}
+
+pub(crate) fn inverse_agrees(line: &[u8; 153]) -> bool {
+    if !is_reading(word(line, 2), word(line, 3)) {
+        return false;
+    }
+    let d = double(word(line, 1));
+    let temperature = reading(word(line, 2), word(line, 3));
+    match word(line, 0) {
+        0x19 => {
+            let station = resolve_atmosphere_for_density_altitude(d, temperature);
+            figures_agree(station, word(line, 4), word(line, 5), word(line, 6))
+        }
+        0x1a => answer_agrees(line, station_for_density_altitude(d, temperature)),
+        _ => false,
+    }
+}
+
+fn figures_agree(station: Station, altitude: u64, temperature: u64, pressure: u64) -> bool {
+    same(station.altitude_m, altitude)
+        && same(station.temperature_c, temperature)
+        && same(station.pressure_hpa, pressure)
+}
+
+// An answer is 0 and the figures, or a refusal's number, its value, its altitude and 0.
+fn answer_agrees(line: &[u8; 153], answer: Answer) -> bool {
+    let number = word(line, 4);
+    let value = word(line, 5);
+    let altitude = word(line, 6);
+    let last = word(line, 7);
+    match answer {
+        Answer::Station(station) => { number == 0 && figures_agree(station, value, altitude, last) }
+        Answer::DensityAltitudeNotFinite(d) => {
+            number == 1 && same(d, value) && altitude == 0 && last == 0
+        }
+        Answer::TemperatureNotFinite(t) => {
+            number == 2 && same(t, value) && altitude == 0 && last == 0
+        }
+        Answer::TemperatureTooLow(t) => {
+            number == 3 && same(t, value) && altitude == 0 && last == 0
+        }
+        Answer::NoAir(d, resolved) => {
+            number == 4 && same(d, value) && same(resolved, altitude) && last == 0
+        }
     }
 }

@@ -1,11 +1,11 @@
-// Replays the lists of `data/` through the functions of `elementary` and `atmosphere`, and says of each list how
+// Replays the lists of `data/` through our functions, and says of each list how
 // many lines it has and how many of them differ from our answers. `vectors/README.md` says where
 // the lists come from. A line that is not in its list's form counts as one that differs.
 mod calls;
 mod double;
+mod figures;
 mod line;
 mod list;
-mod published;
 mod source;
 mod word;
 
@@ -31,7 +31,9 @@ fn main() {
     replay(b"source_humid.txt", List::Source(Part::Humid));
     replay(b"source_station.txt", List::Source(Part::Station));
     replay(b"source_altitudes.txt", List::Source(Part::Altitudes));
+    replay(b"source_inverse.txt", List::Source(Part::Inverse));
     replay(b"published.txt", List::Ends(Function::Figure));
+    replay(b"round_trips.txt", List::Ends(Function::Figure));
 }
 
 // Prints what came of one list. Where it cannot be opened, that is printed, and the run goes on.

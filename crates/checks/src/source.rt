@@ -2,18 +2,20 @@
 ghost use Prim.Native.Nat.{_≤_};
 use crate::calls::altitudes_agrees;
 use crate::calls::humid_agrees;
+use crate::calls::inverse_agrees;
 use crate::calls::layers_agrees;
 use crate::calls::station_agrees;
 use crate::line::is_line;
 use crate::line::word;
 use crate::list::Outcome;
 
-// The module of `atmosphere` that a list is of.
+// The functions that a list is of.
 pub enum Part {
     Layers,
     Humid,
     Station,
     Altitudes,
+    Inverse,
 }
 
 pub(crate) fn next_line(fd: i32, part: Part) -> Outcome {
@@ -41,6 +43,8 @@ fn words(number: u64) -> usize
         0x01 | 0x03 | 0x0b | 0x12 | 0x16 => 4,
         0x04 | 0x07 | 0x08 | 0x0a | 0x0c | 0x10 | 0x11 | 0x17 => 5,
         0x05 => 6,
+        0x19 => 7,
+        0x1a => 8,
         0x0d => 9,
         _ => 1,
     }
@@ -52,5 +56,6 @@ fn agrees(line: &[u8; 153], part: Part) -> bool {
         Part::Humid => humid_agrees(line),
         Part::Station => station_agrees(line),
         Part::Altitudes => altitudes_agrees(line),
+        Part::Inverse => inverse_agrees(line),
     }
 }

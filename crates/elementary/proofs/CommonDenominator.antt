@@ -30,7 +30,7 @@ beneath true a = a
 abbrev pub AtMost : Bool → ℕ → Bool → ℕ → Type 0
 AtMost s a t b = above s a + beneath t b ≤ above t b + beneath s a
 
-at-most : (s t : Bool) (a b : ℕ) → signed s a ≤ℤ signed t b → AtMost s a t b
+pub at-most : (s t : Bool) (a b : ℕ) → signed s a ≤ℤ signed t b → AtMost s a t b
 unfolding above beneath
 at-most false false a b h = let l : a ≤ b = le-of-pos h in omega (arith, l)
 at-most false true a zero h = let l : a ≤ 0 = le-of-pos h in omega (arith, l)

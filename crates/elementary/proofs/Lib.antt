@@ -26,3 +26,10 @@ pub mod Rises
 pub mod CommonDenominator
 pub mod Sums
 pub mod Products
+pub mod Strict
+pub mod Differences
+pub mod Between
+pub mod PowersApart
+pub mod Near
+pub mod Counts
+pub mod Apart

@@ -37,7 +37,7 @@ at-most a b e same h = elim (or-cases (ltb a b) (e && true) h) [ inl l ↦ le-of
 is-at-most : (a b : ℕ) (e : Bool) → (a ≡ b → T e) → a ≤ b → T (ltb a b || (e && true))
 is-at-most a b e same h = elim (eq-or-lt-of-le h) [ inl p ↦ or-right (ltb a b) (e && true) (and-i e true (same p) tt) | inr l ↦ or-left (ltb a b) (e && true) (lt→ltb a b l) ]
 
-signed-of-le : (s t : Bool) (a b : ℕ) → T (below s a t b || level s a t b) → signed s a ≤ℤ signed t b
+pub signed-of-le : (s t : Bool) (a b : ℕ) → T (below s a t b || level s a t b) → signed s a ≤ℤ signed t b
 signed-of-le false false a b h = pos-le (at-most a b (eqb a b) (eqb→eq a b) h)
 signed-of-le false true a b h =
     let same : a ≡ b = eqb→eq a b (and-l (eqb a b) (eqb a 0) h) in
@@ -46,7 +46,7 @@ signed-of-le false true a b h =
 signed-of-le true false a b h = neg-below a b
 signed-of-le true true a b h = opposites (at-most b a (eqb a b) (λ t. sym (eqb→eq a b t)) h)
 
-le-of-signed : (s t : Bool) (a b : ℕ) → signed s a ≤ℤ signed t b → T (below s a t b || level s a t b)
+pub le-of-signed : (s t : Bool) (a b : ℕ) → signed s a ≤ℤ signed t b → T (below s a t b || level s a t b)
 le-of-signed false false a b h = is-at-most a b (eqb a b) eq→eqb (le-of-pos h)
 le-of-signed false true zero zero h = tt
 le-of-signed false true (suc a) zero h = absurd (not-suc-le-zero (le-of-pos h))

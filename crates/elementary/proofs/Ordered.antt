@@ -8,12 +8,10 @@ use native.Mathlib.Decide.{decLe}
 use native.Mathlib.Omega.{arith}
 use mathlib.Core.Bool.{Bool, true, false, not, cond}
 use lib.IntN.{ℤ, pos, negsuc, _+ℤ_, _-ℤ_, _*ℤ_}
-use lib.Dec.{T, leb, ltb, le→leb, lt→ltb, ltb→lt, nltb→le}
-use lib.Arith.{lt→nleb}
+use lib.Dec.{T, ltb, lt→ltb, ltb→lt, nltb→le}
 use lib.Signed.{_≤ℤ_, _<ℤ_}
 use lib.Pow.{pow-pos, pow-mono}
 use lib.Ieee.{binary64, up, down, size, minus, le}
-use lib.Ieee.Bits.{is-true, is-false}
 use lib.Ieee.Fits.{down-pos}
 use lib.Ieee.Order.{round-mono}
 use Rattle.elementary.specs.Whole.{floorDiv, floorMod}
@@ -21,6 +19,7 @@ use Rattle.elementary.specs.Nearest.{nearestScaled}
 use Rattle.elementary.specs.Log.{mantissaOf, logBits, wordOfUnits}
 use Rattle.elementary.specs.Antilog.{antilogRoot, antilog}
 use Rattle.elementary.proofs.Integers.{le-of-pos, le-of-negsuc, div-mono, minus-mono}
+use Rattle.elementary.proofs.Differences.{minus-above, minus-below}
 use Rattle.elementary.proofs.Range.{Mantissa, logBits-lt, antilogRoot-mantissa}
 use Rattle.elementary.proofs.Monotone.{units-mono, antilogRoot-mono, remainder-mono}
 use Rattle.elementary.proofs.LogDigits.{word-above, word-below}
@@ -32,11 +31,11 @@ word-counted p s b B = go (decLe 1074 s)
     go : Dec (1074 ≤ s) → (minus s 1074 *ℤ pos (2 ^ p) +ℤ pos b) ≡ minus (s * 2 ^ p + b) (1074 * 2 ^ p)
     go (yes h) =
         let parts : s * 2 ^ p ≡ (s - 1074) * 2 ^ p + 1074 * 2 ^ p = ap (λ (x : ℕ). x * 2 ^ p) (omega arith) ∙ add-mul (s - 1074) 1074 (2 ^ p) in
-        word-above p s b h ∙ ap pos (omega arith) ∙ sym (ap (λ (t : Bool). cond t (pos (s * 2 ^ p + b - 1074 * 2 ^ p)) (negsuc (1074 * 2 ^ p - suc (s * 2 ^ p + b)))) (is-true (leb (1074 * 2 ^ p) (s * 2 ^ p + b)) (le→leb (1074 * 2 ^ p) (s * 2 ^ p + b) (omega arith))))
+        word-above p s b h ∙ ap pos (omega arith) ∙ sym (minus-above (s * 2 ^ p + b) (1074 * 2 ^ p) (omega arith))
     go (no h) =
         let below : s < 1074 = lt-of-not-le h in
         let parts : 1074 * 2 ^ p ≡ (1073 - s) * 2 ^ p + (s * 2 ^ p + 2 ^ p) = ap (λ (x : ℕ). x * 2 ^ p) (omega arith) ∙ add-mul (1073 - s) (suc s) (2 ^ p) ∙ ap (λ (x : ℕ). (1073 - s) * 2 ^ p + x) (suc-mul s (2 ^ p)) in
-        word-below p s b B below ∙ ap negsuc (omega arith) ∙ sym (ap (λ (t : Bool). cond t (pos (s * 2 ^ p + b - 1074 * 2 ^ p)) (negsuc (1074 * 2 ^ p - suc (s * 2 ^ p + b)))) (is-false (leb (1074 * 2 ^ p) (s * 2 ^ p + b)) (lt→nleb (1074 * 2 ^ p) (s * 2 ^ p + b) (omega arith))))
+        word-below p s b B below ∙ ap negsuc (omega arith) ∙ sym (minus-below (s * 2 ^ p + b) (1074 * 2 ^ p) (omega arith))
 
 abbrev pub biasedWord : ℕ → ℕ → ℕ
 biasedWord p n = (size n - 1) * 2 ^ p + logBits p (mantissaOf n)

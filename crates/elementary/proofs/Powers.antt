@@ -1,9 +1,9 @@
 -- Laws of powers and squares of natural numbers that the libraries do not state. Assumes nothing.
 use mathlib.Core.Path.{_≡_, sym, ap, _∙_}
 use Prim.Native.Nat.{ℕ, zero, suc, _+_, _*_, _^_, _≤_, _<_}
-use native.Mathlib.Nat.{le-trans, le-of-eq, le-of-lt, lt-of-le-of-lt, lt-of-not-le, not-le-of-lt, one-mul, suc-mul, mul-zero, mul-suc, mul-add, mul-assoc, mul-left-comm, mul-mul-mul-comm, mul-le-mul, mul-le-mul-left, mul-lt-mul-of-pos-right, le-of-mul-le-mul-right, pow-zero, pow-suc, pow-succ', two-pow-succ}
+use native.Mathlib.Nat.{le-trans, le-of-eq, le-of-lt, lt-of-le-of-lt, lt-of-not-le, not-le-of-lt, one-mul, suc-mul, mul-zero, mul-suc, mul-add, mul-assoc, mul-left-comm, mul-mul-mul-comm, mul-le-mul, mul-le-mul-left, mul-lt-mul-of-pos-right, le-of-mul-le-mul-right, pow-zero, pow-suc, pow-succ', pow-le-pow-left, two-pow-succ}
 use native.Mathlib.Omega.{arith}
-use lib.Pow.{pow-add}
+use lib.Pow.{pow-add, pow-mono}
 
 pub pow-one : (a : ℕ) → a ^ 1 ≡ a
 pow-one a = pow-suc a 0 ∙ ap (λ (x : ℕ). x * a) (pow-zero a) ∙ one-mul a
@@ -48,3 +48,39 @@ pub near-one-le-two : (n k : ℕ) → 0 < n → 2 * k ≤ n → suc n ^ k ≤ n 
 near-one-le-two n k z h =
     le-of-mul-le-mul-right
     (le-trans (near-one n k h) (le-trans (mul-le-mul-left (n ^ k) (omega arith)) (le-of-eq (sym (mul-assoc (n ^ k) 2 n))))) z
+
+-- ---- (1 + 1 / n) ^ k is at least 1 + k / n
+
+one-less : (n y : ℕ) → n ≤ y → n * suc y ≤ suc n * y
+one-less n y h = rw (suc-mul n y, mul-suc n y) (omega arith)
+
+far-one : (n k : ℕ) → n ^ k * (n + k) ≤ suc n ^ k * n
+far-one n zero = rw (pow-zero (suc n), pow-zero n) (omega arith)
+far-one n (suc k) =
+    let y : ℕ = n + k in
+    let next : n + suc k ≡ suc y = omega arith in
+    rw (pow-succ' (suc n) k, pow-suc n k, next, mul-assoc (suc n), mul-assoc (n ^ k))
+    (le-trans (mul-le-mul-left (n ^ k) (one-less n y (omega arith)))
+    (le-trans (le-of-eq (mul-left-comm (n ^ k) (suc n) y)) (mul-le-mul-left (suc n) (far-one n k))))
+
+-- ---- and over D times as many factors: at least 2 ^ D for k = n, and at most 2 ^ D where k is at most half of n
+
+two-each : (n k D : ℕ) → (n ^ k * 2) ^ D ≡ n ^ (k * D) * 2 ^ D
+two-each n k D = pow-product (n ^ k) 2 D ∙ ap (λ (x : ℕ). x * 2 ^ D) (pow-power n k D)
+
+pub two-each-le-next : (n D : ℕ) → 0 < n → n ^ (n * D) * 2 ^ D ≤ suc n ^ (n * D)
+two-each-le-next n D z =
+    let double : n + n ≡ 2 * n = omega arith in
+    let once : n ^ n * 2 ≤ suc n ^ n = le-of-mul-le-mul-right (le-trans (le-of-eq (mul-assoc (n ^ n) 2 n ∙ ap (λ (x : ℕ). n ^ n * x) (sym double))) (far-one n n)) z in
+    le-trans (le-of-eq (sym (two-each n n D))) (le-trans (pow-le-pow-left once D) (le-of-eq (pow-power (suc n) n D)))
+
+pub next-le-two-each : (n k D : ℕ) → 0 < n → 2 * k ≤ n → suc n ^ (k * D) ≤ n ^ (k * D) * 2 ^ D
+next-le-two-each n k D z h = le-trans (le-of-eq (sym (pow-power (suc n) k D))) (le-trans (pow-le-pow-left (near-one-le-two n k z h) D) (le-of-eq (two-each n k D)))
+
+-- ---- the order, back from powers
+
+pub lt-of-powers : (a b k : ℕ) → a ^ k < b ^ k → a < b
+lt-of-powers a b k h = lt-of-not-le (λ (g : b ≤ a). not-le-of-lt h (pow-le-pow-left g k))
+
+pub lt-of-exponents : (i j : ℕ) → 2 ^ i < 2 ^ j → i < j
+lt-of-exponents i j h = lt-of-not-le (λ (g : j ≤ i). not-le-of-lt h (pow-mono g))

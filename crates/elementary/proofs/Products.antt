@@ -16,7 +16,7 @@ use Rattle.elementary.proofs.Rises.{Rises}
 use Rattle.elementary.proofs.CommonDenominator.{above, beneath, AtMost, round-order, round-number, by-counts}
 
 -- ---- both are ±m k / l, for one k and one l
-unlike-plus : (s : Bool) → unlike s false ≡ s
+pub unlike-plus : (s : Bool) → unlike s false ≡ s
 unlike-plus false = refl
 unlike-plus true = refl
 
@@ -33,7 +33,7 @@ times-at-most false true zero (suc b) k h = absurd (omega (arith, h))
 times-at-most true false a b k h = omega arith
 times-at-most true true a b k h = let l : b * k ≤ a * k = mul-le-mul-right k (omega (arith, h)) in omega (arith, l)
 
-scaled : (s : Bool) (m : ℕ) (e : ℤ) (k l : ℕ) → 0 < l → T (fits binary64 (fin s m e)) → round binary64 s (m * up e * k) (down e * l) ≡ round binary64 s (unitsOf (fin s m e) * k) (2 ^ 1074 * l)
+pub scaled : (s : Bool) (m : ℕ) (e : ℤ) (k l : ℕ) → 0 < l → T (fits binary64 (fin s m e)) → round binary64 s (m * up e * k) (down e * l) ≡ round binary64 s (unitsOf (fin s m e) * k) (2 ^ 1074 * l)
 scaled s m e k l L f =
     let A : ℕ = unitsOf (fin s m e) in
     round-same binary64 s (m * up e * k) (down e * l) (A * k) (2 ^ 1074 * l) (mul-pos (down-pos e) L) (mul-pos (pow-pos 1074) L)

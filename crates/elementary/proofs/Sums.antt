@@ -53,11 +53,11 @@ add-comm-double (fin s m e) (fin t n d) =
     sum-comm s t (m * up e * down d) (n * up d * down e) (down e * down d) ∙ ap (sum binary64 t (n * up d * down e) s (m * up e * down d)) (mul-comm (down e) (down d))
 
 -- ---- the sum of ±a and ±b over d, as one rounding
-record Sum (s : Bool) (a : ℕ) (t : Bool) (b d : ℕ) : Type 0 where
-  sign : Bool
-  size : ℕ
-  rounded : sum binary64 s a t b d ≡ round binary64 sign size d
-  balanced : above sign size + beneath s a + beneath t b ≡ beneath sign size + above s a + above t b
+pub record Sum (s : Bool) (a : ℕ) (t : Bool) (b d : ℕ) : Type 0 where
+  pub sign : Bool
+  pub size : ℕ
+  pub rounded : sum binary64 s a t b d ≡ round binary64 sign size d
+  pub balanced : above sign size + beneath s a + beneath t b ≡ beneath sign size + above s a + above t b
 
 opposite-is : (a b d : ℕ) → Sum false a true b d
 unfolding sum above beneath
@@ -67,7 +67,7 @@ opposite-is a b d = go (ltb a b) refl
     go true e = let h : a < b = ltb→lt a b (subst T (sym e) tt) in record { sign = true; size = b - a; rounded = rw e refl; balanced = omega (arith, h) }
     go false e = let h : b ≤ a = nltb→le a b (subst (λ x. T (not x)) (sym e) tt) in record { sign = false; size = a - b; rounded = rw e refl; balanced = omega (arith, h) }
 
-sum-is : (s t : Bool) (a b d : ℕ) → Sum s a t b d
+pub sum-is : (s t : Bool) (a b d : ℕ) → Sum s a t b d
 unfolding sum above beneath
 sum-is false false a b d = record { sign = false; size = a + b; rounded = refl; balanced = omega arith }
 sum-is true true a b d = record { sign = true; size = a + b; rounded = refl; balanced = omega arith }
@@ -114,7 +114,7 @@ same-sum A B a b c d s t C D p q =
     rw (ltb-same A B a b c d C D p q, ltb-same B A b a c d C D q p, sums A B a b c d C D p q s, less A B a b c d C D p q (s && ltb B A), less B A b a c d C D q p t) refl
 
 -- ---- the sum with a finite operand, and the difference
-add-counts : (s t : Bool) (m n : ℕ) (e d : ℤ) → T (fits binary64 (fin s m e)) → T (fits binary64 (fin t n d)) → add binary64 (fin s m e) (fin t n d) ≡ sum binary64 s (unitsOf (fin s m e)) t (unitsOf (fin t n d)) (2 ^ 1074)
+pub add-counts : (s t : Bool) (m n : ℕ) (e d : ℤ) → T (fits binary64 (fin s m e)) → T (fits binary64 (fin t n d)) → add binary64 (fin s m e) (fin t n d) ≡ sum binary64 s (unitsOf (fin s m e)) t (unitsOf (fin t n d)) (2 ^ 1074)
 unfolding add
 add-counts s t m n e d f g =
     let A : ℕ = unitsOf (fin s m e) in

@@ -6,13 +6,13 @@ use borrow.Author.Needs.{needs}
 use lib.Ieee.{Float, binary64, ofBits, add, sub, mul, div, lt, le, eq, ne, isNan}
 use Rattle.elementary.specs.Operators.{_⊖_, _⊗_, _⊘_}
 use Rattle.elementary.specs.Power.{powerAt}
+use Rattle.humid_air.specs.Saturation.{one}
+use Rattle.humid_air.specs.MoistAir.{moleFraction, compressibilityFactor, airDensity}
+use Rattle.humid_air.proofs.NotANumber.{ne-self}
 use Rattle.atmosphere.specs.declared.station.Air.{Air}
-use Rattle.atmosphere.specs.Saturation.{one}
-use Rattle.atmosphere.specs.MoistAir.{moleFraction, compressibilityFactor, airDensity}
 use Rattle.atmosphere.specs.Layers.{layers, baseTemperature}
 use Rattle.atmosphere.specs.Station.{atmosphere}
 use Rattle.atmosphere.specs.Altitudes.{tropopause, lapse, heightOfRatio, troposphereHeight, density, seaLevelDensity, densityAltitude}
-use Rattle.atmosphere.proofs.NotANumber.{ne-self}
 use Rattle.atmosphere.proofs.altitudes.density_matched_altitude_m.Statement.{statement}
 use Rattle.atmosphere.proofs.altitudes.density_matched_altitude_m.Tie as tie
 

@@ -4,7 +4,7 @@ use borrow.Author.Needs.{needs}
 use lib.Ieee.{Float, binary64, ofBits}
 use Rattle.elementary.specs.Operators.{_⊖_, _⊗_}
 use Rattle.elementary.specs.Power.{powerAt}
-use Rattle.atmosphere.specs.Saturation.{one}
+use Rattle.humid_air.specs.Saturation.{one}
 use Rattle.atmosphere.proofs.altitudes.nws_pressure_altitude_ft.Statement.{statement}
 use Rattle.atmosphere.proofs.altitudes.nws_pressure_altitude_ft.Tie as tie
 

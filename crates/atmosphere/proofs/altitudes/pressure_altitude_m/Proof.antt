@@ -5,10 +5,10 @@ use mathlib.Core.Logic.{⊎-elim}
 use borrow.Author.Needs.{needs}
 use lib.Ieee.{Float, le, ne, isNan}
 use Rattle.elementary.specs.Operators.{_⊗_}
-use Rattle.atmosphere.specs.MoistAir.{hundred}
+use Rattle.humid_air.specs.MoistAir.{hundred}
+use Rattle.humid_air.proofs.NotANumber.{ne-self}
 use Rattle.atmosphere.specs.Layers.{lowestHeight}
 use Rattle.atmosphere.specs.Altitudes.{nwsAltitude, foot, tropopause, heightOfPressure, pressureAltitude}
-use Rattle.atmosphere.proofs.NotANumber.{ne-self}
 use Rattle.atmosphere.proofs.altitudes.pressure_altitude_m.Statement.{statement}
 use Rattle.atmosphere.proofs.altitudes.pressure_altitude_m.Tie as tie
 

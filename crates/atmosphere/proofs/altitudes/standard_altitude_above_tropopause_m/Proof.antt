@@ -7,7 +7,7 @@ use lib.Ieee.{Float, nan}
 use Rattle.elementary.specs.Operators.{_⊘_}
 use Rattle.elementary.specs.Exponents.{ofDouble}
 use Rattle.elementary.specs.Power.{power, powerAt}
-use Rattle.atmosphere.specs.Saturation.{one}
+use Rattle.humid_air.specs.Saturation.{one}
 use Rattle.atmosphere.specs.Altitudes.{heightIn, densityExponent, chainedRatio, heightOfRatio}
 use Rattle.atmosphere.proofs.LayerFrom.{layer-from-le, height-from-same}
 use Rattle.atmosphere.proofs.Chained.{ratios, ratioNumbers, ratio-at, ratio-power}

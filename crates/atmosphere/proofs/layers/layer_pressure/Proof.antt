@@ -10,8 +10,9 @@ use lib.Ieee.{Float, ofBits, neg, lt}
 use Rattle.elementary.specs.Operators.{_⊗_, _⊘_}
 use Rattle.elementary.specs.Exponents.{ofDouble}
 use Rattle.elementary.specs.Power.{power, powerAt}
-use Rattle.atmosphere.specs.Doubles.{absDouble}
-use Rattle.atmosphere.specs.Layers.{g₀, R, layers, basePressure, gradient, negligible, isothermal, isothermalPressure, gradientPressure, layerPressure}
+use Rattle.humid_air.specs.Doubles.{absDouble}
+use Rattle.humid_air.specs.Sound.{R}
+use Rattle.atmosphere.specs.Layers.{g₀, layers, basePressure, gradient, negligible, isothermal, isothermalPressure, gradientPressure, layerPressure}
 use Rattle.atmosphere.proofs.layers.layer_pressure.Statement.{statement}
 use Rattle.atmosphere.proofs.layers.layer_pressure.Tie as tie
 

@@ -3,8 +3,8 @@ use mathlib.Core.Path.{ap, _∙_}
 use borrow.Author.Needs.{needs}
 use lib.Ieee.{Float}
 use Rattle.elementary.specs.Operators.{_⊖_, _⊘_}
-use Rattle.atmosphere.specs.MoistAir.{icePoint, hundred, airDensity}
-use Rattle.atmosphere.specs.Sound.{soundSpeed}
+use Rattle.humid_air.specs.MoistAir.{icePoint, hundred, airDensity}
+use Rattle.humid_air.specs.Sound.{soundSpeed}
 use Rattle.atmosphere.proofs.station.air_of.Statement.{statement}
 use Rattle.atmosphere.proofs.station.air_of.Tie as tie
 

@@ -4,7 +4,7 @@ use borrow.Author.Needs.{needs}
 use lib.Ieee.{Float, ofBits, neg}
 use Rattle.elementary.specs.Operators.{_⊕_, _⊗_, _⊘_}
 use Rattle.elementary.specs.Power.{powerAt}
-use Rattle.atmosphere.specs.Saturation.{one}
+use Rattle.humid_air.specs.Saturation.{one}
 use Rattle.atmosphere.specs.Layers.{layers, baseTemperature, gradient}
 use Rattle.atmosphere.proofs.station.reduce_qnh_to_station_pressure.Statement.{statement}
 use Rattle.atmosphere.proofs.station.reduce_qnh_to_station_pressure.Tie as tie

@@ -1,15 +1,15 @@
 -- `elementary::sqrt::root_of_units` meets its contract: its d, n and r are the definition's, and no shift or sum leaves the word. Assumes nothing.
 use mathlib.Core.Path.{_≡_, refl, sym, ap, ap₂, _∙_}
 use mathlib.Core.Logic.{inl, inr}
-use mathlib.Core.Bool.{Bool, true, false, not, cond}
+use mathlib.Core.Bool.{Bool, true, false, cond}
 use Prim.Native.Nat.{ℕ, suc, _+_, _-_, _*_, _/_, _%_, _^_, _≤_, _<_}
 use native.Mathlib.Nat.{le-trans, lt-of-lt-of-le, lt-of-not-le, not-le-of-lt, mul-assoc, mul-le-mul, mod-eq-of-lt}
 use native.Mathlib.Numerals.{add-one}
 use native.Mathlib.Omega.{arith}
 use borrow.Author.Needs.{needs}
 use lib.Count.{leadingZeros, leading-le}
-use lib.Dec.{T, leb, ltb, leb→le, nltb→le, ltb→lt, nleb→lt, lit<, lit≤}
-use lib.IntN.{ℤ, pos, negsuc, subℕ, _-ℤ_}
+use lib.Dec.{leb, lit<, lit≤}
+use lib.IntN.{ℤ, pos, negsuc, _-ℤ_}
 use lib.Signed.{mag}
 use lib.Pow.{pow-add, pow-mono, shl-lt}
 use lib.Ieee.{size, minus}
@@ -23,21 +23,13 @@ use Rattle.wide.proofs.Root.{root-le}
 use Rattle.elementary.specs.Nearest.{nearestScaled}
 use Rattle.elementary.specs.Parts.{Digits}
 use Rattle.elementary.specs.Sqrt.{nearestRoot}
+use Rattle.elementary.proofs.Differences.{minus-is}
 use Rattle.elementary.proofs.Size.{size-shifted, size-leading}
 use Rattle.elementary.proofs.RootDigits.{digitsOf, moved, moved-below, moved-is}
 use Rattle.elementary.proofs.sqrt.root_of_units.Statement.{statement}
 use Rattle.elementary.proofs.sqrt.root_of_units.Tie as tie
 
 -- ---- a difference, as the machine takes it and as the definition has it
-minus-is : (a b : ℕ) → subℕ a b ≡ minus a b
-minus-is a b = go (ltb a b) (leb b a) (ltb→lt a b) (nltb→le a b) (leb→le b a) (nleb→lt b a)
-  where
-    go : (s t : Bool) → (T s → a < b) → (T (not s) → b ≤ a) → (T t → b ≤ a) → (T (not t) → a < b) → cond s (negsuc (b - suc a)) (pos (a - b)) ≡ cond t (pos (a - b)) (negsuc (b - suc a))
-    go true true h g l m = absurd (not-le-of-lt (h tt) (l tt))
-    go true false h g l m = refl
-    go false true h g l m = refl
-    go false false h g l m = absurd (not-le-of-lt (m tt) (g tt))
-
 minus-small : (a b H : ℕ) → a < H → b < H → mag (minus a b) < H
 minus-small a b H h g = go (leb b a)
   where

@@ -1,0 +1,7 @@
+-- The laws of the definitions, a file for each idea.
+pub mod Figures
+pub mod Accepted
+pub mod Between
+pub mod PressuresApart
+pub mod Spread
+pub mod Demand

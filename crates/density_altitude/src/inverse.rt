@@ -1,0 +1,132 @@
+// The FAA's rule turned round: the station whose air has a given density altitude, with a given
+// temperature or the standard one.
+ghost use mathlib.Core.Path.{_≡_};
+ghost use Rattle.density_altitude.specs.Inverse.{stationWith, resolve, isFiniteAbove, hasAir, outcome, checkedStation, station};
+use atmosphere::altitudes::DA_FAA_RULE_FT_PER_DEG_F;
+use atmosphere::altitudes::DA_FT_TO_M;
+use atmosphere::altitudes::DA_NWS_LAPSE_F_PER_1000FT;
+use atmosphere::altitudes::DA_NWS_PRESSURE_ALT_FT;
+use atmosphere::altitudes::DA_NWS_SEA_LEVEL_HPA;
+use atmosphere::altitudes::DA_NWS_SEA_LEVEL_TEMP_F;
+use atmosphere::station::Reading;
+use elementary::power::power;
+use humid_air::doubles::is_finite;
+
+// the number of the exponent 1 / 0.190284 in elementary's table
+const DA_NWS_EXPONENT_RECIPROCAL: usize = 12;
+
+const ABSOLUTE_ZERO_C: f64 = -273.15;
+
+pub struct Station {
+    pub altitude_m: f64,
+    pub temperature_c: f64,
+    pub pressure_hpa: f64,
+}
+
+// The station, or why there is none.
+pub enum Answer {
+    Station(Station),
+    // the density altitude
+    DensityAltitudeNotFinite(f64),
+    // the temperature
+    TemperatureNotFinite(f64),
+    TemperatureTooLow(f64),
+    // the density altitude and the altitude that it resolves to
+    NoAir(f64, f64),
+}
+
+pub fn resolve_atmosphere_for_density_altitude(
+    density_altitude_m: f64,
+    explicit_temperature_c: Reading,
+) -> Station
+    ensures { λ r. ⌜ r ≡ resolve 52 «density_altitude_m» «explicit_temperature_c» ⌝ }
+{
+    let density_altitude_ft = density_altitude_m / DA_FT_TO_M;
+    match explicit_temperature_c {
+        Reading::Given(temp_c) => {
+            let temp_f = temp_c * 9.0 / 5.0 + 32.0;
+            let denom = 1.0 + DA_FAA_RULE_FT_PER_DEG_F * DA_NWS_LAPSE_F_PER_1000FT / 1000.0;
+            let pressure_alt_ft = (density_altitude_ft
+                - DA_FAA_RULE_FT_PER_DEG_F * (temp_f - DA_NWS_SEA_LEVEL_TEMP_F))
+                / denom;
+            station_at(pressure_alt_ft, temp_c)
+        }
+        Reading::FromLayer => {
+            let isa_temp_f = DA_NWS_SEA_LEVEL_TEMP_F
+                - density_altitude_ft / 1000.0 * DA_NWS_LAPSE_F_PER_1000FT;
+            station_at(density_altitude_ft, (isa_temp_f - 32.0) * 5.0 / 9.0)
+        }
+    }
+}
+
+// The station at a pressure altitude.
+fn station_at(pressure_alt_ft: f64, temperature_c: f64) -> Station
+    ensures { λ r. ⌜ r ≡ stationWith 52 «pressure_alt_ft» «temperature_c» ⌝ }
+{
+    Station {
+        altitude_m: pressure_alt_ft * DA_FT_TO_M,
+        temperature_c: temperature_c,
+        pressure_hpa: DA_NWS_SEA_LEVEL_HPA
+            * power(
+                1.0 - pressure_alt_ft / DA_NWS_PRESSURE_ALT_FT,
+                DA_NWS_EXPONENT_RECIPROCAL,
+            ),
+    }
+}
+
+fn is_finite_above(x: f64, bound: f64) -> bool
+    ensures { λ r. ⌜ r ≡ isFiniteAbove bound x ⌝ }
+{
+    is_finite(x) && x > bound
+}
+
+// whether a station can exist
+fn has_air(station: Station) -> bool
+    ensures { λ r. ⌜ r ≡ hasAir station ⌝ }
+{
+    if !is_finite(station.altitude_m) {
+        return false;
+    }
+    if !is_finite_above(station.pressure_hpa, 0.0) {
+        return false;
+    }
+    is_finite_above(station.temperature_c, ABSOLUTE_ZERO_C)
+}
+
+// The resolved station, or that there is no air.
+fn checked_station(density_altitude_m: f64, explicit_temperature_c: Reading) -> Answer
+    ensures { λ r. ⌜ outcome r ≡ checkedStation «density_altitude_m» (resolve 52 «density_altitude_m» «explicit_temperature_c») ⌝ }
+{
+    let station = resolve_atmosphere_for_density_altitude(
+        density_altitude_m,
+        explicit_temperature_c,
+    );
+    if has_air(station) {
+        return Answer::Station(station);
+    }
+    Answer::NoAir(density_altitude_m, station.altitude_m)
+}
+
+// The station with a density altitude, or why there is none.
+pub fn station_for_density_altitude(
+    density_altitude_m: f64,
+    explicit_temperature_c: Reading,
+) -> Answer
+    ensures { λ r. ⌜ outcome r ≡ station 52 «density_altitude_m» «explicit_temperature_c» ⌝ }
+{
+    if !is_finite(density_altitude_m) {
+        return Answer::DensityAltitudeNotFinite(density_altitude_m);
+    }
+    match explicit_temperature_c {
+        Reading::Given(temperature_c) => {
+            if !is_finite(temperature_c) {
+                return Answer::TemperatureNotFinite(temperature_c);
+            }
+            if temperature_c <= ABSOLUTE_ZERO_C {
+                return Answer::TemperatureTooLow(temperature_c);
+            }
+            checked_station(density_altitude_m, explicit_temperature_c)
+        }
+        Reading::FromLayer => checked_station(density_altitude_m, explicit_temperature_c),
+    }
+}

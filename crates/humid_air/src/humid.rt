@@ -1,0 +1,206 @@
+// Humid air: the saturation pressure of water, the mole fraction of its vapour, the CIPM-2007 density
+// and the speed of sound.
+ghost use mathlib.Core.Path.{_≡_};
+ghost use Rattle.humid_air.specs.Saturation.{saturationPressure};
+ghost use Rattle.humid_air.specs.MoistAir.{enhancementFactor, moleFraction, capped, moleFractionAt, moleFractionCelsius, moleFractionKelvin, compressibilityFactor, molarMassRatio, airDensity};
+ghost use Rattle.humid_air.specs.Sound.{soundSpeedAt, soundSpeed};
+use super::doubles::clamp;
+use super::doubles::max;
+use elementary::exp::exp;
+use elementary::power::power;
+use elementary::sqrt::sqrt;
+
+// dry air of the US Standard Atmosphere 1976: the specific gas constant, J/(kg K), and the
+// heat-capacity ratio
+pub const R_AIR: f64 = 287.0531;
+
+const GAMMA: f64 = 1.4;
+
+// CIPM-2007: the molar gas constant, J/(mol K), and the molar masses of dry air and of water, kg/mol
+const R: f64 = 8.314472;
+
+const M_A: f64 = 28.96546e-3;
+
+const M_V: f64 = 18.01528e-3;
+
+// the smallest normal double
+const MIN_POSITIVE: f64 = 2.2250738585072014e-308;
+
+// the Wagner-Pruss coefficients a1..a6
+const A: [f64; 6] = [
+    -7.85951783,
+    1.84408259,
+    -11.7866497,
+    22.6807411,
+    -15.9618719,
+    1.80122502,
+];
+
+// the numbers of the exponents 1.5, 3, 3.5, 4 and 7.5 in elementary's table
+const TO_1_5: usize = 22;
+
+const TO_3: usize = 23;
+
+const TO_3_5: usize = 24;
+
+const TO_4: usize = 25;
+
+const TO_7_5: usize = 26;
+
+// the enhancement factor's constants
+const F_ALPHA: f64 = 1.00062;
+
+const F_BETA: f64 = 3.14e-8;
+
+const F_GAMMA: f64 = 5.6e-7;
+
+// the compressibility factor's virial coefficients
+const A0: f64 = 1.58123e-6;
+
+const A1: f64 = -2.9331e-8;
+
+const A2: f64 = 1.1043e-10;
+
+const B0: f64 = 5.707e-6;
+
+const B1: f64 = -2.051e-8;
+
+const C0: f64 = 1.9898e-4;
+
+const C1: f64 = -2.376e-6;
+
+const D: f64 = 1.83e-11;
+
+const E: f64 = -0.765e-8;
+
+// In hPa, over liquid water at every temperature, and NaN above the critical temperature.
+pub fn enhanced_saturation_vapor_pressure(t_k: f64) -> f64
+    ensures { λ r. ⌜ r ≡ saturationPressure 52 «t_k» ⌝ }
+{
+    let t_k_safe = max(t_k, 173.15);
+    let tau = 1.0 - t_k_safe / 647.096;
+    let ln_p_ratio = (647.096 / t_k_safe)
+        * (A[0] * tau
+            + A[1] * power(tau, TO_1_5)
+            + A[2] * power(tau, TO_3)
+            + A[3] * power(tau, TO_3_5)
+            + A[4] * power(tau, TO_4)
+            + A[5] * power(tau, TO_7_5));
+    220640.0 * exp(ln_p_ratio)
+}
+
+// p in Pa, t in degrees Celsius.
+pub fn enhanced_enhancement_factor(p: f64, t: f64) -> f64
+    ensures { λ r. ⌜ r ≡ enhancementFactor p t ⌝ }
+{
+    F_ALPHA + F_BETA * p + F_GAMMA * t * t
+}
+
+pub fn enhanced_compressibility_factor(p: f64, t_k: f64, x_v: f64) -> f64
+    ensures { λ r. ⌜ r ≡ compressibilityFactor p «t_k» «x_v» ⌝ }
+{
+    let t_k_safe = max(t_k, 173.15);
+    let t = t_k_safe - 273.15;
+    let p_t = p / t_k_safe;
+    let z_second_order = 1.0
+        - p_t * (A0 + A1 * t + A2 * t * t + (B0 + B1 * t) * x_v + (C0 + C1 * t) * x_v * x_v);
+    let z_third_order = p_t * p_t * (D + E * x_v * x_v);
+    z_second_order + z_third_order
+}
+
+// Uncapped. At 0 percent the saturation pressure is left out, so that dry air is dry air above the
+// critical temperature too.
+pub fn vapor_mole_fraction(p_sv_hpa: f64, f: f64, humidity_percent: f64, p_pa: f64) -> f64
+    ensures { λ r. ⌜ r ≡ moleFraction «p_sv_hpa» f «humidity_percent» «p_pa» ⌝ }
+{
+    let humidity_percent = clamp(humidity_percent, 0.0, 100.0);
+    if humidity_percent == 0.0 {
+        return humidity_percent * f / p_pa;
+    }
+    let p_v = humidity_percent / 100.0 * f * p_sv_hpa;
+    let p_v_pa = p_v * 100.0;
+    p_v_pa / p_pa
+}
+
+// At most 1; a NaN is not above 1, and stays.
+pub fn capped_vapor_mole_fraction(mole_fraction_vapor: f64) -> f64
+    ensures { λ r. ⌜ r ≡ capped «mole_fraction_vapor» ⌝ }
+{
+    if mole_fraction_vapor > 1.0 {
+        1.0
+    } else {
+        mole_fraction_vapor
+    }
+}
+
+// The temperature stands in K and in degrees Celsius, as the two callers round it. Dry air asks for no
+// saturation pressure, by far the longest step, so there any number serves.
+fn vapor_mole_fraction_at(t_k: f64, temp_c: f64, pressure_pa: f64, humidity_percent: f64) -> f64
+    ensures { λ r. ⌜ r ≡ moleFractionAt 52 «t_k» «temp_c» «pressure_pa» «humidity_percent» ⌝ }
+{
+    let f = enhanced_enhancement_factor(pressure_pa, temp_c);
+    let p_pa = max(pressure_pa, MIN_POSITIVE);
+    if clamp(humidity_percent, 0.0, 100.0) == 0.0 {
+        return vapor_mole_fraction(0.0, f, humidity_percent, p_pa);
+    }
+    let p_sv = enhanced_saturation_vapor_pressure(t_k);
+    vapor_mole_fraction(p_sv, f, humidity_percent, p_pa)
+}
+
+pub fn water_vapor_mole_fraction_uncapped(
+    temp_c: f64,
+    pressure_hpa: f64,
+    humidity_percent: f64,
+) -> f64
+    ensures { λ r. ⌜ r ≡ moleFractionCelsius 52 «temp_c» «pressure_hpa» «humidity_percent» ⌝ }
+{
+    let t_k = temp_c + 273.15;
+    let pressure_pa = pressure_hpa * 100.0;
+    vapor_mole_fraction_at(t_k, temp_c, pressure_pa, humidity_percent)
+}
+
+pub fn moist_air_vapor_mole_fraction(temp_k: f64, pressure_pa: f64, humidity_percent: f64) -> f64
+    ensures { λ r. ⌜ r ≡ moleFractionKelvin 52 «temp_k» «pressure_pa» «humidity_percent» ⌝ }
+{
+    let temp_c = temp_k - 273.15;
+    vapor_mole_fraction_at(temp_k, temp_c, pressure_pa, humidity_percent)
+}
+
+pub fn moist_molar_mass_ratio(mole_fraction_vapor: f64) -> f64
+    ensures { λ r. ⌜ r ≡ molarMassRatio «mole_fraction_vapor» ⌝ }
+{
+    1.0 - mole_fraction_vapor * (1.0 - M_V / M_A)
+}
+
+pub fn calculate_air_density_cimp(temp_c: f64, pressure_hpa: f64, humidity_percent: f64) -> f64
+    ensures { λ r. ⌜ r ≡ airDensity 52 «temp_c» «pressure_hpa» «humidity_percent» ⌝ }
+{
+    let t_k = temp_c + 273.15;
+    let p_pa = max(pressure_hpa * 100.0, MIN_POSITIVE);
+    let x_v = capped_vapor_mole_fraction(water_vapor_mole_fraction_uncapped(
+        temp_c,
+        pressure_hpa,
+        humidity_percent,
+    ));
+    let z = enhanced_compressibility_factor(p_pa, t_k, x_v);
+    ((p_pa * M_A) / (z * R * t_k)) * moist_molar_mass_ratio(x_v)
+}
+
+pub fn moist_sound_speed_at_mole_fraction(temp_k: f64, mole_fraction_vapor: f64) -> f64
+    ensures { λ r. ⌜ r ≡ soundSpeedAt «temp_k» «mole_fraction_vapor» ⌝ }
+{
+    let gamma_moist = GAMMA * (1.0 - mole_fraction_vapor * 0.062);
+    let r_moist = R_AIR * (1.0 + 0.378 * mole_fraction_vapor);
+    sqrt(gamma_moist * r_moist * temp_k)
+}
+
+pub fn moist_speed_of_sound(temp_k: f64, pressure_pa: f64, humidity_percent: f64) -> f64
+    ensures { λ r. ⌜ r ≡ soundSpeed 52 «temp_k» «pressure_pa» «humidity_percent» ⌝ }
+{
+    let mole_fraction_vapor = capped_vapor_mole_fraction(moist_air_vapor_mole_fraction(
+        temp_k,
+        pressure_pa,
+        humidity_percent,
+    ));
+    moist_sound_speed_at_mole_fraction(temp_k, mole_fraction_vapor)
+}
