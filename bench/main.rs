@@ -19,22 +19,22 @@ const RUNS: usize = 201;
 
 #[link(name = "exports", kind = "static")]
 unsafe extern "C" {
-    safe fn elementary_log_word(
+    safe fn station_air_log_word(
         x: f64,
         negative: &mut bool,
         whole: &mut u32,
         part: &mut u64,
     ) -> bool;
-    safe fn elementary_antilog(negative: bool, whole: u32, part: u64) -> f64;
-    safe fn elementary_power(x: f64, number: usize) -> f64;
-    safe fn elementary_exp(x: f64) -> f64;
-    safe fn elementary_ln(x: f64) -> f64;
-    safe fn elementary_sqrt(x: f64) -> f64;
+    safe fn station_air_antilog(negative: bool, whole: u32, part: u64) -> f64;
+    safe fn station_air_power(x: f64, number: usize) -> f64;
+    safe fn station_air_exp(x: f64) -> f64;
+    safe fn station_air_ln(x: f64) -> f64;
+    safe fn station_air_sqrt(x: f64) -> f64;
 }
 
 fn log_word(x: f64) -> i128 {
     let (mut negative, mut whole, mut part) = (false, 0, 0);
-    elementary_log_word(x, &mut negative, &mut whole, &mut part);
+    station_air_log_word(x, &mut negative, &mut whole, &mut part);
     let digits = (i128::from(whole) << PLACES) + i128::from(part);
     if negative {
         -digits - 1
@@ -45,7 +45,7 @@ fn log_word(x: f64) -> i128 {
 
 fn antilog(p: i128) -> f64 {
     let digits = if p < 0 { -p - 1 } else { p };
-    elementary_antilog(
+    station_air_antilog(
         p < 0,
         (digits >> PLACES) as u32,
         digits as u64 & ((1 << PLACES) - 1),
@@ -120,7 +120,7 @@ fn main() {
         measure(
             &format!("power {number} ({:.4})", exponent.q),
             &ratios,
-            |x| elementary_power(x, number),
+            |x| station_air_power(x, number),
             |x| rules::power(x, exponent),
             |x| x.powf(exponent.q),
         );
@@ -128,15 +128,15 @@ fn main() {
     measure(
         "exp",
         &arguments,
-        |x| elementary_exp(x),
+        |x| station_air_exp(x),
         rules::exp,
         f64::exp,
     );
-    measure("ln", &ratios, |x| elementary_ln(x), rules::ln, f64::ln);
+    measure("ln", &ratios, |x| station_air_ln(x), rules::ln, f64::ln);
     measure(
         "sqrt",
         &ratios,
-        |x| elementary_sqrt(x),
+        |x| station_air_sqrt(x),
         rules::sqrt,
         f64::sqrt,
     );

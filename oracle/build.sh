@@ -32,7 +32,11 @@ cp "$from/constants.rs" "$to/constants.rs"
 {
     station_part | sed 's/\.powf(/.rule_powf(/g; s/\.exp()/.rule_exp()/g; s/\.ln()/.rule_ln()/g'
     children
-    echo 'use crate::rule_calls::RuleCalls;'
+    cat <<'END'
+#[path = "../../oracle/src/record.rs"]
+pub mod record;
+use crate::rule_calls::RuleCalls;
+END
 } >"$to/ruled.rs"
 
 rustc --edition 2021 -C opt-level=3 -C overflow-checks=on --crate-name oracle -o "$to/oracle" "$here/src/main.rs"

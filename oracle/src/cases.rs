@@ -1,6 +1,11 @@
-//! Document 01's "Corners in src/atmosphere.rs", held against a build of the source.
+//! Document 01's "Corners in src/atmosphere.rs", held against a build of the source, and its examples of
+//! records, held against the reader.
 
 use crate::function::{named, Function};
+use crate::record_fields::record;
+use crate::record_values::HOT_HUMID_AIR;
+use crate::records::number;
+use crate::ruled::record::read;
 
 pub fn hold(functions: &[Function]) {
     let at = |name: &str, inputs: &[f64]| -> Vec<u64> {
@@ -57,4 +62,23 @@ pub fn hold(functions: &[Function]) {
     assert_eq!(refusal(0.0, Some(next)), 0);
     assert_eq!(figures(0.0, Some(next))[2], next.to_bits());
     assert_eq!(refusal(f64::NAN, Some(f64::NAN)), 1);
+}
+
+pub fn hold_reader() {
+    assert_eq!(number(&[0x07, 0x00, 0x08]), 6);
+    assert_eq!(number(&[]), 10);
+    assert_eq!(number(&record(&HOT_HUMID_AIR)), 15);
+
+    let sea_level = [&[0x01, 0x00, 0x08][..], &[0; 8]].concat();
+    assert_eq!(sea_level, record(&[(1, 0.0)]));
+    let figures = read(&sea_level).expect("figures");
+    let shown = figures.map(|x| format!("{:016X}", x.to_bits()));
+    assert_eq!(
+        shown[..3].join(" "),
+        "0000000000000000 402E000000000000 408FAA0000000000"
+    );
+    assert_eq!(figures[..3], [0.0, 15.0, 1013.25]);
+    // with 06 the same station
+    let by_density_altitude = read(&record(&[(6, 0.0)])).expect("figures");
+    assert_eq!(by_density_altitude[..3], figures[..3]);
 }

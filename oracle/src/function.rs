@@ -38,15 +38,20 @@ impl Figure {
         }
     }
 
-    /// The double's bits, of one pattern for all NaNs.
     pub fn word(self) -> u64 {
         match self {
-            Self::Number(_, x) | Self::Metres(_, x) | Self::Feet(_, x) if x.is_nan() => {
-                0x7FF8_0000_0000_0000
-            }
-            Self::Number(_, x) | Self::Metres(_, x) | Self::Feet(_, x) => x.to_bits(),
+            Self::Number(_, x) | Self::Metres(_, x) | Self::Feet(_, x) => word(x),
             Self::Choice(_, n) => n,
         }
+    }
+}
+
+/// The double's bits, of one pattern for all NaNs.
+pub fn word(x: f64) -> u64 {
+    if x.is_nan() {
+        0x7FF8_0000_0000_0000
+    } else {
+        x.to_bits()
     }
 }
 

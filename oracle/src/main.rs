@@ -9,6 +9,11 @@ mod function;
 mod gravity;
 mod lists;
 mod quantity;
+mod record_changes;
+mod record_fields;
+mod record_forms;
+mod record_values;
+mod records;
 mod rule_calls;
 
 #[path = "../../vectors/rules/exponents.rs"]
@@ -29,6 +34,7 @@ mod ruled;
 #[path = "../../target/oracle/stock.rs"]
 mod stock;
 
+use std::io;
 use std::path::Path;
 use std::process::ExitCode;
 
@@ -40,8 +46,9 @@ fn main() -> ExitCode {
     let arguments: Vec<&str> = arguments.iter().map(String::as_str).collect();
     cases::hold(&stock::station::FUNCTIONS);
     cases::hold(&ruled::station::FUNCTIONS);
+    cases::hold_reader();
     let done = match arguments[..] {
-        ["lists", folder] => match lists::write(Path::new(folder)) {
+        ["lists", folder] => match write_lists(Path::new(folder)) {
             Ok(()) => true,
             Err(error) => {
                 eprintln!("{folder}: {error}");
@@ -60,4 +67,9 @@ fn main() -> ExitCode {
     } else {
         ExitCode::FAILURE
     }
+}
+
+fn write_lists(folder: &Path) -> io::Result<()> {
+    lists::write(folder)?;
+    records::write(folder)
 }

@@ -19,7 +19,7 @@ fn option(name: &'static str, value: Option<f64>) -> Vec<Figure> {
 }
 
 /// Document 01's number of a refusal.
-fn refusal(error: &AtmosphereError) -> u64 {
+pub(super) fn refusal(error: &AtmosphereError) -> u64 {
     match (error.reason, &*error.field) {
         (AtmosphereErrorReason::NotFinite, "density_altitude_m") => 1,
         (AtmosphereErrorReason::NotFinite, "temperature_c") => 2,

@@ -1,6 +1,5 @@
 // The functions of `atmosphere` and `density_altitude`, called by number with a line's inputs, and their answers compared
 // with the line's. A number of another module agrees with nothing. `oracle/README.md` has the numbers.
-use crate::double::double;
 use crate::double::same;
 use crate::line::word;
 use atmosphere::altitudes::density_matched_altitude_m;
@@ -33,6 +32,7 @@ use humid_air::humid::moist_sound_speed_at_mole_fraction;
 use humid_air::humid::moist_speed_of_sound;
 use humid_air::humid::vapor_mole_fraction;
 use humid_air::humid::water_vapor_mole_fraction_uncapped;
+use mast::bits::double;
 
 pub(crate) fn layers_agrees(line: &[u8; 153]) -> bool {
     let altitude = double(word(line, 1));

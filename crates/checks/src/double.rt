@@ -1,25 +1,9 @@
-// Doubles and their bit patterns.
+// A double compared with bit patterns.
 ghost use mathlib.Core.Path.{_≡_};
 ghost use mathlib.Core.Bool.{true, _&&_};
-ghost use lib.Ieee.{binary64, ofBits, isNan, le};
-
-// A NaN's pattern lies above that of an infinity of its sign.
-fn is_nan_pattern(bits: u64) -> bool
-    ensures { λ r. ⌜ r ≡ isNan (ofBits binary64 bits) ⌝ }
-{
-    bits % 0x8000_0000_0000_0000 > 0x7FF0_0000_0000_0000
-}
-
-// The double of a pattern, and the one NaN for each of a NaN's.
-pub(crate) fn double(bits: u64) -> f64
-    ensures { λ r. ⌜ r ≡ ofBits binary64 bits ⌝ }
-{
-    if is_nan_pattern(bits) {
-        0.0 / 0.0
-    } else {
-        f64::from_bits(bits)
-    }
-}
+ghost use lib.Ieee.{binary64, ofBits, le};
+use mast::bits::double;
+use mast::bits::is_nan_pattern;
 
 // Whether x is the double of a pattern, a zero's sign counted.
 pub(crate) fn same(x: f64, bits: u64) -> bool

@@ -1,7 +1,6 @@
 // Figures beside what is known of them: published values, and a density altitude to the station and back.
 // `vectors/README.md` has the numbers.
 use crate::double::between;
-use crate::double::double;
 use crate::line::word;
 use atmosphere::altitudes::faa_rule_density_altitude_ft;
 use atmosphere::altitudes::nws_pressure_altitude_ft;
@@ -13,6 +12,7 @@ use density_altitude::inverse::station_for_density_altitude;
 use humid_air::humid::calculate_air_density_cimp;
 use humid_air::humid::enhanced_saturation_vapor_pressure;
 use humid_air::humid::moist_speed_of_sound;
+use mast::bits::double;
 
 pub(crate) fn figure_agrees(line: &[u8; 153]) -> bool {
     let x = double(word(line, 1));

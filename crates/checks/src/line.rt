@@ -5,7 +5,7 @@ ghost use Prim.Native.Nat.{_*_, _≤_, _<_};
 ghost use Rattle.checks.specs.Line.{digitOf, wordAt, inPlace, IsLine};
 
 // A digit's value, and 16 for any other byte.
-fn digit(b: u8) -> u64
+pub(crate) fn digit(b: u8) -> u64
     ensures { λ r. ⌜ r ≡ digitOf b ⌝ }
 {
     if b < b'0' {

@@ -1,11 +1,11 @@
 // A list: its form, and its lines compared with our answers, one by one.
 ghost use Prim.Native.Nat.{_≤_};
 use crate::double::between;
-use crate::double::double;
 use crate::double::same;
 use crate::figures::figure_agrees;
 use crate::line::is_line;
 use crate::line::word;
+use crate::records;
 use crate::source;
 use crate::source::Part;
 use crate::word::Given;
@@ -19,12 +19,15 @@ use elementary::log::log_word;
 use elementary::power::power;
 use elementary::sqrt::sqrt;
 use elementary::word::Word;
+use mast::bits::double;
 
 // What a list is of, and whether a line has the answer or the two ends between which it lies.
 pub enum List {
     Exact(Function),
     Ends(Function),
     Source(Part),
+    // mast records, of two lines each, counted as one
+    Records,
 }
 
 // A function of `elementary`, or a figure that the line names.
@@ -89,6 +92,7 @@ fn next_outcome(fd: i32, list: List) -> Outcome {
         List::Exact(function) => next_line(fd, function, true),
         List::Ends(function) => next_line(fd, function, false),
         List::Source(part) => source::next_line(fd, part),
+        List::Records => records::next_record(fd),
     }
 }
 

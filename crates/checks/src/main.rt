@@ -6,6 +6,7 @@ mod double;
 mod figures;
 mod line;
 mod list;
+mod records;
 mod source;
 mod word;
 
@@ -32,6 +33,7 @@ fn main() {
     replay(b"source_station.txt", List::Source(Part::Station));
     replay(b"source_altitudes.txt", List::Source(Part::Altitudes));
     replay(b"source_inverse.txt", List::Source(Part::Inverse));
+    replay(b"records.txt", List::Records);
     replay(b"published.txt", List::Ends(Function::Figure));
     replay(b"round_trips.txt", List::Ends(Function::Figure));
 }

@@ -19,7 +19,7 @@ use Rattle.humid_air.specs.MoistAir.{nought}
 use Rattle.atmosphere.specs.Station.{standardPressure}
 use Rattle.atmosphere.specs.Altitudes.{foot}
 use Rattle.density_altitude.specs.declared.inverse.Station.{Station}
-use Rattle.density_altitude.specs.Inverse.{Outcome, figures, steepness, correction, pressureAltitudeFeet, stationCelsius, nwsBase, nwsExponent, nwsPressure, resolve, absoluteZero, isFiniteAbove, station}
+use Rattle.density_altitude.specs.Inverse.{steepness, correction, pressureAltitudeFeet, nwsBase, nwsExponent, nwsPressure, resolve, absoluteZero, isFiniteAbove, station}
 use Rattle.density_altitude.specs.Order.{NoneGiven, InOrder}
 use Rattle.density_altitude.proofs.Figures.{Corrected, pressure-altitude-rises, pressure-altitude-fits, altitude-rises, temperature-falls, base-falls, pressure-falls}
 use Rattle.density_altitude.proofs.Accepted.{Exists, exists, has-air, Granted, is-station}

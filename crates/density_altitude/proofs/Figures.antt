@@ -5,17 +5,15 @@ use mathlib.Core.Bool.{false}
 use Prim.Native.Nat.{ℕ}
 use lib.IntN.{pos, negsuc}
 use lib.Dec.{T}
-use lib.Ieee.{Float, nan, inf, fin, binary64, ofBits, add, sub, mul, div, fits, le}
+use lib.Ieee.{Float, nan, inf, fin, binary64, ofBits, add, mul, div, fits, le}
 use lib.Ieee.Fits.{sub-fits, mul-fits, div-fits}
 use Rattle.elementary.specs.Operators.{_⊖_, _⊗_, _⊘_}
-use Rattle.elementary.specs.Power.{power}
 use Rattle.elementary.proofs.Rises.{Rises, power-rises, power-fits}
 use Rattle.elementary.proofs.Sums.{sub-falls, sub-rises}
 use Rattle.elementary.proofs.Products.{mul-rises, mul-by-rises, div-rises}
 use Rattle.atmosphere.specs.declared.station.Reading.{Reading}
 use Rattle.atmosphere.specs.declared.station.Reading.the-variants.{Given, FromLayer}
 use Rattle.humid_air.specs.Doubles.{isFinite}
-use Rattle.humid_air.specs.Saturation.{one}
 use Rattle.atmosphere.specs.Altitudes.{foot, standardFahrenheit}
 use Rattle.density_altitude.specs.Inverse.{correction, steepness, pressureAltitudeFeet, stationCelsius, nwsBase, nwsExponent, nwsPressure}
 

@@ -1,5 +1,5 @@
 -- Demand 3: what engineers may rely on between density altitudes. Figures and inputs compare as numbers, -0 equal to +0. Definitions only.
-use Prim.Native.Nat.{ℕ, _^_}
+use Prim.Native.Nat.{_^_}
 use lib.IntN.{ℤ, pos, _+ℤ_}
 use lib.Dec.{T}
 use lib.Signed.{_≤ℤ_}

@@ -1,2 +1,3 @@
--- What the contracts of `exports` cite besides the definitions of `elementary`.
+-- What the contracts of `exports` cite besides the definitions of the crates below.
 pub mod Words
+pub mod Lent

@@ -4,7 +4,7 @@ use mathlib.Core.Bool.{Bool, not, _&&_, Bool·not-not}
 use borrow.Author.Needs.{needs}
 use Rattle.humid_air.specs.MoistAir.{nought}
 use Rattle.density_altitude.specs.declared.inverse.Station.{Station}
-use Rattle.density_altitude.specs.Inverse.{isFiniteAbove, absoluteZero, hasAir}
+use Rattle.density_altitude.specs.Inverse.{isFiniteAbove, absoluteZero}
 use Rattle.density_altitude.proofs.inverse.has_air.Statement.{statement}
 use Rattle.density_altitude.proofs.inverse.has_air.Tie as tie
 

@@ -2,7 +2,6 @@
 use mathlib.Core.Path.{sym, ap, _∙_}
 use borrow.Author.Needs.{needs}
 use lib.Ieee.{ofBits, add, mul, div}
-use Rattle.atmosphere.specs.declared.station.Reading.{Reading}
 use Rattle.density_altitude.specs.Inverse.{resolve}
 use Rattle.density_altitude.proofs.inverse.resolve_atmosphere_for_density_altitude.Statement.{statement}
 use Rattle.density_altitude.proofs.inverse.resolve_atmosphere_for_density_altitude.Tie as tie

@@ -1,0 +1,14 @@
+-- `mast::checks::check_finite` meets its contract. Assumes nothing.
+use mathlib.Core.Path.{ap, _∙_}
+use mathlib.Core.Bool.{Bool, not}
+use mathlib.Core.List.{[], _∷_}
+use borrow.Author.Needs.{needs}
+use Rattle.mast.specs.Refusals.{refuse}
+use Rattle.mast.proofs.checks.check_finite.Statement.{statement}
+use Rattle.mast.proofs.checks.check_finite.Tie as tie
+
+returns : tie.Need-returns
+returns c = c .refuse-if .ensures ∙ ap (λ (b : Bool). refuse (not b) 11 (c .before .before .args .x ∷ [])) (c .before .is-finite .ensures)
+
+pub check-finite-spec : {M : Type 1} → statement M
+check-finite-spec = tie.close (tie.spec (λ c κs. search needs) (λ c κs. search needs) returns)

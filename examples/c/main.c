@@ -1,0 +1,53 @@
+/* Judges the mast record in a file: prints its seven figures, or `refused` and the number of the
+ * cause. Ends with 0 for figures, 1 for a refusal, 2 where there is no file to read. */
+#include "station_air.h"
+
+#include <inttypes.h>
+#include <stdio.h>
+
+#define RECORD_LENGTH 256
+#define FIGURES 7
+
+static const struct {
+    const char *name;
+    const char *unit;
+} figures[FIGURES] = {
+    {"altitude", "m"},
+    {"temperature", "°C"},
+    {"station pressure", "hPa"},
+    {"density", "kg/m³"},
+    {"speed of sound", "m/s"},
+    {"pressure altitude", "m"},
+    {"density altitude", "m"},
+};
+
+int main(int argc, char **argv) {
+    if (argc != 2) {
+        fprintf(stderr, "usage: %s RECORD\n", argv[0]);
+        return 2;
+    }
+    FILE *file = fopen(argv[1], "rb");
+    if (file == NULL) {
+        perror(argv[1]);
+        return 2;
+    }
+    uint8_t record[RECORD_LENGTH];
+    size_t length = fread(record, 1, sizeof record, file);
+    int failed = ferror(file);
+    fclose(file);
+    if (failed) {
+        fprintf(stderr, "%s: cannot be read\n", argv[1]);
+        return 2;
+    }
+
+    double places[FIGURES];
+    uint32_t status = station_air_judge(record, length, places, FIGURES);
+    if (status != STATION_AIR_FIGURES) {
+        printf("refused %" PRIu32 "\n", status);
+        return 1;
+    }
+    for (size_t i = 0; i < FIGURES; i++) {
+        printf("%-18s%14.6f %s\n", figures[i].name, places[i], figures[i].unit);
+    }
+    return 0;
+}

@@ -1,0 +1,82 @@
+//! Judges the mast record in a file: prints its seven figures, or `refused` and the number of the
+//! cause. Ends with 0 for figures, 1 for a refusal, 2 where there is no file to read.
+
+use std::fs::File;
+use std::io::{self, Read};
+use std::process::ExitCode;
+
+const RECORD_LENGTH: u64 = 256;
+
+const FIGURES: [(&str, &str); 7] = [
+    ("altitude", "m"),
+    ("temperature", "°C"),
+    ("station pressure", "hPa"),
+    ("density", "kg/m³"),
+    ("speed of sound", "m/s"),
+    ("pressure altitude", "m"),
+    ("density altitude", "m"),
+];
+
+// include/station_air.h says what it answers.
+#[link(name = "exports", kind = "static")]
+extern "C" {
+    fn station_air_judge(
+        record: *const u8,
+        record_length: usize,
+        places: *mut f64,
+        places_length: usize,
+    ) -> u32;
+}
+
+/// The seven figures, or the status of a refusal.
+fn judge(record: &[u8]) -> Result<[f64; 7], u32> {
+    let mut places = [0.0; 7];
+    // SAFETY: each pointer is that of a slice and comes with its length, and the two do not overlap.
+    let status = unsafe {
+        station_air_judge(
+            record.as_ptr(),
+            record.len(),
+            places.as_mut_ptr(),
+            places.len(),
+        )
+    };
+    match status {
+        0 => Ok(places),
+        _ => Err(status),
+    }
+}
+
+fn read(path: &str) -> io::Result<Vec<u8>> {
+    let mut record = Vec::new();
+    File::open(path)?
+        .take(RECORD_LENGTH)
+        .read_to_end(&mut record)?;
+    Ok(record)
+}
+
+fn main() -> ExitCode {
+    let arguments: Vec<String> = std::env::args().collect();
+    let [program, path] = &arguments[..] else {
+        eprintln!("usage: {} RECORD", arguments[0]);
+        return ExitCode::from(2);
+    };
+    let record = match read(path) {
+        Ok(record) => record,
+        Err(error) => {
+            eprintln!("{program}: {path}: {error}");
+            return ExitCode::from(2);
+        }
+    };
+    match judge(&record) {
+        Ok(places) => {
+            for ((name, unit), x) in FIGURES.iter().zip(places) {
+                println!("{name:<18}{x:>14.6} {unit}");
+            }
+            ExitCode::SUCCESS
+        }
+        Err(status) => {
+            println!("refused {status}");
+            ExitCode::from(1)
+        }
+    }
+}

@@ -1,0 +1,100 @@
+"""Runs station_air on damaged records and on broken descriptors: it ends with status 0 in good time, and prints one of the two forms or nothing.
+
+fuzz.py [RUNS [SEED]], from the repository's root, after `rt check station_air`.
+"""
+import os
+import re
+import subprocess
+import sys
+from random import Random
+from struct import pack
+
+PROGRAM = "target/bin/station_air"
+SECONDS = 5
+
+WORD = "[0-9A-F]{16}"
+FORMS = re.compile(f"station( {WORD}){{3}}\nair( {WORD}){{4}}\n|refused ([1-9]|1[0-5])\n".encode())
+
+VALUES = [0.0, -0.0, 15.0, 15.05, 1013.25, 1013.0, 100.0, 1586.0, -273.15, 1e308, 5e-324, float("inf"), float("nan")]
+
+
+def value(random):
+    return random.choice(VALUES) if random.random() < 0.5 else random.uniform(-500, 5000)
+
+
+def field(random):
+    tag = random.randrange(1, 7) if random.random() < 0.95 else random.randrange(256)
+    length = 8 if random.random() < 0.95 else random.randrange(65536)
+    data = pack(">d", value(random)) if random.random() < 0.9 else random.randbytes(8)
+    return bytes([tag]) + length.to_bytes(2, "big") + data
+
+
+def record(random):
+    """Fields, then some bytes changed, dropped or added."""
+    data = bytearray(b"".join(field(random) for _ in range(random.randrange(8))))
+    for _ in range(random.choice([0, 0, 1, 2, 8])):
+        at = random.randrange(len(data) + 1)
+        data[at : at + random.randrange(2)] = random.randbytes(random.randrange(3))
+    if random.random() < 0.05:
+        data += random.randbytes(random.randrange(100_000))
+    return bytes(data)
+
+
+def check(what, answer, status):
+    if status != 0 or not FORMS.fullmatch(answer):
+        sys.exit(f"{what}: status {status}, {answer!r}")
+
+
+def run(data):
+    done = subprocess.run([PROGRAM], input=data, stdout=subprocess.PIPE, timeout=SECONDS)
+    check(data.hex(), done.stdout, done.returncode)
+
+
+def run_piecewise(data):
+    """Each byte a write of its own, so that reads come back short."""
+    program = subprocess.Popen([PROGRAM], stdin=subprocess.PIPE, stdout=subprocess.PIPE, bufsize=0)
+    try:
+        for i in range(len(data)):
+            program.stdin.write(data[i : i + 1])
+    except BrokenPipeError:
+        pass
+    program.stdin.close()
+    answer = program.stdout.read()
+    check(f"piecewise {data.hex()}", answer, program.wait(SECONDS))
+
+
+def run_from(what, file):
+    done = subprocess.run([PROGRAM], stdin=file, stdout=subprocess.PIPE, timeout=SECONDS)
+    check(what, done.stdout, done.returncode)
+
+
+def run_closed(what, descriptor):
+    """With a descriptor closed: where that is the output, nothing can be printed."""
+    done = subprocess.run([PROGRAM], stdin=subprocess.DEVNULL, stdout=subprocess.PIPE, timeout=SECONDS, preexec_fn=lambda: os.close(descriptor))
+    if descriptor == 0:
+        check(what, done.stdout, done.returncode)
+    elif done.returncode < 0 or done.stdout:
+        sys.exit(f"{what}: status {done.returncode}, {done.stdout!r}")
+
+
+def main(runs=2000, seed=1):
+    random = Random(int(seed))
+    for _ in range(int(runs)):
+        run(record(random))
+    for _ in range(20):
+        run_piecewise(record(random)[:400])
+    with open("/dev/zero", "rb") as endless:
+        run_from("endless zeros", endless)
+    directory = os.open(".", os.O_RDONLY)
+    run_from("a directory, which cannot be read", directory)
+    os.close(directory)
+    run_closed("standard input closed", 0)
+    run_closed("standard output closed", 1)
+    with open("/dev/full", "wb") as full:
+        done = subprocess.run([PROGRAM], stdin=subprocess.DEVNULL, stdout=full, timeout=SECONDS)
+        if done.returncode < 0:
+            sys.exit(f"standard output full: status {done.returncode}")
+    print(f"{runs} records, 20 piecewise, 5 descriptors: no crash, no hang, nothing but the two forms")
+
+
+main(*sys.argv[1:])

@@ -1,0 +1,164 @@
+//! Document 01's mast record, read as its section says. It is built as a child of the source with our
+//! rules, whose station functions it takes.
+
+use super::station::refusal;
+use super::*;
+use std::collections::BTreeMap;
+
+/// What a record is judged by.
+const FIRST_BYTES: usize = 256;
+
+const ALTITUDE: u8 = 0x01;
+const TEMPERATURE: u8 = 0x02;
+const PRESSURE: u8 = 0x03;
+const QNH: u8 = 0x04;
+const HUMIDITY: u8 = 0x05;
+const DENSITY_ALTITUDE: u8 = 0x06;
+
+/// Altitude, temperature, pressure, density, sound speed, pressure altitude, matched altitude.
+pub type Figures = [f64; 7];
+
+/// A number of document 01's table, and the values that the table names after it.
+#[derive(Debug)]
+pub struct Refusal {
+    pub number: u64,
+    pub values: Vec<f64>,
+}
+
+/// Values by tag. A map goes through them by rising tag, as the checks of the values do.
+type Fields = BTreeMap<u8, f64>;
+
+pub fn read(record: &[u8]) -> Result<Figures, Refusal> {
+    let fields = fields(&record[..record.len().min(FIRST_BYTES)])?;
+    check_tags(&fields)?;
+    let figures = match fields.get(&DENSITY_ALTITUDE) {
+        Some(density_altitude) => figures_by_density_altitude(*density_altitude, &fields)?,
+        None => figures_by_altitude(&fields)?,
+    };
+    let [_, _, pressure, density, sound_speed, _, _] = figures;
+    let above_0 = [pressure, density, sound_speed].iter().all(|x| *x > 0.0);
+    if !(figures.iter().all(|x| x.is_finite()) && above_0) {
+        return refused(15, &[]);
+    }
+    Ok(figures)
+}
+
+fn refused<T>(number: u64, values: &[f64]) -> Result<T, Refusal> {
+    let values = values.to_vec();
+    Err(Refusal { number, values })
+}
+
+/// The record's bytes as fields: 5 to 8.
+fn fields(mut rest: &[u8]) -> Result<Fields, Refusal> {
+    let mut fields = Fields::new();
+    while !rest.is_empty() {
+        let Some((&[tag, high, low], after_header)) = rest.split_first_chunk() else {
+            return refused(5, &[]);
+        };
+        if !(ALTITUDE..=DENSITY_ALTITUDE).contains(&tag) {
+            return refused(6, &[]);
+        }
+        if u16::from_be_bytes([high, low]) != 8 {
+            return refused(7, &[]);
+        }
+        let Some((data, after_data)) = after_header.split_first_chunk() else {
+            return refused(5, &[]);
+        };
+        if fields.insert(tag, f64::from_be_bytes(*data)).is_some() {
+            return refused(8, &[]);
+        }
+        rest = after_data;
+    }
+    Ok(fields)
+}
+
+/// Which tags may stand together, and which must be there: 9 and 10.
+fn check_tags(fields: &Fields) -> Result<(), Refusal> {
+    let has = |tag: u8| fields.contains_key(&tag);
+    if has(PRESSURE) && has(QNH) {
+        return refused(9, &[]);
+    }
+    if has(DENSITY_ALTITUDE) && [ALTITUDE, PRESSURE, QNH, HUMIDITY].into_iter().any(has) {
+        return refused(9, &[]);
+    }
+    if !has(ALTITUDE) && !has(DENSITY_ALTITUDE) {
+        return refused(10, &[]);
+    }
+    Ok(())
+}
+
+/// With 06. The source's own function refuses 1 to 4, in document 01's order.
+fn figures_by_density_altitude(density_altitude: f64, fields: &Fields) -> Result<Figures, Refusal> {
+    let temperature = fields.get(&TEMPERATURE).copied();
+    match station_for_density_altitude(density_altitude, temperature) {
+        Ok((altitude, temperature, pressure)) => {
+            let air = calculate_atmosphere(altitude, Some(temperature), Some(pressure), 0.0);
+            Ok(figures(altitude, temperature, pressure, 0.0, air))
+        }
+        Err(error) => {
+            let values = [Some(error.value), error.altitude_m];
+            let values: Vec<f64> = values.into_iter().flatten().collect();
+            refused(refusal(&error), &values)
+        }
+    }
+}
+
+/// Without 06.
+fn figures_by_altitude(fields: &Fields) -> Result<Figures, Refusal> {
+    for (tag, value) in fields {
+        check_value(*tag, *value)?;
+    }
+    let altitude = fields[&ALTITUDE];
+    let humidity = fields.get(&HUMIDITY).copied().unwrap_or(0.0);
+
+    // None where a value is absent or a default
+    let resolved_temperature = fields
+        .get(&TEMPERATURE)
+        .and_then(|t| resolve_station_temperature(*t, altitude));
+    let resolved_pressure = match (fields.get(&PRESSURE), fields.get(&QNH)) {
+        (Some(pressure), _) => resolve_station_pressure(*pressure, altitude),
+        (None, Some(qnh)) => Some(reduce_qnh_to_station_pressure(*qnh, altitude)),
+        (None, None) => None,
+    };
+
+    let (standard_kelvin, standard_pascals) = calculate_icao_standard_atmosphere(altitude);
+    let temperature = resolved_temperature.unwrap_or(standard_kelvin - 273.15);
+    let pressure = resolved_pressure.unwrap_or(standard_pascals / 100.0);
+    if water_vapor_mole_fraction_uncapped(temperature, pressure, humidity) > 1.0 {
+        return refused(14, &[]);
+    }
+    let air = calculate_atmosphere(altitude, resolved_temperature, resolved_pressure, humidity);
+    Ok(figures(altitude, temperature, pressure, humidity, air))
+}
+
+/// One field's value in a record without 06: 2, 3, 11, 12 and 13.
+fn check_value(tag: u8, value: f64) -> Result<(), Refusal> {
+    let number = match tag {
+        TEMPERATURE if !value.is_finite() => 2,
+        TEMPERATURE if value <= -273.15 => 3,
+        ALTITUDE | PRESSURE | QNH | HUMIDITY if !value.is_finite() => 11,
+        PRESSURE | QNH if value <= 0.0 => 12,
+        HUMIDITY if value < 0.0 || value > 100.0 => 13,
+        _ => return Ok(()),
+    };
+    refused(number, &[value])
+}
+
+/// The last two come from the figures shown, the air (density and sound speed) from the resolved options.
+fn figures(
+    altitude: f64,
+    temperature: f64,
+    pressure: f64,
+    humidity: f64,
+    (density, sound_speed): (f64, f64),
+) -> Figures {
+    [
+        altitude,
+        temperature,
+        pressure,
+        density,
+        sound_speed,
+        pressure_altitude_m(pressure),
+        density_matched_altitude_m(temperature, pressure, humidity),
+    ]
+}

@@ -1,0 +1,59 @@
+//! Writes the list `records.txt`: what the reader of `record.rs` answers to records of every kind.
+
+use crate::function::word;
+use crate::random::Random;
+use crate::ruled::record::read;
+use crate::{record_forms, record_values};
+use std::collections::HashSet;
+use std::fmt::Write;
+use std::path::Path;
+use std::{fs, io};
+
+/// Words of an answer: 0 and the seven figures.
+const ANSWER: usize = 8;
+
+/// Document 01's numbers go to 15, and the list has none of them less often than this.
+const NUMBERS: usize = 16;
+const LEAST: usize = 20;
+
+pub fn write(folder: &Path) -> io::Result<()> {
+    let random = &mut Random(0);
+    let mut records = record_forms::all(random);
+    records.extend(record_values::all(random));
+
+    let mut seen = HashSet::new();
+    let mut times = [0; NUMBERS];
+    let mut text = String::new();
+    for record in records {
+        if seen.insert(record.clone()) {
+            times[number(&record) as usize] += 1;
+            text += &lines(&record);
+        }
+    }
+    assert!(times.iter().all(|n| *n >= LEAST), "{times:?}");
+    fs::write(folder.join("records.txt"), text)
+}
+
+/// The answer's words and the record's length, then on a line of their own the record's bytes.
+fn lines(record: &[u8]) -> String {
+    let mut words = vec![number(record)];
+    match read(record) {
+        Ok(figures) => words.extend(figures.map(word)),
+        Err(refusal) => words.extend(refusal.values.into_iter().map(word)),
+    }
+    words.resize(ANSWER, 0);
+    let mut lines = String::new();
+    for word in words {
+        write!(lines, "{word:016x} ").unwrap();
+    }
+    writeln!(lines, "{:016x}", record.len()).unwrap();
+    for byte in record {
+        write!(lines, "{byte:02x}").unwrap();
+    }
+    lines + "\n"
+}
+
+/// The refusal's number, or 0.
+pub fn number(record: &[u8]) -> u64 {
+    read(record).map_or_else(|refusal| refusal.number, |_| 0)
+}
