@@ -1,7 +1,7 @@
-#!/bin/sh
-# Builds the static library and the driver over it, and runs the driver.
-set -eu
+#!/usr/bin/env bash
+# Builds the program and the driver over the static library, and times the functions.
+set -euo pipefail
 cd "$(dirname "$0")/.."
-rt staticlib exports
-rustc --edition 2021 -O -L native=target/staticlib bench/main.rs -o target/bench
-target/bench
+[ -e target/bin/station_air ] || rt check station_air
+oracle/driver.sh
+exec target/oracle/driver bench

@@ -13,7 +13,7 @@ station_part() {
     awk '/^\/\/\// { held = held $0 "\n"; next } { printf "%s", held; held = ""; print }' "$from/atmosphere.rs"
 }
 
-# What the text leans on, and a child module, which sees the private functions.
+# What the text leans on, and child modules, which see the private functions.
 children() {
     cat <<'END'
 #[path = "../../oracle/src/stand_ins.rs"]
@@ -21,6 +21,8 @@ mod stand_ins;
 use stand_ins::*;
 #[path = "../../oracle/src/station.rs"]
 pub mod station;
+#[path = "../../oracle/src/record.rs"]
+pub mod record;
 END
 }
 
@@ -32,11 +34,7 @@ cp "$from/constants.rs" "$to/constants.rs"
 {
     station_part | sed 's/\.powf(/.rule_powf(/g; s/\.exp()/.rule_exp()/g; s/\.ln()/.rule_ln()/g'
     children
-    cat <<'END'
-#[path = "../../oracle/src/record.rs"]
-pub mod record;
-use crate::rule_calls::RuleCalls;
-END
+    echo 'use crate::rule_calls::RuleCalls;'
 } >"$to/ruled.rs"
 
 rustc --edition 2021 -C opt-level=3 -C overflow-checks=on --crate-name oracle -o "$to/oracle" "$here/src/main.rs"

@@ -46,6 +46,15 @@ fn line(number: usize, function: &Function, inputs: &Inputs) -> String {
 }
 
 fn all_inputs(function: &Function, random: &mut Random) -> Vec<Inputs> {
+    let mut all = edge_inputs(function, random);
+    for (count, draw) in DRAWN {
+        all.extend((0..count).map(|_| drawn(function, draw, random)));
+    }
+    all
+}
+
+/// The edges of the function and of each quantity that it takes, and pairs of special inputs.
+pub fn edge_inputs(function: &Function, random: &mut Random) -> Vec<Inputs> {
     let mut all = edges::edges(function.name);
     for (i, input) in function.inputs.iter().enumerate() {
         for x in input.quantity().edges() {
@@ -55,9 +64,6 @@ fn all_inputs(function: &Function, random: &mut Random) -> Vec<Inputs> {
         }
     }
     all.extend(pairs_of_specials(function, random));
-    for (count, draw) in DRAWN {
-        all.extend((0..count).map(|_| drawn(function, draw, random)));
-    }
     all
 }
 
@@ -86,6 +92,6 @@ fn pairs_of_specials(function: &Function, random: &mut Random) -> Vec<Inputs> {
     all
 }
 
-fn drawn(function: &Function, draw: Draw, random: &mut Random) -> Inputs {
+pub fn drawn(function: &Function, draw: Draw, random: &mut Random) -> Inputs {
     function.inputs.iter().map(|i| draw(*i, random)).collect()
 }

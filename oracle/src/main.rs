@@ -1,10 +1,25 @@
 //! The oracle: the station part of the source, built once as it stands and once with document 01's
-//! rules for its `powf`, `exp` and `ln`. `README.md` has the commands.
+//! rules for its `powf`, `exp` and `ln`. `README.md` has the commands. With `library` it is the driver too,
+//! over the static library of the proved functions.
 
 mod cases;
+#[cfg(library)]
+mod compare;
+#[cfg(library)]
+mod compare_lent;
+#[cfg(library)]
+mod compare_records;
+#[cfg(library)]
+mod compare_row;
+#[cfg(library)]
+mod compare_rules;
+#[cfg(library)]
+mod compare_station;
 mod distance;
 mod draw;
 mod edges;
+#[cfg(library)]
+mod exports;
 mod function;
 mod gravity;
 mod lists;
@@ -18,11 +33,21 @@ mod rule_calls;
 
 #[path = "../../vectors/rules/exponents.rs"]
 mod exponents;
+#[cfg(library)]
+#[path = "../../vectors/rules/inputs.rs"]
+mod inputs;
 #[path = "../../vectors/rules/random.rs"]
 mod random;
 #[allow(dead_code)]
 #[path = "../../vectors/rules/rules.rs"]
 mod rules;
+
+#[cfg(library)]
+#[path = "../../bench/memory.rs"]
+mod memory;
+#[cfg(library)]
+#[path = "../../bench/times.rs"]
+mod times;
 
 #[allow(dead_code)]
 #[path = "../../target/oracle/constants.rs"]
@@ -38,7 +63,7 @@ use std::io;
 use std::path::Path;
 use std::process::ExitCode;
 
-const USE: &str = "oracle lists FOLDER, or oracle distance [POINTS]";
+const USE: &str = "oracle lists FOLDER, or oracle distance [POINTS]; driver compare CALLS RECORDS, or driver bench";
 const POINTS: u64 = 100_000;
 
 fn main() -> ExitCode {
@@ -57,6 +82,16 @@ fn main() -> ExitCode {
         },
         ["distance"] => distance::measure(POINTS),
         ["distance", points] => distance::measure(points.parse().expect(USE)),
+        #[cfg(library)]
+        ["compare", calls, records] => {
+            compare::compare(calls.parse().expect(USE), records.parse().expect(USE))
+        }
+        #[cfg(library)]
+        ["bench"] => {
+            times::measure();
+            memory::measure();
+            true
+        }
         _ => {
             eprintln!("{USE}");
             false

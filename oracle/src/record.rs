@@ -1,5 +1,5 @@
-//! Document 01's mast record, read as its section says. It is built as a child of the source with our
-//! rules, whose station functions it takes.
+//! Document 01's mast record, read as its section says. It is built twice, as a child of the stock source and
+//! of the one with our rules, whose station functions it takes. The stock one is only timed.
 
 use super::station::refusal;
 use super::*;

@@ -185,7 +185,7 @@ fn long(random: &mut Random) -> Vec<Vec<u8>> {
 }
 
 /// Pieces that are often a good field's, cut anywhere.
-fn nearly_fields(random: &mut Random) -> Vec<u8> {
+pub fn nearly_fields(random: &mut Random) -> Vec<u8> {
     let mut record = Vec::new();
     for _ in 0..random.next() % 7 {
         let tag = random.next() % 8;
@@ -199,7 +199,7 @@ fn nearly_fields(random: &mut Random) -> Vec<u8> {
 }
 
 /// A good record with one to three of its bytes changed.
-fn changed(random: &mut Random) -> Vec<u8> {
+pub fn changed(random: &mut Random) -> Vec<u8> {
     let tags = READINGS[random.next() as usize % READINGS.len()];
     let mut record = record(&shuffled(&drawn(tags, usual, random), random));
     for _ in 0..=random.next() % 3 {
@@ -214,6 +214,6 @@ fn header(tag: u8, length: u16) -> Vec<u8> {
     vec![tag, high, low]
 }
 
-fn bytes(length: usize, random: &mut Random) -> Vec<u8> {
+pub fn bytes(length: usize, random: &mut Random) -> Vec<u8> {
     (0..length).map(|_| random.next() as u8).collect()
 }

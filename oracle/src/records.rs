@@ -17,14 +17,10 @@ const NUMBERS: usize = 16;
 const LEAST: usize = 20;
 
 pub fn write(folder: &Path) -> io::Result<()> {
-    let random = &mut Random(0);
-    let mut records = record_forms::all(random);
-    records.extend(record_values::all(random));
-
     let mut seen = HashSet::new();
     let mut times = [0; NUMBERS];
     let mut text = String::new();
-    for record in records {
+    for record in all(&mut Random(0)) {
         if seen.insert(record.clone()) {
             times[number(&record) as usize] += 1;
             text += &lines(&record);
@@ -32,6 +28,13 @@ pub fn write(folder: &Path) -> io::Result<()> {
     }
     assert!(times.iter().all(|n| *n >= LEAST), "{times:?}");
     fs::write(folder.join("records.txt"), text)
+}
+
+/// The list's records, some of them more than once.
+pub fn all(random: &mut Random) -> Vec<Vec<u8>> {
+    let mut records = record_forms::all(random);
+    records.extend(record_values::all(random));
+    records
 }
 
 /// The answer's words and the record's length, then on a line of their own the record's bytes.

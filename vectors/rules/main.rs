@@ -2,6 +2,7 @@
 //! answer's bits. The only argument is the folder to write to.
 
 mod exponents;
+mod inputs;
 mod random;
 mod rules;
 
@@ -31,136 +32,21 @@ fn whole_and_fraction(p: i128) -> [u64; 2] {
     [(p >> PLACES) as u64, p as u64 & ((1 << PLACES) - 1)]
 }
 
-fn with_neighbours(xs: &[f64]) -> Vec<f64> {
-    xs.iter()
-        .flat_map(|x| [x.next_down(), *x, x.next_up()])
-        .collect()
-}
-
-/// About 2^x, by the rules: `exp2` may differ from one machine to another, and with it the list.
-fn two_to(x: f64) -> f64 {
-    antilog((x * (1u64 << PLACES) as f64) as i128)
-}
-
-fn power_of_two(e: i32) -> f64 {
-    if e < -1022 {
-        f64::from_bits(1 << (e + 1074))
-    } else {
-        f64::from_bits(((e + 1023) as u64) << 52)
-    }
-}
-
-/// Any double with a clear sign, infinity and NaNs among them.
-fn positive_pattern(random: &mut Random) -> f64 {
-    f64::from_bits(random.next() >> 1)
-}
-
-/// A subnormal double, or 0, of any number of digits.
-fn subnormal(random: &mut Random) -> f64 {
-    f64::from_bits(random.next() >> (12 + random.next() % 52))
-}
-
-/// Patterns that are no positive finite double: NaNs of several patterns, zeros, infinities, negatives.
-fn outside() -> Vec<f64> {
-    let mut xs: Vec<f64> = [
-        0x7FF8_0000_0000_0000,
-        0x7FF0_0000_0000_0001,
-        0x7FFF_FFFF_FFFF_FFFF,
-        0xFFF8_0000_0000_0000,
-        0xFFF4_0000_0000_0000,
-        0xFFFF_FFFF_FFFF_FFFF,
-    ]
-    .map(f64::from_bits)
-    .to_vec();
-    xs.extend([0.0, -0.0, f64::INFINITY, f64::NEG_INFINITY]);
-    xs.extend(
-        [
-            5e-324,
-            f64::MIN_POSITIVE,
-            0.5,
-            1.0,
-            2.0,
-            3.7,
-            273.15,
-            f64::MAX,
-        ]
-        .map(|x| -x),
-    );
-    xs
-}
-
-/// 1 and the ends of the ranges of doubles, with neighbours.
-fn corners() -> Vec<f64> {
-    let mut xs = with_neighbours(&[1.0, 2.0, 0.5, f64::MIN_POSITIVE]);
-    xs.extend([
-        5e-324,
-        1e-323,
-        f64::MAX,
-        f64::MAX.next_down(),
-        1.0 + 1e-15,
-        1.0 - 1e-15,
-    ]);
-    xs
-}
-
-/// What the log word, ln and the square root are tried on.
-fn positive(random: &mut Random) -> Vec<f64> {
-    let powers: Vec<f64> = (-1074..=1023).step_by(9).map(power_of_two).collect();
-    let mut xs = outside();
-    xs.extend(corners());
-    xs.extend(with_neighbours(&powers));
-    xs.extend((0..700).map(|_| positive_pattern(random)));
-    xs.extend((0..150).map(|_| subnormal(random)));
-    xs.extend((0..300).map(|_| random.between(0.25, 4.0)));
-    xs.extend((0..100).map(|_| random.between(100.0, 2000.0)));
-    xs
-}
-
 fn log_list(random: &mut Random) -> String {
     let words = |x: f64| match log_word(x) {
         Some(l) => whole_and_fraction(l),
         // a whole part that no word has
         None => [1 << 63, 0],
     };
-    positive(random)
+    inputs::positive(random)
         .into_iter()
         .map(|x| line(&[&[x.to_bits()], &words(x)[..]].concat()))
         .collect()
 }
 
 fn antilog_list(random: &mut Random) -> String {
-    let last = (1u64 << PLACES) - 1;
-    let mut inputs: Vec<(i64, u64)> = Vec::new();
-    for k in [
-        0, 1, -1, 62, 63, 1022, 1023, 1024, 1025, -1021, -1022, -1023, -1073, -1074, -1075, -1076,
-        -1077,
-    ] {
-        for f in [0, 1, 2, 3, last / 2, last / 2 + 1, last - 1, last] {
-            inputs.push((k, f));
-        }
-    }
-    // far out of range, to the ends of a word's whole part
-    let most = i64::from(u32::MAX);
-    for k in [2000, 40_000, most, -2000, -40_000, -most - 1] {
-        for f in [0, last] {
-            inputs.push((k, f));
-        }
-    }
-    for place in 0..PLACES {
-        inputs.push((0, 1 << place));
-        inputs.push((0, last ^ 1 << place));
-    }
-    // subnormal answers lose places, so each of these whole parts rounds at another
-    for k in -1080..-1015 {
-        for _ in 0..4 {
-            inputs.push((k, random.next() & last));
-        }
-    }
-    for k in (-1080..1030).step_by(3) {
-        inputs.push((k, random.next() & last));
-    }
     let answer = |k: i64, f: u64| antilog((i128::from(k) << PLACES) + i128::from(f));
-    inputs
+    inputs::words(random)
         .into_iter()
         .map(|(k, f)| line(&[k as u64, f, bits(answer(k, f))]))
         .collect()
@@ -169,88 +55,38 @@ fn antilog_list(random: &mut Random) -> String {
 fn power_list(random: &mut Random) -> String {
     let mut list = String::new();
     for (number, q) in EXPONENTS.iter().enumerate() {
-        let mut xs = outside();
-        xs.extend(corners());
-        // where the answer leaves the range of the doubles, and of those that are normal
-        xs.extend(with_neighbours(
-            &[1024.0, -1022.0, -1074.0, -1075.0].map(|e| two_to(e / q.q)),
-        ));
-        xs.extend([-1000, -300, -53, -3, 3, 10, 200, 1000].map(power_of_two));
-        xs.extend((0..8).map(|_| positive_pattern(random)));
-        xs.extend((0..4).map(|_| subnormal(random)));
-        xs.extend((0..20).map(|_| random.between(0.0, 2.0)));
-        xs.extend((0..8).map(|_| random.between(0.0, 1200.0)));
-        xs.extend((0..4).map(|_| -positive_pattern(random)));
-        // answers over the whole range, whatever the exponent
-        xs.extend((0..12).map(|_| two_to(random.between(-1080.0, 1030.0) / q.q)));
-        for x in xs {
+        for x in inputs::bases(*q, random) {
             list += &line(&[number as u64, x.to_bits(), bits(power(x, *q))]);
         }
     }
-    // no exponent has these numbers
-    for number in [27, 28, 1 << 32, 1 << 63, u64::MAX] {
-        for x in [0.0f64, 1.0, 2.0, f64::INFINITY, f64::NAN] {
+    for number in inputs::NO_EXPONENT {
+        for x in inputs::WITHOUT_EXPONENT {
             list += &line(&[number, x.to_bits(), bits(f64::NAN)]);
         }
     }
     list
 }
 
-fn exp_list(random: &mut Random) -> String {
-    let mut xs = outside();
-    // the two thresholds, and where the answer leaves the range of the doubles, and of those that are normal
-    xs.extend(with_neighbours(&[
-        1024.0,
-        -1100.0,
-        709.782712893384,
-        -708.3964185322641,
-        -744.4400719213812,
-        -745.1332191019412,
-    ]));
-    // either side of 2^-52, below which floor(x * 2^52) is 0 or -1
-    xs.extend(with_neighbours(&[
-        power_of_two(-52),
-        -power_of_two(-52),
-        power_of_two(-53),
-        -power_of_two(-53),
-    ]));
-    xs.extend(corners());
-    xs.extend(corners().into_iter().map(|x| -x));
-    xs.extend((-1101..=1025).step_by(6).map(f64::from));
-    for _ in 0..300 {
-        xs.push(random.between(-1110.0, 1030.0));
-        xs.push(random.between(-745.2, -708.0));
-        xs.push(random.between(-2.0, 2.0));
-        xs.push(f64::from_bits(random.next()));
-    }
-    for _ in 0..20 {
-        xs.push(subnormal(random));
-        xs.push(-subnormal(random));
-    }
+/// The inputs' bits and the answers'.
+fn list(xs: Vec<f64>, answer: fn(f64) -> f64) -> String {
     xs.into_iter()
-        .map(|x| line(&[x.to_bits(), bits(exp(x))]))
+        .map(|x| line(&[x.to_bits(), bits(answer(x))]))
         .collect()
+}
+
+fn exp_list(random: &mut Random) -> String {
+    list(inputs::arguments(random), exp)
 }
 
 fn ln_list(random: &mut Random) -> String {
-    positive(random)
-        .into_iter()
-        .map(|x| line(&[x.to_bits(), bits(ln(x))]))
-        .collect()
+    list(inputs::positive(random), ln)
 }
 
 fn sqrt_list(random: &mut Random) -> String {
-    let mut xs = positive(random);
-    // squares of 26 binary digits, whose roots are exact, and their neighbours
-    for _ in 0..60 {
-        let root = (random.next() >> 38) as f64;
-        xs.extend(with_neighbours(&[root * root]));
-    }
+    let xs = inputs::squares(random);
     // Rust's own root is correctly rounded too
     assert!(xs.iter().all(|x| bits(sqrt(*x)) == bits(x.sqrt())));
-    xs.into_iter()
-        .map(|x| line(&[x.to_bits(), bits(sqrt(x))]))
-        .collect()
+    list(xs, sqrt)
 }
 
 /// Document 01's own cases.

@@ -1,0 +1,294 @@
+//! Nanoseconds a call: the proved functions through the static library, the source with our rules in 128-bit
+//! integers, and the stock source, on the same inputs in one run.
+
+use crate::exponents::EXPONENTS;
+use crate::random::Random;
+use crate::record_fields::{record, Field};
+use crate::rules::{self, PLACES};
+use crate::{exports, ruled, stock};
+use std::hint::black_box;
+use std::time::Instant;
+
+const INPUTS: usize = 250;
+const RUNS: usize = 101;
+
+pub fn measure() {
+    head("nanoseconds a call");
+    let random = &mut Random(0);
+    whole_numbers(random);
+    station(random);
+    records(random);
+    head("a record's length");
+    lengths(random);
+}
+
+fn head(of: &str) {
+    println!(
+        "{of:<42}{:>10}{:>11}{:>11}{:>10}{:>10}",
+        "ours", "u128 Rust", "stock Rust", "to u128", "to stock"
+    );
+}
+
+fn nanoseconds<T, R>(inputs: &[T], f: impl Fn(&T) -> R) -> f64 {
+    let start = Instant::now();
+    for x in inputs {
+        black_box(f(black_box(x)));
+    }
+    start.elapsed().as_nanos() as f64 / inputs.len() as f64
+}
+
+fn median(mut times: Vec<f64>) -> f64 {
+    times.sort_by(f64::total_cmp);
+    times[times.len() / 2]
+}
+
+/// Prints the medians of runs that take turns, so that a change of the machine's speed meets all three.
+fn row<T, R: PartialEq, S>(
+    name: &str,
+    inputs: &[T],
+    ours: impl Fn(&T) -> R,
+    ruled: impl Fn(&T) -> R,
+    stock: impl Fn(&T) -> S,
+) {
+    assert!(
+        inputs.iter().all(|x| ours(x) == ruled(x)),
+        "{name}: the answers differ"
+    );
+    let mut times = [Vec::new(), Vec::new(), Vec::new()];
+    for _ in 0..RUNS {
+        times[0].push(nanoseconds(inputs, &ours));
+        times[1].push(nanoseconds(inputs, &ruled));
+        times[2].push(nanoseconds(inputs, &stock));
+    }
+    let [ours, ruled, stock] = times.map(median);
+    println!(
+        "{name:<42}{ours:>10.1}{ruled:>11.1}{stock:>11.1}{:>10.3}{:>10.1}",
+        ours / ruled,
+        ours / stock
+    );
+}
+
+fn evenly<T>(mut input: impl FnMut() -> T) -> Vec<T> {
+    (0..INPUTS).map(|_| input()).collect()
+}
+
+fn log_word(x: f64) -> i128 {
+    let (mut negative, mut whole, mut part) = (false, 0, 0);
+    exports::log_word(x, &mut negative, &mut whole, &mut part);
+    let digits = (i128::from(whole) << PLACES) + i128::from(part);
+    if negative {
+        -digits - 1
+    } else {
+        digits
+    }
+}
+
+fn antilog(p: i128) -> f64 {
+    let digits = if p < 0 { -p - 1 } else { p };
+    let part = digits as u64 & ((1 << PLACES) - 1);
+    exports::antilog(p < 0, (digits >> PLACES) as u32, part)
+}
+
+fn whole_numbers(random: &mut Random) {
+    let ratios = evenly(|| random.between(0.2, 2.0));
+    let arguments = evenly(|| random.between(-5.0, 5.0));
+    let one = (1u64 << PLACES) as f64;
+    let words: Vec<i128> = arguments.iter().map(|x| (x * one) as i128).collect();
+    row(
+        "log word",
+        &ratios,
+        |x| log_word(*x),
+        |x| rules::log_word(*x).expect("a word"),
+        |x| x.log2(),
+    );
+    row(
+        "antilog",
+        &words,
+        |p| antilog(*p),
+        |p| rules::antilog(*p),
+        |p| (*p as f64 / one).exp2(),
+    );
+    for number in [0, 1, 6, 11, 23, 26] {
+        let exponent = EXPONENTS[number];
+        row(
+            &format!("power {number} ({:.4})", exponent.q),
+            &ratios,
+            |x| exports::power(*x, number),
+            |x| rules::power(*x, exponent),
+            |x| x.powf(exponent.q),
+        );
+    }
+    let exp = |x: &f64| exports::exp(*x);
+    row("exp", &arguments, exp, |x| rules::exp(*x), |x| x.exp());
+    let ln = |x: &f64| exports::ln(*x);
+    row("ln", &ratios, ln, |x| rules::ln(*x), |x| x.ln());
+    let sqrt = |x: &f64| exports::sqrt(*x);
+    row("sqrt", &ratios, sqrt, |x| rules::sqrt(*x), |x| x.sqrt());
+}
+
+/// A mast's readings over document 01's ranges.
+#[derive(Clone, Copy)]
+struct Readings {
+    altitude: f64,
+    temperature: f64,
+    pressure: f64,
+    humidity: f64,
+}
+
+fn readings(random: &mut Random) -> Vec<Readings> {
+    evenly(|| Readings {
+        altitude: random.between(-500.0, 5000.0),
+        temperature: random.between(-40.0, 50.0),
+        pressure: random.between(500.0, 1100.0),
+        humidity: random.between(1.0, 100.0),
+    })
+}
+
+fn dry(readings: &[Readings]) -> Vec<Readings> {
+    let dry = |r: &Readings| Readings {
+        humidity: 0.0,
+        ..*r
+    };
+    readings.iter().map(dry).collect()
+}
+
+fn station(random: &mut Random) {
+    let humid = readings(random);
+    for (kind, readings) in [("dry", &dry(&humid)), ("humid", &humid)] {
+        row(
+            &format!("calculate_atmosphere, {kind}"),
+            readings,
+            |r| {
+                let (t, p) = (Some(r.temperature), Some(r.pressure));
+                let mut air = [0.0; 2];
+                exports::calculate_atmosphere(r.altitude, t, p, r.humidity, &mut air);
+                (air[0], air[1])
+            },
+            |r| {
+                let (t, p) = (Some(r.temperature), Some(r.pressure));
+                ruled::calculate_atmosphere(r.altitude, t, p, r.humidity)
+            },
+            |r| {
+                let (t, p) = (Some(r.temperature), Some(r.pressure));
+                stock::calculate_atmosphere(r.altitude, t, p, r.humidity)
+            },
+        );
+        row(
+            &format!("calculate_atmosphere, {kind}, layers"),
+            readings,
+            |r| {
+                let mut air = [0.0; 2];
+                exports::calculate_atmosphere(r.altitude, None, None, r.humidity, &mut air);
+                (air[0], air[1])
+            },
+            |r| ruled::calculate_atmosphere(r.altitude, None, None, r.humidity),
+            |r| stock::calculate_atmosphere(r.altitude, None, None, r.humidity),
+        );
+        row(
+            &format!("density_matched_altitude_m, {kind}"),
+            readings,
+            |r| exports::density_altitude_m(r.temperature, r.pressure, r.humidity),
+            |r| ruled::density_matched_altitude_m(r.temperature, r.pressure, r.humidity),
+            |r| stock::density_matched_altitude_m(r.temperature, r.pressure, r.humidity),
+        );
+    }
+    let none: fn(&Readings) -> Option<f64> = |_| None;
+    let given: fn(&Readings) -> Option<f64> = |r| Some(r.temperature);
+    for (kind, t) in [("none given", none), ("given", given)] {
+        row(
+            &format!("station_for_density_altitude, {kind}"),
+            &humid,
+            |r| {
+                let mut station = [0.0; 3];
+                let status = exports::for_density_altitude(r.altitude, t(r), &mut station);
+                let [altitude, temperature, pressure] = station;
+                (status == 0).then_some((altitude, temperature, pressure))
+            },
+            |r| ruled::station_for_density_altitude(r.altitude, t(r)).ok(),
+            |r| stock::station_for_density_altitude(r.altitude, t(r)).ok(),
+        );
+    }
+}
+
+/// The refusal's number, or 0, and the figures.
+type Judged = (u64, [f64; 7]);
+
+fn judged(record: &[u8]) -> Judged {
+    let mut figures = [0.0; 7];
+    let status = exports::judge(record, &mut figures);
+    (status.into(), figures)
+}
+
+fn ruled_judged(record: &[u8]) -> Judged {
+    match ruled::record::read(record) {
+        Ok(figures) => (0, figures),
+        Err(refusal) => (refusal.number, [0.0; 7]),
+    }
+}
+
+fn record_row(name: &str, records: &[impl AsRef<[u8]>]) {
+    row(
+        name,
+        records,
+        |record| judged(record.as_ref()),
+        |record| ruled_judged(record.as_ref()),
+        |record| stock::record::read(record.as_ref()),
+    );
+}
+
+fn fields(r: &Readings, tags: &[u8]) -> Vec<u8> {
+    let value = |tag: u8| match tag {
+        2 => r.temperature,
+        3 | 4 => r.pressure,
+        5 => r.humidity,
+        _ => r.altitude,
+    };
+    let fields: Vec<Field> = tags.iter().map(|tag| (*tag, value(*tag))).collect();
+    record(&fields)
+}
+
+fn all_fields(readings: &[Readings], tags: &[u8]) -> Vec<Vec<u8>> {
+    readings.iter().map(|r| fields(r, tags)).collect()
+}
+
+/// Only readings that are accepted.
+fn records(random: &mut Random) {
+    let humid = readings(random);
+    let dry = dry(&humid);
+    for (name, readings, tags) in [
+        ("record 01 02 03 05, dry", &dry, &[1, 2, 3, 5][..]),
+        ("record 01 02 03 05, humid", &humid, &[1, 2, 3, 5]),
+        ("record 01 02 04 05, humid", &humid, &[1, 2, 4, 5]),
+        ("record 01 05, humid", &humid, &[1, 5]),
+        ("record 02 06", &humid, &[2, 6]),
+    ] {
+        record_row(name, &all_fields(readings, tags));
+    }
+}
+
+/// In dry air, so that the fields cost what there is to read, and then records that are refused for what
+/// follows their fields: no answer hangs on a byte after the 77th.
+fn lengths(random: &mut Random) {
+    let dry = dry(&readings(random));
+    for tags in [&[1][..], &[1, 2], &[1, 2, 3], &[1, 2, 3, 5]] {
+        let name = format!("{} bytes", 11 * tags.len());
+        record_row(&name, &all_fields(&dry, tags));
+    }
+    for (name, tags, junk) in [
+        ("44 bytes and 256 of junk", &[1, 2, 3, 5][..], 256),
+        ("44 bytes and 1 MiB of junk", &[1, 2, 3, 5], 1 << 20),
+        (
+            "77 bytes, the last field repeated",
+            &[1, 2, 3, 4, 5, 6, 6],
+            0,
+        ),
+        (
+            "77 bytes and 1 MiB of junk",
+            &[1, 2, 3, 4, 5, 6, 6],
+            1 << 20,
+        ),
+    ] {
+        let record = [fields(&dry[0], tags), vec![0xFF; junk]].concat();
+        record_row(name, &vec![&record; INPUTS]);
+    }
+}

@@ -1,0 +1,69 @@
+//! Lent arrays by their length: one with too few places gets status 16 and is left as it was; in any other, and
+//! behind it, the places past the answer are.
+
+use crate::compare_row::{Hex, Row};
+use crate::exports;
+use crate::record_fields::record;
+
+const TOO_SHORT: u64 = 16;
+
+/// The array before a call. A call is lent the first places of it.
+const UNTOUCHED: [f64; 8] = [-1.5; 8];
+
+/// A call's name.
+struct Name(&'static str);
+
+impl Hex for Name {
+    fn hex(&self) -> String {
+        self.0.to_string()
+    }
+}
+
+/// Every length, for calls that are accepted and refused.
+pub fn row() -> Row {
+    let mut row = Row::new("lent arrays of 0 to 7 places");
+    let mut check = |name, needs: usize, call: &dyn Fn(&mut [f64]) -> u32| {
+        let answer = |length: usize| {
+            let mut places = UNTOUCHED;
+            let status = call(&mut places[..length]);
+            [&[status.into()], &places.map(f64::to_bits)[..]].concat()
+        };
+        let too_short = [&[TOO_SHORT], &UNTOUCHED.map(f64::to_bits)[..]].concat();
+        let whole = answer(UNTOUCHED.len());
+        for length in 0..UNTOUCHED.len() {
+            let expected = if length < needs { &too_short } else { &whole };
+            row.call(&Name(name), &answer(length), expected);
+        }
+    };
+    check("standard_atmosphere", 2, &|lent| {
+        exports::standard_atmosphere(0.0, lent)
+    });
+    for given in [None, Some(20.0)] {
+        check("calculate_atmosphere", 2, &|lent| {
+            exports::calculate_atmosphere(0.0, given, given, 50.0, lent)
+        });
+    }
+    for (d, t) in [
+        (0.0, None),
+        (0.0, Some(15.0)),
+        (f64::NAN, None),
+        (0.0, Some(f64::NAN)),
+        (0.0, Some(-300.0)),
+        (1e5, None),
+    ] {
+        check("for_density_altitude", 3, &|lent| {
+            exports::for_density_altitude(d, t, lent)
+        });
+    }
+    for bytes in [
+        record(&[(1, 0.0)]),
+        record(&[(6, 0.0)]),
+        record(&[(6, 1e5)]),
+        record(&[(1, f64::NAN)]),
+        vec![7, 0, 8],
+        vec![],
+    ] {
+        check("judge", 7, &|lent| exports::judge(&bytes, lent));
+    }
+    row
+}

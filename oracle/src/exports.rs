@@ -1,0 +1,110 @@
+//! The proved functions, through the static library of the crate `exports`. A slice travels as its pointer
+//! and its length.
+
+#[link(name = "exports", kind = "static")]
+unsafe extern "C" {
+    #[link_name = "station_air_log_word"]
+    pub safe fn log_word(x: f64, negative: &mut bool, whole: &mut u32, part: &mut u64) -> bool;
+    #[link_name = "station_air_antilog"]
+    pub safe fn antilog(negative: bool, whole: u32, part: u64) -> f64;
+    #[link_name = "station_air_power"]
+    pub safe fn power(x: f64, number: usize) -> f64;
+    #[link_name = "station_air_exp"]
+    pub safe fn exp(x: f64) -> f64;
+    #[link_name = "station_air_ln"]
+    pub safe fn ln(x: f64) -> f64;
+    #[link_name = "station_air_sqrt"]
+    pub safe fn sqrt(x: f64) -> f64;
+    #[link_name = "station_air_water_vapor_mole_fraction_uncapped"]
+    pub safe fn water_vapor_mole_fraction_uncapped(
+        temperature_c: f64,
+        pressure_hpa: f64,
+        humidity_percent: f64,
+    ) -> f64;
+    #[link_name = "station_air_keeps_pressure"]
+    pub safe fn keeps_pressure(pressure_hpa: f64, altitude_m: f64) -> bool;
+    #[link_name = "station_air_keeps_temperature"]
+    pub safe fn keeps_temperature(temperature_c: f64, altitude_m: f64) -> bool;
+    #[link_name = "station_air_reduced_qnh"]
+    pub safe fn reduced_qnh(qnh_hpa: f64, altitude_m: f64) -> f64;
+    #[link_name = "station_air_nws_pressure_altitude_ft"]
+    pub safe fn nws_pressure_altitude_ft(pressure_hpa: f64) -> f64;
+    #[link_name = "station_air_pressure_altitude_m"]
+    pub safe fn pressure_altitude_m(pressure_hpa: f64) -> f64;
+    #[link_name = "station_air_faa_density_altitude_ft"]
+    pub safe fn faa_density_altitude_ft(pressure_hpa: f64, temperature_f: f64) -> f64;
+    #[link_name = "station_air_density_altitude_m"]
+    pub safe fn density_altitude_m(
+        temperature_c: f64,
+        pressure_hpa: f64,
+        humidity_percent: f64,
+    ) -> f64;
+
+    fn station_air_standard_atmosphere(altitude_m: f64, lent: *mut f64, places: usize) -> u32;
+    fn station_air_calculate_atmosphere(
+        altitude_m: f64,
+        temperature_given: bool,
+        temperature_c: f64,
+        pressure_given: bool,
+        pressure_hpa: f64,
+        humidity_percent: f64,
+        lent: *mut f64,
+        places: usize,
+    ) -> u32;
+    fn station_air_for_density_altitude(
+        density_altitude_m: f64,
+        temperature_given: bool,
+        temperature_c: f64,
+        lent: *mut f64,
+        places: usize,
+    ) -> u32;
+    fn station_air_judge(record: *const u8, bytes: usize, lent: *mut f64, places: usize) -> u32;
+}
+
+/// A value that is not given. No answer depends on it.
+const NOT_GIVEN: f64 = 12345.678;
+
+pub fn standard_atmosphere(altitude_m: f64, lent: &mut [f64]) -> u32 {
+    unsafe { station_air_standard_atmosphere(altitude_m, lent.as_mut_ptr(), lent.len()) }
+}
+
+pub fn calculate_atmosphere(
+    altitude_m: f64,
+    temperature_c: Option<f64>,
+    pressure_hpa: Option<f64>,
+    humidity_percent: f64,
+    lent: &mut [f64],
+) -> u32 {
+    unsafe {
+        station_air_calculate_atmosphere(
+            altitude_m,
+            temperature_c.is_some(),
+            temperature_c.unwrap_or(NOT_GIVEN),
+            pressure_hpa.is_some(),
+            pressure_hpa.unwrap_or(NOT_GIVEN),
+            humidity_percent,
+            lent.as_mut_ptr(),
+            lent.len(),
+        )
+    }
+}
+
+pub fn for_density_altitude(
+    density_altitude_m: f64,
+    temperature_c: Option<f64>,
+    lent: &mut [f64],
+) -> u32 {
+    unsafe {
+        station_air_for_density_altitude(
+            density_altitude_m,
+            temperature_c.is_some(),
+            temperature_c.unwrap_or(NOT_GIVEN),
+            lent.as_mut_ptr(),
+            lent.len(),
+        )
+    }
+}
+
+pub fn judge(record: &[u8], lent: &mut [f64]) -> u32 {
+    unsafe { station_air_judge(record.as_ptr(), record.len(), lent.as_mut_ptr(), lent.len()) }
+}
