@@ -1,7 +1,8 @@
 #!/usr/bin/env bash
 # Builds station_air and runs it on the record of a real park, then says what its figures mean.
 #
-# Elitch Gardens, Denver, at 1,586 m, on a summer afternoon: 24 °C, QNH 1019.3 hPa, 32 percent.
+# Elitch Gardens, Denver, at about 1,586 m, with readings made up for a summer afternoon: 24 °C, QNH
+# 1019.3 hPa, 32 percent.
 set -euo pipefail
 cd "$(dirname "$0")/.."
 rt check station_air | grep '^rt:'
