@@ -2,9 +2,10 @@
 //! integers, and the stock source, on the same inputs in one run.
 
 use crate::exponents::EXPONENTS;
+use crate::places::places;
 use crate::random::Random;
 use crate::record_fields::{record, Field};
-use crate::rules::{self, PLACES};
+use crate::rules;
 use crate::{exports, ruled, stock};
 use std::hint::black_box;
 use std::time::Instant;
@@ -75,7 +76,7 @@ fn evenly<T>(mut input: impl FnMut() -> T) -> Vec<T> {
 fn log_word(x: f64) -> i128 {
     let (mut negative, mut whole, mut part) = (false, 0, 0);
     exports::log_word(x, &mut negative, &mut whole, &mut part);
-    let digits = (i128::from(whole) << PLACES) + i128::from(part);
+    let digits = (i128::from(whole) << places()) + i128::from(part);
     if negative {
         -digits - 1
     } else {
@@ -85,27 +86,27 @@ fn log_word(x: f64) -> i128 {
 
 fn antilog(p: i128) -> f64 {
     let digits = if p < 0 { -p - 1 } else { p };
-    let part = digits as u64 & ((1 << PLACES) - 1);
-    exports::antilog(p < 0, (digits >> PLACES) as u32, part)
+    let part = digits as u64 & ((1 << places()) - 1);
+    exports::antilog(p < 0, (digits >> places()) as u32, part)
 }
 
 fn whole_numbers(random: &mut Random) {
     let ratios = evenly(|| random.between(0.2, 2.0));
     let arguments = evenly(|| random.between(-5.0, 5.0));
-    let one = (1u64 << PLACES) as f64;
+    let one = (1u64 << places()) as f64;
     let words: Vec<i128> = arguments.iter().map(|x| (x * one) as i128).collect();
     row(
         "log word",
         &ratios,
         |x| log_word(*x),
-        |x| rules::log_word(*x).expect("a word"),
+        |x| rules::log_word(places(), *x).expect("a word"),
         |x| x.log2(),
     );
     row(
         "antilog",
         &words,
         |p| antilog(*p),
-        |p| rules::antilog(*p),
+        |p| rules::antilog(places(), *p),
         |p| (*p as f64 / one).exp2(),
     );
     for number in [0, 1, 6, 11, 23, 26] {
@@ -114,14 +115,20 @@ fn whole_numbers(random: &mut Random) {
             &format!("power {number} ({:.4})", exponent.q),
             &ratios,
             |x| exports::power(*x, number),
-            |x| rules::power(*x, exponent),
+            |x| rules::power(places(), *x, exponent),
             |x| x.powf(exponent.q),
         );
     }
     let exp = |x: &f64| exports::exp(*x);
-    row("exp", &arguments, exp, |x| rules::exp(*x), |x| x.exp());
+    row(
+        "exp",
+        &arguments,
+        exp,
+        |x| rules::exp(places(), *x),
+        |x| x.exp(),
+    );
     let ln = |x: &f64| exports::ln(*x);
-    row("ln", &ratios, ln, |x| rules::ln(*x), |x| x.ln());
+    row("ln", &ratios, ln, |x| rules::ln(places(), *x), |x| x.ln());
     let sqrt = |x: &f64| exports::sqrt(*x);
     row("sqrt", &ratios, sqrt, |x| rules::sqrt(*x), |x| x.sqrt());
 }
@@ -187,7 +194,7 @@ fn station(random: &mut Random) {
         row(
             &format!("density_matched_altitude_m, {kind}"),
             readings,
-            |r| exports::density_altitude_m(r.temperature, r.pressure, r.humidity),
+            |r| exports::density_matched_altitude_m(r.temperature, r.pressure, r.humidity),
             |r| ruled::density_matched_altitude_m(r.temperature, r.pressure, r.humidity),
             |r| stock::density_matched_altitude_m(r.temperature, r.pressure, r.humidity),
         );

@@ -15,7 +15,7 @@ decimal() {
 }
 
 read -r _ altitude temperature pressure <<<"$(sed -n 1p <<<"$answer")"
-read -r _ density sound pressure_altitude density_altitude <<<"$(sed -n 2p <<<"$answer")"
+read -r _ density sound pressure_altitude matched_altitude <<<"$(sed -n 2p <<<"$answer")"
 printf '%20s  %s\n' \
     "$(decimal "$altitude")" 'm altitude' \
     "$(decimal "$temperature")" '°C temperature' \
@@ -23,4 +23,4 @@ printf '%20s  %s\n' \
     "$(decimal "$density")" 'kg/m³ density' \
     "$(decimal "$sound")" 'm/s speed of sound' \
     "$(decimal "$pressure_altitude")" 'm pressure altitude' \
-    "$(decimal "$density_altitude")" 'm density altitude'
+    "$(decimal "$matched_altitude")" 'm density-matched altitude'

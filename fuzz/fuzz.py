@@ -1,6 +1,7 @@
-"""Runs station_air on damaged records and on broken descriptors: it ends with status 0 in good time, and prints one of the two forms or nothing.
+"""Runs station_air on damaged records and on broken descriptors: it ends with status 0 in good time, and prints the oracle's answer to what it
+could read, or nothing where it cannot write.
 
-fuzz.py [RUNS [SEED]], from the repository's root, after `rt check station_air`.
+fuzz.py [RUNS [SEED]], from the repository's root, after `rt check station_air` and `oracle/build.sh`.
 """
 import os
 import re
@@ -10,10 +11,11 @@ from random import Random
 from struct import pack
 
 PROGRAM = "target/bin/station_air"
+ORACLE = "target/oracle/oracle"
 SECONDS = 5
 
 WORD = "[0-9A-F]{16}"
-FORMS = re.compile(f"station( {WORD}){{3}}\nair( {WORD}){{4}}\n|refused ([1-9]|1[0-5])\n".encode())
+ANSWER = re.compile(f"station(?: {WORD}){{3}}\nair(?: {WORD}){{4}}\n|refused (?:[1-9]|1[0-5])\n".encode())
 
 VALUES = [0.0, -0.0, 15.0, 15.05, 1013.25, 1013.0, 100.0, 1586.0, -273.15, 1e308, 5e-324, float("inf"), float("nan")]
 
@@ -40,17 +42,26 @@ def record(random):
     return bytes(data)
 
 
-def check(what, answer, status):
-    if status != 0 or not FORMS.fullmatch(answer):
-        sys.exit(f"{what}: status {status}, {answer!r}")
+def answers(records):
+    """The oracle's, one for each record."""
+    done = subprocess.run([ORACLE, "answers"], input="".join(r.hex() + "\n" for r in records).encode(), stdout=subprocess.PIPE, check=True)
+    found = ANSWER.findall(done.stdout)
+    if len(found) != len(records) or b"".join(found) != done.stdout:
+        sys.exit("the oracle printed something else than answers")
+    return found
 
 
-def run(data):
+def check(what, answer, status, right):
+    if status != 0 or answer != right:
+        sys.exit(f"{what}: status {status}, {answer!r} instead of {right!r}")
+
+
+def run(data, right):
     done = subprocess.run([PROGRAM], input=data, stdout=subprocess.PIPE, timeout=SECONDS)
-    check(data.hex(), done.stdout, done.returncode)
+    check(data.hex(), done.stdout, done.returncode, right)
 
 
-def run_piecewise(data):
+def run_piecewise(data, right):
     """Each byte a write of its own, so that reads come back short."""
     program = subprocess.Popen([PROGRAM], stdin=subprocess.PIPE, stdout=subprocess.PIPE, bufsize=0)
     try:
@@ -60,41 +71,44 @@ def run_piecewise(data):
         pass
     program.stdin.close()
     answer = program.stdout.read()
-    check(f"piecewise {data.hex()}", answer, program.wait(SECONDS))
+    check(f"piecewise {data.hex()}", answer, program.wait(SECONDS), right)
 
 
-def run_from(what, file):
+def run_from(what, file, right):
     done = subprocess.run([PROGRAM], stdin=file, stdout=subprocess.PIPE, timeout=SECONDS)
-    check(what, done.stdout, done.returncode)
+    check(what, done.stdout, done.returncode, right)
 
 
-def run_closed(what, descriptor):
+def run_closed(what, descriptor, right):
     """With a descriptor closed: where that is the output, nothing can be printed."""
     done = subprocess.run([PROGRAM], stdin=subprocess.DEVNULL, stdout=subprocess.PIPE, timeout=SECONDS, preexec_fn=lambda: os.close(descriptor))
     if descriptor == 0:
-        check(what, done.stdout, done.returncode)
+        check(what, done.stdout, done.returncode, right)
     elif done.returncode < 0 or done.stdout:
         sys.exit(f"{what}: status {done.returncode}, {done.stdout!r}")
 
 
 def main(runs=2000, seed=1):
     random = Random(int(seed))
-    for _ in range(int(runs)):
-        run(record(random))
-    for _ in range(20):
-        run_piecewise(record(random)[:400])
+    whole = [record(random) for _ in range(int(runs))]
+    for data, right in zip(whole, answers(whole)):
+        run(data, right)
+    pieces = [record(random)[:400] for _ in range(20)]
+    for data, right in zip(pieces, answers(pieces)):
+        run_piecewise(data, right)
+    zeros, empty = answers([bytes(256), b""])
     with open("/dev/zero", "rb") as endless:
-        run_from("endless zeros", endless)
+        run_from("endless zeros", endless, zeros)
     directory = os.open(".", os.O_RDONLY)
-    run_from("a directory, which cannot be read", directory)
+    run_from("a directory, which cannot be read", directory, empty)
     os.close(directory)
-    run_closed("standard input closed", 0)
-    run_closed("standard output closed", 1)
+    run_closed("standard input closed", 0, empty)
+    run_closed("standard output closed", 1, b"")
     with open("/dev/full", "wb") as full:
         done = subprocess.run([PROGRAM], stdin=subprocess.DEVNULL, stdout=full, timeout=SECONDS)
         if done.returncode < 0:
             sys.exit(f"standard output full: status {done.returncode}")
-    print(f"{runs} records, 20 piecewise, 5 descriptors: no crash, no hang, nothing but the two forms")
+    print(f"{runs} records, 20 piecewise, 5 descriptors: no crash, no hang, and the oracle's answer to each")
 
 
 main(*sys.argv[1:])

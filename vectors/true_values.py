@@ -1,9 +1,11 @@
 """Writes the lists true_*.txt: inputs over the whole range, and between which two numbers the answer lies.
 
 The true values are mpmath's, at 400 bits. How far an answer may lie from the true one follows from document 02, K14, and from the
-floors of document 01's rules; the comment before each function says how. The only argument is the folder to write to.
+floors of document 01's rules; the comment before each function says how. The only argument is the folder to write to; the variable
+PLACES is the number of places, 60 if it is not set.
 """
 
+import os
 import random
 import struct
 import sys
@@ -12,15 +14,16 @@ from pathlib import Path
 from mpmath import floor, log, mp, mpf, sqrt
 
 mp.prec = 400
-PLACES = 52
+PLACES = int(os.environ.get("PLACES", 60))
 UNIT = 2**PLACES
 
 # mpmath's own errors, and more: relative for powers and roots, absolute for logarithms.
 SLACK = mpf(2) ** -300
 
-# Document 01's constants, which the bounds of exp and ln take to lie less than 1 from the true ones.
-assert abs(0x5C551D94AE0BF85D - 2**62 / log(mpf(2))) < 1
-assert abs(0x2C5C85FDF473DE6A - 2**62 * log(mpf(2))) < 1
+# Document 01's constants, less than a unit of their last place below the true ones.
+LOG2_E, LN_2 = mpf(0x5C551D94AE0BF85D) / 2**62, mpf(0x2C5C85FDF473DE6A) / 2**62
+assert 0 < 1 / log(mpf(2)) - LOG2_E < mpf(2) ** -62
+assert 0 < log(mpf(2)) - LN_2 < mpf(2) ** -62
 
 INFINITY = float("inf")
 SMALLEST, LARGEST_SUBNORMAL = 2.0**-1074, 2.0**-1022 - 2.0**-1074
@@ -63,18 +66,18 @@ def log2_units(x):
 
 
 def two_to(units, lost=0):
-    """2^(units / 2^52), less the part `lost`."""
+    """2 to so many units of the last place, less the part `lost`."""
     return mpf(2) ** (mpf(units) / UNIT) * (1 - lost)
 
 
-# K14: L <= 2^52 log2 x < L + 2.
+# K14: L <= 2^PLACES log2 x < L + 2.
 def log_line(x):
     true = log2_units(x)
     low, high = int(floor(true - SLACK)) - 1, int(floor(true + SLACK))
     return line(bits(x), *whole_and_fraction(low), *whole_and_fraction(high))
 
 
-# K14: Y <= 2^(62 + f / 2^52) < Y + 4, and Y is at least 2^62: an antilog is at most 2^-60 of itself too small.
+# K14: Y <= 2^(62 + f / 2^PLACES) < Y + 4, and Y is at least 2^62: an antilog is at most 2^-60 of itself too small.
 def antilog_ends(low_units, high_units):
     return between(two_to(low_units, SLACK + mpf(2) ** -60), two_to(high_units, -SLACK))
 
@@ -83,26 +86,23 @@ def antilog_line(p):
     return line(*whole_and_fraction(p), *antilog_ends(p, p))
 
 
-# floor(L q) lies less than 1 below L q, and L q less than 2 |q| from 2^52 q log2 x, on the side that q's sign says.
+# floor(L q) lies less than 1 below L q, and L q less than 2 |q| from 2^PLACES q log2 x, on the side that q's sign says.
 def power_line(number, q, x):
     true = mpf(q) * log2_units(x)
     low, high = true - max(2 * q, 0) - 1, true + max(-2 * q, 0)
     return line(number, bits(x), *antilog_ends(low, high))
 
 
-# W lies less than 1 below 2^52 x, and the constant less than 1 from 2^62 / ln 2, which moves the product by W / 2^62. A last floor.
+# W lies less than 1 below 2^PLACES x, and P less than 1 below its product with the constant.
 def exp_line(x):
-    log2_e = 1 / log(mpf(2))
-    true = mpf(x) * UNIT * log2_e
-    drift = (abs(mpf(x)) * UNIT + 1) / 2**62
-    return line(bits(x), *antilog_ends(true - log2_e - drift - 1, true + drift))
+    true = mpf(x) * UNIT
+    return line(bits(x), *antilog_ends(LOG2_E * (true - 1) - 1, LOG2_E * true))
 
 
-# L lies less than 2 below 2^52 log2 x, and the constant less than 1 from 2^62 ln 2, which moves the product by L / 2^62. A last floor.
+# L lies less than 2 below 2^PLACES log2 x, and the whole number that is rounded less than 1 below its product with the constant.
 def ln_line(x):
-    true = log(mpf(x)) * UNIT
-    drift = (abs(log2_units(x)) + 2) / 2**62 + SLACK
-    return line(bits(x), *between((true - 2 * log(mpf(2)) - drift - 1) / UNIT, (true + drift) / UNIT))
+    true = log2_units(x)
+    return line(bits(x), *between((LN_2 * (true - 2) - 1 - SLACK) / UNIT, (LN_2 * true + SLACK) / UNIT))
 
 
 # Correctly rounded. No root lies so near to the middle of two doubles that the slack would matter.

@@ -6,19 +6,18 @@
 #include <stdio.h>
 
 #define RECORD_LENGTH 256
-#define FIGURES 7
 
 static const struct {
     const char *name;
     const char *unit;
-} figures[FIGURES] = {
-    {"altitude", "m"},
-    {"temperature", "°C"},
-    {"station pressure", "hPa"},
-    {"density", "kg/m³"},
-    {"speed of sound", "m/s"},
-    {"pressure altitude", "m"},
-    {"density altitude", "m"},
+} figures[STATION_AIR_JUDGE_PLACES] = {
+    [STATION_AIR_ALTITUDE_M] = {"altitude", "m"},
+    [STATION_AIR_TEMPERATURE_C] = {"temperature", "°C"},
+    [STATION_AIR_PRESSURE_HPA] = {"station pressure", "hPa"},
+    [STATION_AIR_DENSITY_KG_M3] = {"density", "kg/m³"},
+    [STATION_AIR_SPEED_OF_SOUND_MPS] = {"speed of sound", "m/s"},
+    [STATION_AIR_PRESSURE_ALTITUDE_M] = {"pressure altitude", "m"},
+    [STATION_AIR_DENSITY_MATCHED_ALTITUDE_M] = {"density-matched altitude", "m"},
 };
 
 int main(int argc, char **argv) {
@@ -40,14 +39,14 @@ int main(int argc, char **argv) {
         return 2;
     }
 
-    double places[FIGURES];
-    uint32_t status = station_air_judge(record, length, places, FIGURES);
+    double places[STATION_AIR_JUDGE_PLACES];
+    uint32_t status = station_air_judge(record, length, places, STATION_AIR_JUDGE_PLACES);
     if (status != STATION_AIR_FIGURES) {
         printf("refused %" PRIu32 "\n", status);
         return 1;
     }
-    for (size_t i = 0; i < FIGURES; i++) {
-        printf("%-18s%14.6f %s\n", figures[i].name, places[i], figures[i].unit);
+    for (size_t i = 0; i < STATION_AIR_JUDGE_PLACES; i++) {
+        printf("%-25s%14.6f %s\n", figures[i].name, places[i], figures[i].unit);
     }
     return 0;
 }

@@ -14,7 +14,7 @@ const FIGURES: [(&str, &str); 7] = [
     ("density", "kg/m³"),
     ("speed of sound", "m/s"),
     ("pressure altitude", "m"),
-    ("density altitude", "m"),
+    ("density-matched altitude", "m"),
 ];
 
 // include/station_air.h says what it answers.
@@ -70,7 +70,7 @@ fn main() -> ExitCode {
     match judge(&record) {
         Ok(places) => {
             for ((name, unit), x) in FIGURES.iter().zip(places) {
-                println!("{name:<18}{x:>14.6} {unit}");
+                println!("{name:<25}{x:>14.6} {unit}");
             }
             ExitCode::SUCCESS
         }

@@ -2,10 +2,12 @@
 //! records, held against the reader.
 
 use crate::function::{named, Function};
+use crate::random::Random;
 use crate::record_fields::record;
 use crate::record_values::HOT_HUMID_AIR;
 use crate::records::number;
 use crate::ruled::record::read;
+use crate::ruled::{resolve_station_conditions_with_pressure_mode, PressureReferenceMode};
 
 pub fn hold(functions: &[Function]) {
     let at = |name: &str, inputs: &[f64]| -> Vec<u64> {
@@ -81,4 +83,32 @@ pub fn hold_reader() {
     // with 06 the same station
     let by_density_altitude = read(&record(&[(6, 0.0)])).expect("figures");
     assert_eq!(by_density_altitude[..3], figures[..3]);
+    hold_shown_pair();
+}
+
+/// With altitude, temperature and pressure or QNH a record shows the pair that the source resolves from them.
+fn hold_shown_pair() {
+    let random = &mut Random(0);
+    for turn in 0..2000 {
+        let (tag, mode) = match turn % 2 {
+            0 => (3, PressureReferenceMode::Absolute),
+            _ => (4, PressureReferenceMode::Qnh),
+        };
+        // about the default bands every third time, and about the metre where they begin
+        let pick = |near: (f64, f64), (low, high): (f64, f64), random: &mut Random| match turn % 3 {
+            0 => random.between(near.0, near.1),
+            _ => random.between(low, high),
+        };
+        let altitude = match turn % 5 {
+            0 => random.between(-2.0, 2.0),
+            _ => random.between(-500.0, 5000.0),
+        };
+        let temperature = pick((14.8, 15.2), (-40.0, 50.0), random);
+        let pressure = pick((1012.5, 1014.0), (500.0, 1100.0), random);
+        let fields = [(1, altitude), (2, temperature), (tag, pressure)];
+        let figures = read(&record(&fields)).expect("figures");
+        let pair =
+            resolve_station_conditions_with_pressure_mode(temperature, pressure, altitude, mode);
+        assert_eq!((figures[1], figures[2]), pair);
+    }
 }

@@ -1,11 +1,11 @@
-//! Lent arrays by their length: one with too few places gets status 16 and is left as it was; in any other, and
+//! Lent arrays by their length: one with too few places gets status 255 and is left as it was; in any other, and
 //! behind it, the places past the answer are.
 
 use crate::compare_row::{Hex, Row};
 use crate::exports;
 use crate::record_fields::record;
 
-const TOO_SHORT: u64 = 16;
+const TOO_SHORT: u64 = 255;
 
 /// The array before a call. A call is lent the first places of it.
 const UNTOUCHED: [f64; 8] = [-1.5; 8];

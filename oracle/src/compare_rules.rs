@@ -5,8 +5,9 @@ use crate::exponents::EXPONENTS;
 use crate::exports;
 use crate::function::word;
 use crate::inputs;
+use crate::places::places;
 use crate::random::Random;
-use crate::rules::{self, PLACES};
+use crate::rules;
 
 pub const ROWS: [fn(u64) -> Row; 6] = [log_word, antilog, power, exp, ln, sqrt];
 
@@ -21,7 +22,7 @@ fn log_word(calls: u64) -> Row {
         let defined = exports::log_word(*x, &mut negative, &mut whole, &mut part);
         answer(defined, (negative, whole, part))
     };
-    let theirs = |x: &f64| match rules::log_word(*x) {
+    let theirs = |x: &f64| match rules::log_word(places(), *x) {
         Some(l) => {
             let Word(negative, whole, part) = Word::of(l);
             answer(true, (negative, whole, part))
@@ -45,13 +46,13 @@ struct Word(bool, u32, u64);
 impl Word {
     fn of(p: i128) -> Self {
         let a = if p < 0 { -p - 1 } else { p };
-        let part = a as u64 & ((1 << PLACES) - 1);
-        Self(p < 0, (a >> PLACES) as u32, part)
+        let part = a as u64 & ((1 << places()) - 1);
+        Self(p < 0, (a >> places()) as u32, part)
     }
 
     fn value(&self) -> i128 {
         let Self(negative, whole, part) = *self;
-        let a = (i128::from(whole) << PLACES) + i128::from(part);
+        let a = (i128::from(whole) << places()) + i128::from(part);
         if negative {
             -a - 1
         } else {
@@ -70,17 +71,18 @@ impl Hex for Word {
 fn antilog(calls: u64) -> Row {
     let random = &mut Random(2);
     let edges = inputs::words(random).into_iter();
-    let edges = edges.map(|(k, f)| Word::of((i128::from(k) << PLACES) + i128::from(f)));
+    let edges = edges.map(|(k, f)| Word::of((i128::from(k) << places()) + i128::from(f)));
     let draw = |turn| {
-        let (bits, part) = (random.next(), random.next());
+        let (bits, any) = (random.next(), random.next());
+        let part = any >> (64 - places());
         match turn % 4 {
-            // any three numbers: the part may have more than 52 bits
-            0 => Word(bits & 1 == 1, (bits >> 32) as u32, part),
+            // any three numbers: the part may have more bits than places
+            0 => Word(bits & 1 == 1, (bits >> 32) as u32, any),
             // answers from zero to infinity
-            1 => Word(bits & 1 == 1, (bits >> 32) as u32 % 1100, part >> 12),
+            1 => Word(bits & 1 == 1, (bits >> 32) as u32 % 1100, part),
             // subnormal ones
-            2 => Word(true, 1020 + (bits >> 32) as u32 % 56, part >> 12),
-            _ => Word(bits & 1 == 1, (bits >> 32) as u32 % 16, part >> 12),
+            2 => Word(true, 1020 + (bits >> 32) as u32 % 56, part),
+            _ => Word(bits & 1 == 1, (bits >> 32) as u32 % 16, part),
         }
     };
     compare(
@@ -89,7 +91,7 @@ fn antilog(calls: u64) -> Row {
         edges,
         draw,
         |word| number(exports::antilog(word.0, word.1, word.2)),
-        |word| number(rules::antilog(word.value())),
+        |word| number(rules::antilog(places(), word.value())),
     )
 }
 
@@ -123,7 +125,7 @@ fn power(calls: u64) -> Row {
         Base(base, number as u64)
     };
     let theirs = |base: &Base| match EXPONENTS.get(base.1 as usize) {
-        Some(q) => number(rules::power(base.0, *q)),
+        Some(q) => number(rules::power(places(), base.0, *q)),
         None => number(f64::NAN),
     };
     let ours = |base: &Base| number(exports::power(base.0, base.1 as usize));
@@ -145,7 +147,7 @@ fn exp(calls: u64) -> Row {
         edges,
         draw,
         |x| number(exports::exp(*x)),
-        |x| number(rules::exp(*x)),
+        |x| number(rules::exp(places(), *x)),
     )
 }
 
@@ -157,7 +159,7 @@ fn ln(calls: u64) -> Row {
         inputs::positive(random),
         |turn| positive(turn, random),
         |x| number(exports::ln(*x)),
-        |x| number(rules::ln(*x)),
+        |x| number(rules::ln(places(), *x)),
     )
 }
 

@@ -91,7 +91,13 @@ pub const PAIRS: [Pair; 11] = [
     },
     Pair {
         name: "density_matched_altitude_m",
-        ours: |x| number(exports::density_altitude_m(at(x, 0), at(x, 1), at(x, 2))),
+        ours: |x| {
+            number(exports::density_matched_altitude_m(
+                at(x, 0),
+                at(x, 1),
+                at(x, 2),
+            ))
+        },
         theirs: same,
     },
     Pair {

@@ -33,8 +33,8 @@ unsafe extern "C" {
     pub safe fn pressure_altitude_m(pressure_hpa: f64) -> f64;
     #[link_name = "station_air_faa_density_altitude_ft"]
     pub safe fn faa_density_altitude_ft(pressure_hpa: f64, temperature_f: f64) -> f64;
-    #[link_name = "station_air_density_altitude_m"]
-    pub safe fn density_altitude_m(
+    #[link_name = "station_air_density_matched_altitude_m"]
+    pub safe fn density_matched_altitude_m(
         temperature_c: f64,
         pressure_hpa: f64,
         humidity_percent: f64,

@@ -1,6 +1,6 @@
 //! The oracle: the station part of the source, built once as it stands and once with document 01's
 //! rules for its `powf`, `exp` and `ln`. `README.md` has the commands. With `library` it is the driver too,
-//! over the static library of the proved functions.
+//! over the static library of the proved functions. The variable PLACES is the number of the rules' places.
 
 mod cases;
 #[cfg(library)]
@@ -36,6 +36,8 @@ mod exponents;
 #[cfg(library)]
 #[path = "../../vectors/rules/inputs.rs"]
 mod inputs;
+#[path = "../../vectors/rules/places.rs"]
+mod places;
 #[path = "../../vectors/rules/random.rs"]
 mod random;
 #[allow(dead_code)]
@@ -63,12 +65,13 @@ use std::io;
 use std::path::Path;
 use std::process::ExitCode;
 
-const USE: &str = "oracle lists FOLDER, or oracle distance [POINTS]; driver compare CALLS RECORDS, or driver bench";
+const USE: &str = "oracle lists FOLDER, oracle answers, or oracle distance [POINTS]; driver compare CALLS RECORDS, or driver bench";
 const POINTS: u64 = 100_000;
 
 fn main() -> ExitCode {
     let arguments: Vec<String> = std::env::args().skip(1).collect();
     let arguments: Vec<&str> = arguments.iter().map(String::as_str).collect();
+    places::set_by_environment();
     cases::hold(&stock::station::FUNCTIONS);
     cases::hold(&ruled::station::FUNCTIONS);
     cases::hold_reader();
@@ -77,6 +80,13 @@ fn main() -> ExitCode {
             Ok(()) => true,
             Err(error) => {
                 eprintln!("{folder}: {error}");
+                false
+            }
+        },
+        ["answers"] => match records::answer(io::stdin().lock()) {
+            Ok(()) => true,
+            Err(error) => {
+                eprintln!("{error}");
                 false
             }
         },

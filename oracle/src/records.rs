@@ -56,6 +56,28 @@ fn lines(record: &[u8]) -> String {
     lines + "\n"
 }
 
+/// What the program prints for each record of the input, a line of hex digits each.
+pub fn answer(input: impl io::BufRead) -> io::Result<()> {
+    for line in input.lines() {
+        let line = line?;
+        let byte = |i: usize| u8::from_str_radix(&line[i..i + 2], 16).expect("hex digits");
+        let record: Vec<u8> = (0..line.len()).step_by(2).map(byte).collect();
+        print!("{}", text(&record));
+    }
+    Ok(())
+}
+
+fn text(record: &[u8]) -> String {
+    match read(record) {
+        Ok(figures) => {
+            let digits = figures.map(|x| format!(" {:016X}", word(x))).concat();
+            let (station, air) = digits.split_at(3 * 17);
+            format!("station{station}\nair{air}\n")
+        }
+        Err(refusal) => format!("refused {}\n", refusal.number),
+    }
+}
+
 /// The refusal's number, or 0.
 pub fn number(record: &[u8]) -> u64 {
     read(record).map_or_else(|refusal| refusal.number, |_| 0)

@@ -1,8 +1,9 @@
 //! What the functions of the rules are tried on: edges, and draws over the whole range.
 
 use crate::exponents::Exponent;
+use crate::places::places;
 use crate::random::Random;
-use crate::rules::{antilog, PLACES};
+use crate::rules::antilog;
 
 fn with_neighbours(xs: &[f64]) -> Vec<f64> {
     xs.iter()
@@ -12,7 +13,7 @@ fn with_neighbours(xs: &[f64]) -> Vec<f64> {
 
 /// About 2^x, by the rules: `exp2` may differ from one machine to another, and with it the list.
 pub fn two_to(x: f64) -> f64 {
-    antilog((x * (1u64 << PLACES) as f64) as i128)
+    antilog(places(), (x * (1u64 << places()) as f64) as i128)
 }
 
 fn power_of_two(e: i32) -> f64 {
@@ -89,9 +90,9 @@ pub fn positive(random: &mut Random) -> Vec<f64> {
     xs
 }
 
-/// What the antilog is tried on: floor(P / 2^52) and the remainder.
+/// What the antilog is tried on: floor(P / 2^places) and the remainder.
 pub fn words(random: &mut Random) -> Vec<(i64, u64)> {
-    let last = (1u64 << PLACES) - 1;
+    let last = (1u64 << places()) - 1;
     let mut inputs: Vec<(i64, u64)> = Vec::new();
     for k in [
         0, 1, -1, 62, 63, 1022, 1023, 1024, 1025, -1021, -1022, -1023, -1073, -1074, -1075, -1076,
@@ -108,7 +109,7 @@ pub fn words(random: &mut Random) -> Vec<(i64, u64)> {
             inputs.push((k, f));
         }
     }
-    for place in 0..PLACES {
+    for place in 0..places() {
         inputs.push((0, 1 << place));
         inputs.push((0, last ^ 1 << place));
     }
@@ -159,13 +160,9 @@ pub fn arguments(random: &mut Random) -> Vec<f64> {
         -744.4400719213812,
         -745.1332191019412,
     ]));
-    // either side of 2^-52, below which floor(x * 2^52) is 0 or -1
-    xs.extend(with_neighbours(&[
-        power_of_two(-52),
-        -power_of_two(-52),
-        power_of_two(-53),
-        -power_of_two(-53),
-    ]));
+    // either side of the last place's unit, below which the floor is 0 or -1
+    let unit = power_of_two(-(places() as i32));
+    xs.extend(with_neighbours(&[unit, -unit, unit / 2.0, -unit / 2.0]));
     xs.extend(corners());
     xs.extend(corners().into_iter().map(|x| -x));
     xs.extend((-1101..=1025).step_by(6).map(f64::from));

@@ -1,12 +1,10 @@
 //! Document 01, "Added: three functions by whole numbers", in plain Rust with 128-bit integers.
 //!
 //! It follows the document's text and shares no code with the Rattle functions, so that the two can be held
-//! against each other.
+//! against each other. The number of places is the first argument of each function that depends on it: document 01
+//! has 52, request K10 of document 02 has 60.
 
 use crate::exponents::Exponent;
-
-/// Binary places of a log word.
-pub const PLACES: u32 = 52;
 
 /// 1 / ln 2 and ln 2, times 2^62, as document 01 prints them.
 const LOG2_E: i128 = 0x5C55_1D94_AE0B_F85D;
@@ -50,8 +48,15 @@ fn nearest(m: u128, e: i64) -> f64 {
     f64::from_bits(((last + 1074) as u64) * (1 << 52) + places as u64)
 }
 
+/// floor(a * b / 2^shift), where a * b may take more than 127 bits.
+fn scaled(a: i128, b: i128, shift: u32) -> i128 {
+    let high = a >> shift;
+    let low = a - (high << shift);
+    high * b + (low * b >> shift)
+}
+
 /// L of a positive finite double, else nothing.
-pub fn log_word(x: f64) -> Option<i128> {
+pub fn log_word(places: u32, x: f64) -> Option<i128> {
     if !(x > 0.0 && x < f64::INFINITY) {
         return None;
     }
@@ -60,19 +65,19 @@ pub fn log_word(x: f64) -> Option<i128> {
     let exponent = e + 63 - zeros as i32;
     let mut mantissa = m << zeros >> 1;
     let mut bits = 0;
-    for _ in 0..PLACES {
+    for _ in 0..places {
         let q = (u128::from(mantissa) * u128::from(mantissa) >> 62) as u64;
         let bit = q >> 63;
         mantissa = q >> bit;
         bits = bits << 1 | bit;
     }
-    Some((i128::from(exponent) << PLACES) + i128::from(bits))
+    Some((i128::from(exponent) << places) + i128::from(bits))
 }
 
 /// Y of the fraction `f`.
-pub fn antilog_root(f: u64) -> u64 {
+pub fn antilog_root(places: u32, f: u64) -> u64 {
     let mut y: u64 = 1 << 62;
-    for place in 0..PLACES {
+    for place in 0..places {
         let bit = f >> place & 1;
         y = (u128::from(y) << (62 + bit)).isqrt() as u64;
     }
@@ -80,22 +85,23 @@ pub fn antilog_root(f: u64) -> u64 {
 }
 
 /// The antilog of the whole number `p`.
-pub fn antilog(p: i128) -> f64 {
-    let whole = p >> PLACES;
-    let fraction = p - (whole << PLACES);
-    nearest(antilog_root(fraction as u64).into(), whole as i64 - 62)
+pub fn antilog(places: u32, p: i128) -> f64 {
+    let whole = p >> places;
+    let fraction = p - (whole << places);
+    let y = antilog_root(places, fraction as u64);
+    nearest(y.into(), whole as i64 - 62)
 }
 
-fn positive_power(x: f64, q: Exponent) -> Option<f64> {
-    log_word(x).map(|l| antilog(l * q.times_2_58 >> 58))
+fn positive_power(places: u32, x: f64, q: Exponent) -> Option<f64> {
+    log_word(places, x).map(|l| antilog(places, scaled(l, q.times_2_58, 58)))
 }
 
 /// x to the power q.
-pub fn power(x: f64, q: Exponent) -> f64 {
+pub fn power(places: u32, x: f64, q: Exponent) -> f64 {
     let negative = q.q < 0.0;
     if x.is_nan() {
         f64::NAN
-    } else if let Some(r) = positive_power(x, q) {
+    } else if let Some(r) = positive_power(places, x, q) {
         r
     } else if x == 0.0 {
         match (negative, q.q == 3.0 && x.is_sign_negative()) {
@@ -110,23 +116,23 @@ pub fn power(x: f64, q: Exponent) -> f64 {
             (false, false) => f64::INFINITY,
         }
     } else if q.q == 3.0 {
-        -power(-x, q)
+        -power(places, -x, q)
     } else if q.q == 4.0 {
-        power(-x, q)
+        power(places, -x, q)
     } else {
         f64::NAN
     }
 }
 
-/// floor(x * 2^52) of a finite double below 2^11 in size.
-fn scaled_floor(x: f64) -> i128 {
+/// floor(x * 2^places) of a finite double below 2^11 in size.
+fn scaled_floor(places: u32, x: f64) -> i128 {
     let (m, e) = parts(x);
     let signed = if x < 0.0 {
         -i128::from(m)
     } else {
         i128::from(m)
     };
-    let shift = e + PLACES as i32;
+    let shift = e + places as i32;
     if shift >= 0 {
         signed << shift
     } else {
@@ -134,7 +140,7 @@ fn scaled_floor(x: f64) -> i128 {
     }
 }
 
-pub fn exp(x: f64) -> f64 {
+pub fn exp(places: u32, x: f64) -> f64 {
     if x.is_nan() {
         f64::NAN
     } else if x >= 1024.0 {
@@ -142,14 +148,14 @@ pub fn exp(x: f64) -> f64 {
     } else if x <= -1100.0 {
         0.0
     } else {
-        antilog(scaled_floor(x) * LOG2_E >> 62)
+        antilog(places, scaled(scaled_floor(places, x), LOG2_E, 62))
     }
 }
 
-pub fn ln(x: f64) -> f64 {
-    if let Some(l) = log_word(x) {
-        let n = l * LN_2 >> 62;
-        let size = nearest(n.unsigned_abs(), -i64::from(PLACES));
+pub fn ln(places: u32, x: f64) -> f64 {
+    if let Some(l) = log_word(places, x) {
+        let n = scaled(l, LN_2, 62);
+        let size = nearest(n.unsigned_abs(), -i64::from(places));
         if n < 0 {
             -size
         } else {

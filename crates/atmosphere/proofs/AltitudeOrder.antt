@@ -7,14 +7,14 @@ use lib.IntN.{pos, negsuc}
 use lib.Dec.{T}
 use lib.Ieee.{Float, nan, inf, fin, binary64, ofBits, add, sub, mul, div, neg, fits, le}
 use lib.Ieee.Fits.{neg-fits, sub-fits, mul-fits, div-fits}
+use Rattle.elementary.specs.Decimals.{one}
 use Rattle.elementary.specs.Operators.{_⊕_, _⊖_, _⊗_, _⊘_}
-use Rattle.elementary.specs.Exponents.{ofDouble}
+use Rattle.elementary.specs.Exponents.{ofDouble, nwsExponent}
 use Rattle.elementary.specs.Power.{power}
 use Rattle.elementary.proofs.Order.{number}
 use Rattle.elementary.proofs.Rises.{Rises, FallsFromZero, power-rises, power-fits}
 use Rattle.elementary.proofs.Sums.{add-comm-double, sum-keeps, sub-falls}
 use Rattle.elementary.proofs.Products.{mul-by-rises, div-rises}
-use Rattle.humid_air.specs.Saturation.{one}
 use Rattle.atmosphere.specs.Station.{standardPressure}
 use Rattle.atmosphere.specs.Altitudes.{nwsAltitude, standardFahrenheit, feetPerDegree, faaDensityAltitude}
 
@@ -22,7 +22,7 @@ use Rattle.atmosphere.specs.Altitudes.{nwsAltitude, standardFahrenheit, 
 pub nws-falls : (p : ℕ) → FallsFromZero (nwsAltitude p)
 unfolding ofBits div fits
 nws-falls p x y f g z h =
-    let q = ofDouble (ofBits binary64 0x3fc85b39e279dd3c) in
+    let q = ofDouble nwsExponent in
     let a : Float = x ⊘ standardPressure in
     let b : Float = y ⊘ standardPressure in
     let low : T (le (fin false 0 (pos 0)) a) = div-rises 4052 (negsuc 1) (fin false 0 (pos 0)) x tt f z in

@@ -1,34 +1,45 @@
--- Pressure altitude and density altitude: the National Weather Service's formula, the FAA's rule, and the heights of a pressure and of a density in the
--- layers of ICAO Doc 7488, Manual of the ICAO Standard Atmosphere. Constants and rounding order are those of src/atmosphere.rs; places is the number of
--- places of exp, ln and power. Definitions only.
+-- Pressure altitude, density altitude and density-matched altitude: the National Weather Service's formula, the FAA's rule, and the heights of a pressure
+-- and of a density in the layers of ICAO Doc 7488, Manual of the ICAO Standard Atmosphere. The manual and the FAA's publications are cited without
+-- sections, which were not at hand. Constants and rounding order are those of src/atmosphere.rs; places is the number of places of exp, ln and power.
+-- Definitions only.
 use Prim.Native.Nat.{ℕ, zero, suc}
 use mathlib.Core.Bool.{_&&_, _||_, cond}
-use lib.Ieee.{Float, binary64, ofBits, neg, le, isNan}
+use lib.Ieee.{Float, neg, le, isNan}
+use Rattle.elementary.specs.Decimals.{decimal, nought, one, hundred}
 use Rattle.elementary.specs.Operators.{_⊕_, _⊖_, _⊗_, _⊘_}
-use Rattle.elementary.specs.Exponents.{ofDouble}
+use Rattle.elementary.specs.Exponents.{ofDouble, g₀, Rd, lapse, pressureExponent, temperatureExponent, densityExponent, troposphereExponent, nwsExponent}
 use Rattle.elementary.specs.Power.{power}
 use Rattle.elementary.specs.Exp.{exp}
 use Rattle.elementary.specs.Ln.{ln}
-use Rattle.humid_air.specs.Saturation.{one}
-use Rattle.humid_air.specs.MoistAir.{hundred, nought}
-use Rattle.humid_air.specs.Sound.{R}
 use Rattle.atmosphere.specs.declared.station.Reading.the-variants.{Given}
-use Rattle.atmosphere.specs.Layers.{g₀, lowestHeight, baseHeight, baseTemperature, basePressure, gradient, isothermal}
+use Rattle.atmosphere.specs.Layers.{lowestHeight, baseHeight, baseTemperature, basePressure, gradient, isothermal}
 use Rattle.atmosphere.specs.Station.{standardPressure, standardTemperature, atmosphere}
 
 -- ---- National Weather Service, "Pressure Altitude" (weather.gov/media/epz/wxcalc/pressureAltitude.pdf), of a station pressure p in hPa
--- h = 145366.45 ft (1 - (p / 1013.25)^0.190284)
+-- h = 145366.45 ft (1 - (p / 1013.25)^n), with the exponent n = 0.190284 of elementary's table
+abbrev pub nwsFeet : Float
+nwsFeet = decimal "145366.45"
+
 abbrev pub nwsAltitude : ℕ → Float → Float
-nwsAltitude places p = ofBits binary64 0x4101beb39999999a ⊗ (one ⊖ power places (ofDouble (ofBits binary64 0x3fc85b39e279dd3c)) (p ⊘ standardPressure))
+nwsAltitude places p = nwsFeet ⊗ (one ⊖ power places (ofDouble nwsExponent) (p ⊘ standardPressure))
 
 -- ---- the FAA's rule, of a station pressure p in hPa and a temperature t in °F
 -- the standard temperature at h feet, in °F: 59 - 3.57 h / 1000
+abbrev pub seaLevelFahrenheit : Float
+seaLevelFahrenheit = decimal "59"
+
+abbrev pub thousand : Float
+thousand = decimal "1000"
+
+abbrev pub fahrenheitPerThousandFeet : Float
+fahrenheitPerThousandFeet = decimal "3.57"
+
 abbrev pub standardFahrenheit : Float → Float
-standardFahrenheit h = ofBits binary64 0x404d800000000000 ⊖ h ⊘ ofBits binary64 0x408f400000000000 ⊗ ofBits binary64 0x400c8f5c28f5c28f
+standardFahrenheit h = seaLevelFahrenheit ⊖ h ⊘ thousand ⊗ fahrenheitPerThousandFeet
 
 -- 120 ft for each °C, which is 120 * 5 / 9 for each °F
 abbrev pub feetPerDegree : Float
-feetPerDegree = ofBits binary64 0x405e000000000000 ⊗ ofBits binary64 0x4014000000000000 ⊘ ofBits binary64 0x4022000000000000
+feetPerDegree = decimal "120" ⊗ decimal "5" ⊘ decimal "9"
 
 abbrev pub faaDensityAltitude : ℕ → Float → Float → Float
 faaDensityAltitude places p t = let h = nwsAltitude places p in h ⊕ feetPerDegree ⊗ (t ⊖ standardFahrenheit h)
@@ -39,7 +50,7 @@ thickness i = baseHeight (suc i) ⊖ baseHeight i
 
 -- the scale height, R T_b / g₀
 abbrev pub scaleHeight : ℕ → Float
-scaleHeight i = R ⊗ baseTemperature i ⊘ g₀
+scaleHeight i = Rd ⊗ baseTemperature i ⊘ g₀
 
 -- what a pressure or a density at the base is multiplied by at the top: exp (-ΔH / scale height) without a gradient, and with one the q-th power of
 -- the temperatures' ratio, 1 + β ΔH / T_b
@@ -64,29 +75,23 @@ abbrev pub heightFrom : ℕ → (ℕ → Float → Float) → (ℕ → Float) �
 heightFrom places raised value n i x = let j = layerFrom value n i x in heightIn places (raised j) j (value j) x
 
 -- ---- the height of a pressure in Pa
--- -g₀ / (β R), and the other way -β R / g₀
-abbrev pub pressureExponent : ℕ → Float
-pressureExponent i = neg g₀ ⊘ (gradient i ⊗ R)
-
-abbrev pub temperatureExponent : ℕ → Float
-temperatureExponent i = neg (gradient i) ⊗ R ⊘ g₀
-
--- the base pressures, each chained from the one below by the layer's formula; they are not the rounded p_b of the table
+-- the base pressures, each chained from the one below by the layer's formula, with the exponent -g₀ / (β R); they are not the rounded p_b of the table
 unfoldable pub chainedPressure : ℕ → ℕ → Float
 chainedPressure places zero = basePressure 0
-chainedPressure places (suc i) = chainedPressure places i ⊗ across places (pressureExponent i) i
+chainedPressure places (suc i) = chainedPressure places i ⊗ across places (pressureExponent (gradient i)) i
 
+-- the other way with the exponent -β R / g₀
 unfoldable pub heightOfPressure : ℕ → Float → Float
-heightOfPressure places p = heightFrom places (λ (i : ℕ). power places (ofDouble (temperatureExponent i))) (chainedPressure places) 6 0 p
+heightOfPressure places p = heightFrom places (λ (i : ℕ). power places (ofDouble (temperatureExponent (gradient i)))) (chainedPressure places) 6 0 p
 
 -- ---- the pressure altitude of a station pressure p in hPa
--- 11,000 m, the top of the troposphere
+-- the top of the troposphere, in m
 abbrev pub tropopause : Float
-tropopause = ofBits binary64 0x40c57c0000000000
+tropopause = decimal "11000"
 
--- a foot is 0.3048 m
+-- a foot, in m
 abbrev pub foot : Float
-foot = ofBits binary64 0x3fd381d7dbf487fd
+foot = decimal "0.3048"
 
 -- the National Weather Service's from -5,000 m to 11,000 m, both included, and where it is NaN; else the height in the layers
 unfoldable pub pressureAltitude : ℕ → Float → Float
@@ -95,33 +100,22 @@ pressureAltitude places p =
     cond (isNan h || (le lowestHeight h && le h tropopause)) h (heightOfPressure places (p ⊗ hundred))
 
 -- ---- the height of a density, as its ratio x to that at sea level
--- of a layer, -g₀ / (R β) - 1
-abbrev pub densityExponent : ℕ → Float
-densityExponent i = neg g₀ ⊘ (R ⊗ gradient i) ⊖ one
-
--- the troposphere's lapse rate, 0.0065 K/m
-abbrev pub lapse : Float
-lapse = ofBits binary64 0x3f7a9fbe76c8b439
-
--- and its exponent, g₀ / (R lapse) - 1
-abbrev pub troposphereExponent : Float
-troposphereExponent = g₀ ⊘ (R ⊗ lapse) ⊖ one
-
--- the ratios at the bases: at the tropopause by the temperatures, (T₁ / T₀)^n, and above it each chained from the one below
+-- The ratios at the bases: at the tropopause by the temperatures, (T₁ / T₀)^n with the troposphere's exponent n = g₀ / (R lapse) - 1, and above it each
+-- chained from the one below, with a layer's exponent -g₀ / (R β) - 1
 unfoldable pub chainedRatio : ℕ → ℕ → Float
 chainedRatio places zero = one
 chainedRatio places (suc zero) = power places (ofDouble troposphereExponent) (baseTemperature 1 ⊘ baseTemperature 0)
-chainedRatio places (suc (suc i)) = chainedRatio places (suc i) ⊗ across places (densityExponent (suc i)) (suc i)
+chainedRatio places (suc (suc i)) = chainedRatio places (suc i) ⊗ across places (densityExponent (gradient (suc i))) (suc i)
 
 -- above the tropopause
 unfoldable pub heightOfRatio : ℕ → Float → Float
-heightOfRatio places x = heightFrom places (λ (i : ℕ). power places (ofDouble (one ⊘ densityExponent i))) (chainedRatio places) 5 1 x
+heightOfRatio places x = heightFrom places (λ (i : ℕ). power places (ofDouble (one ⊘ densityExponent (gradient i)))) (chainedRatio places) 5 1 x
 
 -- in the troposphere: T₀ / lapse (1 - x^(1/n))
 abbrev pub troposphereHeight : ℕ → Float → Float
 troposphereHeight places x = baseTemperature 0 ⊘ lapse ⊗ (one ⊖ power places (ofDouble (one ⊘ troposphereExponent)) x)
 
--- ---- the density altitude of air at t °C, p hPa and h percent
+-- ---- the density-matched altitude of air at t °C, p hPa and h percent
 abbrev pub density : ℕ → Float → Float → Float → Float
 density places t p h = atmosphere places nought (Given t) (Given p) h .«density_kg_m3»
 
@@ -130,8 +124,8 @@ unfoldable pub seaLevelDensity : ℕ → Float
 seaLevelDensity places = density places standardTemperature standardPressure nought
 
 -- the troposphere's height up to 11,000 m, and where it is NaN; else the height in the layers above
-unfoldable pub densityAltitude : ℕ → Float → Float → Float → Float
-densityAltitude places t p h =
+unfoldable pub densityMatchedAltitude : ℕ → Float → Float → Float → Float
+densityMatchedAltitude places t p h =
     let x = density places t p h ⊘ seaLevelDensity places in
     let H = troposphereHeight places x in
     cond (isNan H || le H tropopause) H (heightOfRatio places x)

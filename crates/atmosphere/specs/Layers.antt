@@ -1,33 +1,31 @@
 -- The ICAO standard atmosphere, by ICAO Doc 7488, Manual of the ICAO Standard Atmosphere: geopotential height, the layers, and temperature and
--- pressure in a layer. Constants and rounding order are those of src/atmosphere.rs; p is the number of places of exp and power. Definitions only.
+-- pressure in a layer. The manual's sections and tables are cited by what they hold, since their numbers were not at hand. Constants and rounding order
+-- are those of src/atmosphere.rs; p is the number of places of exp and power. Definitions only.
 use Prim.Native.Nat.{ℕ, zero, suc}
+use Prim.Native.String.{String}
 use mathlib.Core.Bool.{Bool, cond}
 use mathlib.Core.List.{List, [], _∷_}
 use lib.ListN.{getD}
-use lib.Ieee.{Float, nan, binary64, ofBits, neg, lt, le}
+use lib.Ieee.{Float, nan, neg, lt, le}
+use Rattle.elementary.specs.Decimals.{decimal}
 use Rattle.elementary.specs.Operators.{_⊕_, _⊖_, _⊗_, _⊘_}
-use Rattle.elementary.specs.Exponents.{ofDouble}
+use Rattle.elementary.specs.Exponents.{ofDouble, g₀, Rd, pressureExponent}
 use Rattle.elementary.specs.Power.{power}
 use Rattle.elementary.specs.Exp.{exp}
 use Rattle.humid_air.specs.Doubles.{clampDouble, absDouble}
-use Rattle.humid_air.specs.Sound.{R}
 use Rattle.atmosphere.specs.declared.layers.StandardAir.{StandardAir}
 
--- ---- Doc 7488, primary constants; R, the specific gas constant of dry air, is that of the speed of sound
--- g₀, the standard acceleration of free fall: 9.80665 m/s²
-abbrev pub g₀ : Float
-g₀ = ofBits binary64 0x40239d013a92a305
-
--- r, the nominal radius of the Earth: 6,356,766 m
+-- ---- Doc 7488, primary constants; g₀ and R, here `Rd`, are elementary's, where the exponents need them
+-- r, the nominal radius of the Earth, in m
 abbrev pub r : Float
-r = ofBits binary64 0x41583fc780000000
+r = decimal "6356766"
 
--- the ends of the range of heights, -5,000 m and 84,000 m
+-- the ends of the range of heights, in m
 abbrev pub lowestHeight : Float
-lowestHeight = ofBits binary64 0xc0b3880000000000
+lowestHeight = decimal "-5000"
 
 abbrev pub highestHeight : Float
-highestHeight = ofBits binary64 0x40f4820000000000
+highestHeight = decimal "84000"
 
 -- ---- Doc 7488, geopotential and geometric altitudes
 -- H = r h / (r + h), for the geometric altitude h
@@ -40,25 +38,18 @@ standardHeight altitude = clampDouble (geopotentialHeight (clampDouble altitude 
 
 -- ---- Doc 7488, temperature and vertical temperature gradient: the layers
 -- a layer's row: H_b (m), T_b (K) and p_b (Pa), the geopotential height, temperature and pressure of its base, and β (K/m), its temperature gradient
-abbrev row : ℕ → ℕ → ℕ → ℕ → List Float
-row H T P β = ofBits binary64 H ∷ ofBits binary64 T ∷ ofBits binary64 P ∷ ofBits binary64 β ∷ []
+abbrev row : String → String → String → String → List Float
+row H T P β = decimal H ∷ decimal T ∷ decimal P ∷ decimal β ∷ []
 
 unfoldable pub layers : List (List Float)
 layers =
-    -- 0: 0, 288.15, 101325, -0.0065
-    row 0x0000000000000000 0x4072026666666666 0x40f8bcd000000000 0xbf7a9fbe76c8b439 ∷
-    -- 1: 11000, 216.65, 22632.1, 0
-    row 0x40c57c0000000000 0x406b14cccccccccd 0x40d61a0666666666 0x0000000000000000 ∷
-    -- 2: 20000, 216.65, 5474.89, 0.001
-    row 0x40d3880000000000 0x406b14cccccccccd 0x40b562e3d70a3d71 0x3f50624dd2f1a9fc ∷
-    -- 3: 32000, 228.65, 868.02, 0.0028
-    row 0x40df400000000000 0x406c94cccccccccd 0x408b2028f5c28f5c 0x3f66f0068db8bac7 ∷
-    -- 4: 47000, 270.65, 110.91, 0
-    row 0x40e6f30000000000 0x4070ea6666666666 0x405bba3d70a3d70a 0x0000000000000000 ∷
-    -- 5: 51000, 270.65, 66.94, -0.0028
-    row 0x40e8e70000000000 0x4070ea6666666666 0x4050bc28f5c28f5c 0xbf66f0068db8bac7 ∷
-    -- 6: 71000, 214.65, 3.96, -0.002
-    row 0x40f1558000000000 0x406ad4cccccccccd 0x400fae147ae147ae 0xbf60624dd2f1a9fc ∷ []
+    row "0" "288.15" "101325" "-0.0065" ∷
+    row "11000" "216.65" "22632.1" "0" ∷
+    row "20000" "216.65" "5474.89" "0.001" ∷
+    row "32000" "228.65" "868.02" "0.0028" ∷
+    row "47000" "270.65" "110.91" "0" ∷
+    row "51000" "270.65" "66.94" "-0.0028" ∷
+    row "71000" "214.65" "3.96" "-0.002" ∷ []
 
 -- H_b, T_b, p_b and β of layer i
 abbrev pub baseHeight : ℕ → Float
@@ -87,20 +78,20 @@ abbrev pub layerTemperature : ℕ → Float → Float
 layerTemperature i d = baseTemperature i ⊕ gradient i ⊗ d
 
 -- ---- Doc 7488, pressure
--- β counts as zero where its size is below 1e-10
+-- β counts as zero where its size is below this
 abbrev pub negligible : Float
-negligible = ofBits binary64 0x3ddb7cdfd9d7bdbb
+negligible = decimal "1e-10"
 
 abbrev pub isothermal : ℕ → Bool
 isothermal i = lt (absDouble (gradient i)) negligible
 
 -- without a gradient: p_b exp (-g₀ (H - H_b) / (R T_b))
 abbrev pub isothermalPressure : ℕ → ℕ → Float → Float
-isothermalPressure p i d = basePressure i ⊗ exp p (neg g₀ ⊗ d ⊘ (R ⊗ baseTemperature i))
+isothermalPressure p i d = basePressure i ⊗ exp p (neg g₀ ⊗ d ⊘ (Rd ⊗ baseTemperature i))
 
 -- with a gradient, at the temperature T: p_b (T / T_b) ^ (-g₀ / (β R))
 abbrev pub gradientPressure : ℕ → ℕ → Float → Float
-gradientPressure p i T = basePressure i ⊗ power p (ofDouble (neg g₀ ⊘ (gradient i ⊗ R))) (T ⊘ baseTemperature i)
+gradientPressure p i T = basePressure i ⊗ power p (ofDouble (pressureExponent (gradient i))) (T ⊘ baseTemperature i)
 
 unfoldable pub layerPressure : ℕ → ℕ → Float → Float → Float
 layerPressure p i d T = cond (isothermal i) (isothermalPressure p i d) (gradientPressure p i T)

@@ -2,12 +2,13 @@
 -- Temperatures t in °C, pressures p in hPa, altitudes in m, humidities h in percent; `places` is the number of places of exp and power. Definitions only.
 use Prim.Native.Nat.{ℕ}
 use mathlib.Core.Bool.{Bool, _&&_, cond}
-use lib.Ieee.{Float, binary64, ofBits, lt}
+use lib.Ieee.{Float, lt}
+use Rattle.elementary.specs.Decimals.{decimal, nought, one, hundred}
 use Rattle.elementary.specs.Operators.{_⊕_, _⊖_, _⊗_, _⊘_}
-use Rattle.elementary.specs.Power.{powerAt}
+use Rattle.elementary.specs.Exponents.{ofDouble, pressureExponent}
+use Rattle.elementary.specs.Power.{power}
 use Rattle.humid_air.specs.Doubles.{clampDouble, absDouble}
-use Rattle.humid_air.specs.Saturation.{one}
-use Rattle.humid_air.specs.MoistAir.{icePoint, nought, hundred, airDensity}
+use Rattle.humid_air.specs.MoistAir.{icePoint, airDensity}
 use Rattle.humid_air.specs.Sound.{soundSpeed}
 use Rattle.atmosphere.specs.declared.station.Reading.{Reading}
 use Rattle.atmosphere.specs.declared.station.Reading.the-variants.{Given, FromLayer}
@@ -15,19 +16,17 @@ use Rattle.atmosphere.specs.declared.station.Air.{Air}
 use Rattle.atmosphere.specs.Layers.{baseTemperature, basePressure, gradient, standardHeight, standardAir}
 
 -- ---- the default bands: within 0.5 hPa of 1013.25 hPa, and within 0.1 °C of 15 °C
--- 1013.25
 abbrev pub standardPressure : Float
-standardPressure = ofBits binary64 0x408faa0000000000
+standardPressure = decimal "1013.25"
 
 abbrev pub inPressureBand : Float → Bool
-inPressureBand p = lt (absDouble (p ⊖ standardPressure)) (ofBits binary64 0x3fe0000000000000)
+inPressureBand p = lt (absDouble (p ⊖ standardPressure)) (decimal "0.5")
 
--- 15
 abbrev pub standardTemperature : Float
-standardTemperature = ofBits binary64 0x402e000000000000
+standardTemperature = decimal "15"
 
 abbrev pub inTemperatureBand : Float → Bool
-inTemperatureBand t = lt (absDouble (t ⊖ standardTemperature)) (ofBits binary64 0x3fb999999999999a)
+inTemperatureBand t = lt (absDouble (t ⊖ standardTemperature)) (decimal "0.1")
 
 -- a reading in its band, more than 1 m from sea level, is a default and comes from the layer
 abbrev pub resolved : Bool → Float → Float → Reading
@@ -39,11 +38,13 @@ stationPressure p altitude = resolved (inPressureBand p) p altitude
 abbrev pub stationTemperature : Float → Float → Reading
 stationTemperature t altitude = resolved (inTemperatureBand t) t altitude
 
--- ---- QNH, the altimeter setting, reduced to the station: QNH (1 + (β H / T₀) (p₀ / QNH)^n)^(1/n), with the troposphere's β, T₀ and p₀, and 1/n and n
--- the exponents 0 and 5 of the table
+-- ---- QNH, the altimeter setting, reduced to the station: QNH (1 + (β H / T₀) (p₀ / QNH)^(1/q))^q, with the β, T₀ and p₀ of the lowest layer and the
+-- exponent q of its pressure, -g₀ / (β R); p₀ in hPa
 abbrev pub reducedQnh : ℕ → Float → Float → Float
 reducedQnh places qnh altitude =
-    qnh ⊗ powerAt places 0 (one ⊕ gradient 0 ⊗ standardHeight altitude ⊘ baseTemperature 0 ⊗ powerAt places 5 (basePressure 0 ⊘ hundred ⊘ qnh))
+    let q = pressureExponent (gradient 0) in
+    qnh
+    ⊗ power places (ofDouble q) (one ⊕ gradient 0 ⊗ standardHeight altitude ⊘ baseTemperature 0 ⊗ power places (ofDouble (one ⊘ q)) (basePressure 0 ⊘ hundred ⊘ qnh))
 
 -- ---- density and sound speed, of a temperature in K and a pressure in Pa
 abbrev pub airOf : ℕ → Float → Float → Float → Air

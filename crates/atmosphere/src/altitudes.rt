@@ -1,11 +1,13 @@
-// Pressure altitude and density altitude: the National Weather Service's formula, the FAA's rule, and
-// the heights of a pressure and of a density in the standard atmosphere's layers.
+// Pressure altitude, density altitude and density-matched altitude: the National Weather Service's
+// formula, the FAA's rule, and the heights of a pressure and of a density in the standard atmosphere's
+// layers.
 ghost use mathlib.Core.Path.{_≡_};
 ghost use Prim.Native.Nat.{_<_, _-_};
 ghost use lib.ListN.{getD};
 ghost use lib.Ieee.{nan};
 ghost use Rattle.elementary.specs.Power.{powerAt};
-ghost use Rattle.atmosphere.specs.Altitudes.{nwsAltitude, faaDensityAltitude, layerFrom, heightIn, heightOfPressure, pressureAltitude, heightOfRatio, densityAltitude};
+ghost use Rattle.atmosphere.specs.Altitudes.{nwsAltitude, faaDensityAltitude, layerFrom, heightIn, heightOfPressure, pressureAltitude, heightOfRatio, densityMatchedAltitude};
+ghost use Rattle.elementary.specs.Places.{places};
 use super::layers::G_ACCEL_MPS2;
 use super::layers::ICAO_LAYERS;
 use super::station::Reading;
@@ -78,7 +80,7 @@ const DENSITY_EXPONENT_RECIPROCALS: [usize; 7] = [27, 27, 18, 19, 27, 20, 21];
 
 // The pressure altitude, ft, of a station pressure.
 pub fn nws_pressure_altitude_ft(station_pressure_hpa: f64) -> f64
-    ensures { λ r. ⌜ r ≡ nwsAltitude 52 «station_pressure_hpa» ⌝ }
+    ensures { λ r. ⌜ r ≡ nwsAltitude places «station_pressure_hpa» ⌝ }
 {
     DA_NWS_PRESSURE_ALT_FT
         * (1.0 - power(station_pressure_hpa / DA_NWS_SEA_LEVEL_HPA, DA_NWS_EXPONENT))
@@ -86,7 +88,7 @@ pub fn nws_pressure_altitude_ft(station_pressure_hpa: f64) -> f64
 
 // The density altitude, ft, by the rule of 120 ft for each degree Celsius from the standard temperature.
 pub fn faa_rule_density_altitude_ft(station_pressure_hpa: f64, temperature_f: f64) -> f64
-    ensures { λ r. ⌜ r ≡ faaDensityAltitude 52 «station_pressure_hpa» «temperature_f» ⌝ }
+    ensures { λ r. ⌜ r ≡ faaDensityAltitude places «station_pressure_hpa» «temperature_f» ⌝ }
 {
     let pressure_alt = nws_pressure_altitude_ft(station_pressure_hpa);
     let isa_temp_f = DA_NWS_SEA_LEVEL_TEMP_F - (pressure_alt / 1000.0) * DA_NWS_LAPSE_F_PER_1000FT;
@@ -112,7 +114,7 @@ fn layer_from(at_bases: [f64; 7], first: usize, value: f64) -> usize
 // The height in a layer of a value that is `base` at the layer's base.
 fn height_in(number: usize, exponent: usize, base: f64, value: f64) -> f64
     requires { ⌜ number < 7 ⌝ }
-    ensures { λ r. ⌜ r ≡ heightIn 52 (powerAt 52 exponent) number base value ⌝ }
+    ensures { λ r. ⌜ r ≡ heightIn places (powerAt places exponent) number base value ⌝ }
 {
     let layer = ICAO_LAYERS[number];
     if abs(layer[3]) < 1e-10 {
@@ -125,7 +127,7 @@ fn height_in(number: usize, exponent: usize, base: f64, value: f64) -> f64
 
 // The standard atmosphere's geopotential height, m, of a pressure.
 pub fn standard_pressure_altitude_m(pressure_pa: f64) -> f64
-    ensures { λ r. ⌜ r ≡ heightOfPressure 52 «pressure_pa» ⌝ }
+    ensures { λ r. ⌜ r ≡ heightOfPressure places «pressure_pa» ⌝ }
 {
     let number = layer_from(CHAINED_PRESSURES, 0, pressure_pa);
     height_in(
@@ -139,7 +141,7 @@ pub fn standard_pressure_altitude_m(pressure_pa: f64) -> f64
 // The pressure altitude, m, of a station pressure: the National Weather Service's in the troposphere,
 // which holds where it is NaN, and the standard atmosphere's outside it.
 pub fn pressure_altitude_m(station_pressure_hpa: f64) -> f64
-    ensures { λ r. ⌜ r ≡ pressureAltitude 52 «station_pressure_hpa» ⌝ }
+    ensures { λ r. ⌜ r ≡ pressureAltitude places «station_pressure_hpa» ⌝ }
 {
     let nws_m = nws_pressure_altitude_ft(station_pressure_hpa) * DA_FT_TO_M;
     // only a NaN differs from itself
@@ -153,7 +155,7 @@ pub fn pressure_altitude_m(station_pressure_hpa: f64) -> f64
 // its ratio to that at sea level. The source also takes the troposphere's exponent, always the same one:
 // it is in the table of ratios.
 pub fn standard_altitude_above_tropopause_m(ratio: f64) -> f64
-    ensures { λ r. ⌜ r ≡ heightOfRatio 52 ratio ⌝ }
+    ensures { λ r. ⌜ r ≡ heightOfRatio places ratio ⌝ }
 {
     let number = layer_from(CHAINED_RATIOS, 1, ratio);
     height_in(
@@ -170,7 +172,7 @@ pub fn density_matched_altitude_m(
     station_pressure_hpa: f64,
     humidity_percent: f64,
 ) -> f64
-    ensures { λ r. ⌜ r ≡ densityAltitude 52 «temperature_c» «station_pressure_hpa» «humidity_percent» ⌝ }
+    ensures { λ r. ⌜ r ≡ densityMatchedAltitude places «temperature_c» «station_pressure_hpa» «humidity_percent» ⌝ }
 {
     let air = calculate_atmosphere(
         0.0,

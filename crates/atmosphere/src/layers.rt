@@ -3,6 +3,7 @@
 ghost use mathlib.Core.Path.{_≡_};
 ghost use Prim.Native.Nat.{_<_};
 ghost use Rattle.atmosphere.specs.Layers.{geopotentialHeight, standardHeight, layerAt, layerPressure, standardAir};
+ghost use Rattle.elementary.specs.Places.{places};
 use elementary::exp::exp;
 use elementary::power::power;
 use humid_air::doubles::abs;
@@ -42,7 +43,7 @@ pub struct StandardAir {
     pub pressure_pa: f64,
 }
 
-// The geopotential height of a geometric altitude: that of the layers' bases.
+// The geopotential height, m, of a geometric altitude: that of the layers' bases.
 pub fn geometric_to_geopotential_height_m(geometric_altitude_m: f64) -> f64
     ensures { λ r. ⌜ r ≡ geopotentialHeight «geometric_altitude_m» ⌝ }
 {
@@ -50,7 +51,7 @@ pub fn geometric_to_geopotential_height_m(geometric_altitude_m: f64) -> f64
         / (GEOPOTENTIAL_EARTH_RADIUS_M + geometric_altitude_m)
 }
 
-// The geopotential height of an altitude, each clamped to the range of the layers.
+// The geopotential height, m, of an altitude, each clamped to the range of the layers.
 pub fn standard_geopotential_height_m(altitude_m: f64) -> f64
     ensures { λ r. ⌜ r ≡ standardHeight «altitude_m» ⌝ }
 {
@@ -84,7 +85,7 @@ fn layer_number(geopotential_height: f64) -> usize
 // The pressure in a layer, at so many metres above its base and at the temperature there.
 fn layer_pressure(number: usize, height_diff: f64, temperature: f64) -> f64
     requires { ⌜ number < 7 ⌝ }
-    ensures { λ r. ⌜ r ≡ layerPressure 52 number «height_diff» temperature ⌝ }
+    ensures { λ r. ⌜ r ≡ layerPressure places number «height_diff» temperature ⌝ }
 {
     let layer = ICAO_LAYERS[number];
     if abs(layer[3]) < 1e-10 {
@@ -94,9 +95,9 @@ fn layer_pressure(number: usize, height_diff: f64, temperature: f64) -> f64
     layer[2] * power(temp_ratio, PRESSURE_EXPONENTS[number])
 }
 
-// The standard atmosphere at a geometric altitude.
+// The temperature, K, and the pressure, Pa, of the standard atmosphere at a geometric altitude.
 pub fn calculate_icao_standard_atmosphere(altitude_m: f64) -> StandardAir
-    ensures { λ r. ⌜ r ≡ standardAir 52 «altitude_m» ⌝ }
+    ensures { λ r. ⌜ r ≡ standardAir places «altitude_m» ⌝ }
 {
     let geopotential_height = standard_geopotential_height_m(altitude_m);
     let number = layer_number(geopotential_height);

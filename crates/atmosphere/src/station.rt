@@ -2,6 +2,8 @@
 // sound speed.
 ghost use mathlib.Core.Path.{_≡_};
 ghost use Rattle.atmosphere.specs.Station.{inPressureBand, inTemperatureBand, resolved, stationPressure, stationTemperature, reducedQnh, airOf, atmosphere};
+ghost use Rattle.elementary.specs.Places.{places};
+use super::layers::ICAO_LAYERS;
 use super::layers::calculate_icao_standard_atmosphere;
 use super::layers::standard_geopotential_height_m;
 use elementary::power::power;
@@ -9,6 +11,12 @@ use humid_air::doubles::abs;
 use humid_air::doubles::clamp;
 use humid_air::humid::calculate_air_density_cimp;
 use humid_air::humid::moist_speed_of_sound;
+
+// The numbers in elementary's table of the lowest layer's exponent, -G_ACCEL_MPS2 / (lapse rate *
+// R_AIR), and of its reciprocal.
+const QNH_EXPONENT: usize = 0;
+
+const QNH_EXPONENT_RECIPROCAL: usize = 5;
 
 // A temperature or a pressure that is given, or taken from the standard atmosphere's layer.
 pub enum Reading {
@@ -21,12 +29,14 @@ pub struct Air {
     pub speed_of_sound_mps: f64,
 }
 
+// Whether a pressure lies less than 0.5 hPa from the default, 1013.25 hPa.
 pub fn in_legacy_default_pressure_band(pressure_hpa: f64) -> bool
     ensures { λ r. ⌜ r ≡ inPressureBand «pressure_hpa» ⌝ }
 {
     abs(pressure_hpa - 1013.25) < 0.5
 }
 
+// Whether a temperature lies less than 0.1 degrees Celsius from the default, 15 degrees.
 pub fn in_legacy_default_temperature_band(temperature_c: f64) -> bool
     ensures { λ r. ⌜ r ≡ inTemperatureBand «temperature_c» ⌝ }
 {
@@ -46,6 +56,7 @@ fn resolved(in_band: bool, reading: f64, altitude_m: f64) -> Reading
     Reading::Given(reading)
 }
 
+// The station pressure, hPa, as given, or that the layer has it, where it is a default.
 pub fn resolve_station_pressure(pressure_hpa: f64, altitude_m: f64) -> Reading
     ensures { λ r. ⌜ r ≡ stationPressure «pressure_hpa» «altitude_m» ⌝ }
 {
@@ -56,6 +67,7 @@ pub fn resolve_station_pressure(pressure_hpa: f64, altitude_m: f64) -> Reading
     )
 }
 
+// The station temperature, degrees Celsius, as given, or that the layer has it, where it is a default.
 pub fn resolve_station_temperature(temperature_c: f64, altitude_m: f64) -> Reading
     ensures { λ r. ⌜ r ≡ stationTemperature «temperature_c» «altitude_m» ⌝ }
 {
@@ -66,18 +78,20 @@ pub fn resolve_station_temperature(temperature_c: f64, altitude_m: f64) -> Readi
     )
 }
 
-// The station pressure at an altitude under an altimeter setting.
+// The station pressure, hPa, at an altitude under an altimeter setting.
 pub fn reduce_qnh_to_station_pressure(qnh_hpa: f64, altitude_m: f64) -> f64
-    ensures { λ r. ⌜ r ≡ reducedQnh 52 «qnh_hpa» «altitude_m» ⌝ }
+    ensures { λ r. ⌜ r ≡ reducedQnh places «qnh_hpa» «altitude_m» ⌝ }
 {
-    let height_term = -0.0065 * standard_geopotential_height_m(altitude_m) / 288.15;
-    let sea_level_hpa = 101325.0 / 100.0;
-    let setting_term = power(sea_level_hpa / qnh_hpa, 5);
-    qnh_hpa * power(1.0 + height_term * setting_term, 0)
+    let layer = ICAO_LAYERS[0];
+    let height_term = layer[3] * standard_geopotential_height_m(altitude_m) / layer[1];
+    let sea_level_hpa = layer[2] / 100.0;
+    let setting_term = power(sea_level_hpa / qnh_hpa, QNH_EXPONENT_RECIPROCAL);
+    qnh_hpa * power(1.0 + height_term * setting_term, QNH_EXPONENT)
 }
 
+// The density and the speed of sound, of K, Pa and percent.
 fn air_of(temp_k: f64, pressure_pa: f64, humidity_percent: f64) -> Air
-    ensures { λ r. ⌜ r ≡ airOf 52 «temp_k» «pressure_pa» «humidity_percent» ⌝ }
+    ensures { λ r. ⌜ r ≡ airOf places «temp_k» «pressure_pa» «humidity_percent» ⌝ }
 {
     let humidity_clamped = clamp(humidity_percent, 0.0, 100.0);
     let temp_c = temp_k - 273.15;
@@ -87,13 +101,15 @@ fn air_of(temp_k: f64, pressure_pa: f64, humidity_percent: f64) -> Air
     }
 }
 
+// The density and the speed of sound of the air at an altitude: a temperature in degrees Celsius or a
+// pressure in hPa that is given takes the place of the standard atmosphere's.
 pub fn calculate_atmosphere(
     altitude_m: f64,
     temp_override_c: Reading,
     press_override_hpa: Reading,
     humidity_percent: f64,
 ) -> Air
-    ensures { λ r. ⌜ r ≡ atmosphere 52 «altitude_m» «temp_override_c» «press_override_hpa» «humidity_percent» ⌝ }
+    ensures { λ r. ⌜ r ≡ atmosphere places «altitude_m» «temp_override_c» «press_override_hpa» «humidity_percent» ⌝ }
 {
     match temp_override_c {
         Reading::Given(temp_c) => match press_override_hpa {

@@ -1,4 +1,5 @@
 -- What the proofs of the functions use.
 mod Digits
-mod Patterns
+mod Places
+mod Handed
 pub mod Cases

@@ -1,24 +1,19 @@
 // A double compared with bit patterns.
 ghost use mathlib.Core.Path.{_≡_};
-ghost use mathlib.Core.Bool.{true, _&&_};
-ghost use lib.Ieee.{binary64, ofBits, le};
-use mast::bits::double;
-use mast::bits::is_nan_pattern;
+ghost use Rattle.checks.specs.Doubles.{isDouble, liesBetween};
+use record::bits::double;
+use record::bits::pattern;
 
-// Whether x is the double of a pattern, a zero's sign counted.
+// Whether x is the double of a pattern, a zero's sign counted and all NaNs one.
 pub(crate) fn same(x: f64, bits: u64) -> bool
-    ensures { λ r. ⌜ (r ≡ true → x ≡ ofBits binary64 bits) ⌝ }
+    ensures { λ r. ⌜ r ≡ isDouble bits x ⌝ }
 {
-    if x != x {
-        is_nan_pattern(bits)
-    } else {
-        f64::to_bits(x) == bits
-    }
+    pattern(x) == pattern(double(bits))
 }
 
 // Whether x lies from one pattern's double to another's, both ends included.
 pub(crate) fn between(x: f64, low: u64, high: u64) -> bool
-    ensures { λ r. ⌜ r ≡ le (ofBits binary64 low) x && le x (ofBits binary64 high) ⌝ }
+    ensures { λ r. ⌜ r ≡ liesBetween low high x ⌝ }
 {
-    double(low) <= x && x <= double(high)
+    (double(low) <= x) & (x <= double(high))
 }

@@ -2,17 +2,15 @@
 // `vectors/README.md` has the numbers.
 use crate::double::between;
 use crate::line::word;
-use atmosphere::altitudes::faa_rule_density_altitude_ft;
-use atmosphere::altitudes::nws_pressure_altitude_ft;
 use atmosphere::altitudes::standard_pressure_altitude_m;
 use atmosphere::layers::calculate_icao_standard_atmosphere;
-use atmosphere::station::Reading;
-use density_altitude::inverse::Answer;
-use density_altitude::inverse::station_for_density_altitude;
+use exports::functions::station_air_faa_density_altitude_ft;
+use exports::functions::station_air_nws_pressure_altitude_ft;
+use exports::stations::station_air_for_density_altitude;
 use humid_air::humid::calculate_air_density_cimp;
 use humid_air::humid::enhanced_saturation_vapor_pressure;
 use humid_air::humid::moist_speed_of_sound;
-use mast::bits::double;
+use record::bits::double;
 
 pub(crate) fn figure_agrees(line: &[u8; 153]) -> bool {
     let x = double(word(line, 1));
@@ -31,21 +29,26 @@ pub(crate) fn figure_agrees(line: &[u8; 153]) -> bool {
         3 => between(calculate_air_density_cimp(x, y, z), low, high),
         4 => between(moist_speed_of_sound(x, y, z), low, high),
         5 => between(standard_pressure_altitude_m(x), low, high),
-        6 => between(nws_pressure_altitude_ft(x), low, high),
-        7 => between(faa_rule_density_altitude_ft(x, y), low, high),
-        8 => between(there_and_back_m(x, Reading::FromLayer), low, high),
-        9 => between(there_and_back_m(x, Reading::Given(y)), low, high),
+        6 => between(station_air_nws_pressure_altitude_ft(x), low, high),
+        7 => between(station_air_faa_density_altitude_ft(x, y), low, high),
+        8 => between(there_and_back_m(x, false, y), low, high),
+        9 => between(there_and_back_m(x, true, y), low, high),
         _ => false,
     }
 }
 
 // The FAA's density altitude of the station with a density altitude, m; a refusal has none, and is NaN.
-fn there_and_back_m(density_altitude_m: f64, temperature: Reading) -> f64 {
-    match station_for_density_altitude(density_altitude_m, temperature) {
-        Answer::Station(station) => {
-            let temperature_f = station.temperature_c * 9.0 / 5.0 + 32.0;
-            faa_rule_density_altitude_ft(station.pressure_hpa, temperature_f) * 0.3048
-        }
-        _ => 0.0 / 0.0,
+fn there_and_back_m(density_altitude_m: f64, given: bool, temperature_c: f64) -> f64 {
+    let mut lent = [0.0; 3];
+    let status = station_air_for_density_altitude(
+        density_altitude_m,
+        given,
+        temperature_c,
+        &mut lent,
+    );
+    if status != 0 {
+        return 0.0 / 0.0;
     }
+    let temperature_f = lent[1] * 9.0 / 5.0 + 32.0;
+    station_air_faa_density_altitude_ft(lent[2], temperature_f) * 0.3048
 }

@@ -1,8 +1,7 @@
 // A line of a list: up to nine words of 16 hex digits in lower case, a blank between, a newline last.
 ghost use mathlib.Core.Path.{_≡_};
-ghost use mathlib.Core.Bool.{true};
-ghost use Prim.Native.Nat.{_*_, _≤_, _<_};
-ghost use Rattle.checks.specs.Line.{digitOf, wordAt, inPlace, IsLine};
+ghost use Prim.Native.Nat.{_≤_, _<_};
+ghost use Rattle.checks.specs.Line.{digitOf, wordOf, inPlace, isLine};
 
 // A digit's value, and 16 for any other byte.
 pub(crate) fn digit(b: u8) -> u64
@@ -24,7 +23,7 @@ pub(crate) fn digit(b: u8) -> u64
 // The word number n, from 0.
 pub(crate) fn word(line: &[u8; 153], n: usize) -> u64
     requires { ⌜ n < 9 ⌝ }
-    ensures { λ r. ⌜ r ≡ wordAt (now (line .entry)) (17 * n) 16 ⌝ }
+    ensures { λ r. ⌜ r ≡ wordOf (now (line .entry)) n ⌝ }
 {
     let mut value = 0;
     let mut i = 0;
@@ -51,7 +50,7 @@ fn is_in_place(b: u8, i: usize, width: usize) -> bool
 
 pub(crate) fn is_line(line: &[u8; 153], width: usize) -> bool
     requires { ⌜ width ≤ 153 ⌝ }
-    ensures { λ r. ⌜ (r ≡ true → IsLine (now (line .entry)) width) ⌝ }
+    ensures { λ r. ⌜ r ≡ isLine (now (line .entry)) width ⌝ }
 {
     let mut i = 0;
     while i < width {

@@ -11,15 +11,14 @@ use crate::source::Part;
 use crate::word::Given;
 use crate::word::at_most;
 use crate::word::word_of;
-use elementary::antilog::antilog;
-use elementary::exp::exp;
-use elementary::ln::ln;
-use elementary::log::Logarithm;
-use elementary::log::log_word;
-use elementary::power::power;
-use elementary::sqrt::sqrt;
 use elementary::word::Word;
-use mast::bits::double;
+use exports::functions::station_air_exp;
+use exports::functions::station_air_ln;
+use exports::functions::station_air_sqrt;
+use exports::rules::station_air_antilog;
+use exports::rules::station_air_log_word;
+use exports::rules::station_air_power;
+use record::bits::double;
 
 // What a list is of, and whether a line has the answer or the two ends between which it lies.
 pub enum List {
@@ -138,18 +137,23 @@ fn agrees(line: &[u8; 153], function: Function, exact: bool) -> bool {
             log_agrees(double(first), low, high)
         }
         Function::Antilog => match word_of(first, second) {
-            Given::Word(w) => double_agrees(antilog(w), exact, third, fourth),
+            Given::Word(w) => double_agrees(
+                station_air_antilog(w.negative, w.whole, w.part),
+                exact,
+                third,
+                fourth,
+            ),
             Given::Undefined | Given::OutOfRange => false,
         },
         Function::Power => double_agrees(
-            power(double(second), first as usize),
+            station_air_power(double(second), first as usize),
             exact,
             third,
             fourth,
         ),
-        Function::Exp => double_agrees(exp(double(first)), exact, second, third),
-        Function::Ln => double_agrees(ln(double(first)), exact, second, third),
-        Function::Sqrt => double_agrees(sqrt(double(first)), exact, second, third),
+        Function::Exp => double_agrees(station_air_exp(double(first)), exact, second, third),
+        Function::Ln => double_agrees(station_air_ln(double(first)), exact, second, third),
+        Function::Sqrt => double_agrees(station_air_sqrt(double(first)), exact, second, third),
         Function::Figure => figure_agrees(line),
     }
 }
@@ -163,12 +167,23 @@ fn double_agrees(answer: f64, exact: bool, low: u64, high: u64) -> bool {
 }
 
 fn log_agrees(x: f64, low: Given, high: Given) -> bool {
-    match log_word(x) {
-        Logarithm::Defined(w) => word_agrees(w, low, high),
-        Logarithm::Undefined => match low {
-            Given::Undefined => true,
-            Given::Word(_) | Given::OutOfRange => false,
-        },
+    let mut negative = false;
+    let mut whole = 0;
+    let mut part = 0;
+    if station_air_log_word(x, &mut negative, &mut whole, &mut part) {
+        return word_agrees(
+            Word {
+                negative,
+                whole,
+                part,
+            },
+            low,
+            high,
+        );
+    }
+    match low {
+        Given::Undefined => true,
+        Given::Word(_) | Given::OutOfRange => false,
     }
 }
 

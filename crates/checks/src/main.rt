@@ -4,6 +4,7 @@
 mod calls;
 mod double;
 mod figures;
+mod lent;
 mod line;
 mod list;
 mod records;
@@ -36,6 +37,35 @@ fn main() {
     replay(b"records.txt", List::Records);
     replay(b"published.txt", List::Ends(Function::Figure));
     replay(b"round_trips.txt", List::Ends(Function::Figure));
+    replay(b"outside_saturation.txt", List::Ends(Function::Figure));
+    replay(b"outside_density.txt", List::Ends(Function::Figure));
+    replay(b"outside_sound.txt", List::Ends(Function::Figure));
+    replay(b"outside_layers.txt", List::Ends(Function::Figure));
+    replay_wrong();
+}
+
+// Lists of wrong lines: each line differs.
+fn replay_wrong() {
+    replay(b"wrong_rules_log.txt", List::Exact(Function::Log));
+    replay(b"wrong_rules_antilog.txt", List::Exact(Function::Antilog));
+    replay(b"wrong_rules_power.txt", List::Exact(Function::Power));
+    replay(b"wrong_rules_exp.txt", List::Exact(Function::Exp));
+    replay(b"wrong_rules_ln.txt", List::Exact(Function::Ln));
+    replay(b"wrong_rules_sqrt.txt", List::Exact(Function::Sqrt));
+    replay(b"wrong_true_log.txt", List::Ends(Function::Log));
+    replay(b"wrong_true_antilog.txt", List::Ends(Function::Antilog));
+    replay(b"wrong_true_power.txt", List::Ends(Function::Power));
+    replay(b"wrong_true_exp.txt", List::Ends(Function::Exp));
+    replay(b"wrong_true_ln.txt", List::Ends(Function::Ln));
+    replay(b"wrong_true_sqrt.txt", List::Ends(Function::Sqrt));
+    replay(b"wrong_source_layers.txt", List::Source(Part::Layers));
+    replay(b"wrong_source_humid.txt", List::Source(Part::Humid));
+    replay(b"wrong_source_station.txt", List::Source(Part::Station));
+    replay(b"wrong_source_altitudes.txt", List::Source(Part::Altitudes));
+    replay(b"wrong_source_inverse.txt", List::Source(Part::Inverse));
+    replay(b"wrong_records.txt", List::Records);
+    replay(b"wrong_published.txt", List::Ends(Function::Figure));
+    replay(b"wrong_round_trips.txt", List::Ends(Function::Figure));
 }
 
 // Prints what came of one list. Where it cannot be opened, that is printed, and the run goes on.

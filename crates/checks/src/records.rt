@@ -1,18 +1,16 @@
 // A list of mast records: a line of words with a record's answer and length, and a line with its bytes.
 // The answer and its text are both held to the first line. `vectors/README.md` has the form.
+ghost use mathlib.Core.Path.{_≡_};
+ghost use Rattle.checks.specs.Handed.{recordAgrees};
 ghost use Prim.Native.Nat.{_+_, _*_, _≤_, _<_};
 ghost use lib.ListN.{length};
-use crate::double::same;
+use crate::lent::stand_on;
 use crate::line::digit;
 use crate::line::is_line;
 use crate::line::word;
 use crate::list::Outcome;
-use mast::figures::Figures;
-use mast::judge::Answer;
-use mast::judge::judge;
-use mast::refusal::Refusal;
-use mast::refusal::number;
-use mast::text::answer_text;
+use exports::stations::station_air_judge;
+use text::answer;
 
 pub(crate) fn next_record(fd: i32) -> Outcome {
     let mut line = [0u8; 153];
@@ -44,7 +42,7 @@ fn record_agrees(fd: i32, line: &[u8; 153], count: usize) -> bool
     if n < width || !is_hex(&digits, 2 * count) {
         return false;
     }
-    answer_agrees(line, answer_of(&digits, count))
+    spelled_agrees(line, &digits, count)
 }
 
 // Whether `count` digits and a newline stand first.
@@ -61,8 +59,8 @@ fn is_hex(digits: &[u8; 601], count: usize) -> bool
     digits[count] == b'\n'
 }
 
-// Our answer to the record of the first `count` bytes that the digits spell.
-fn answer_of(digits: &[u8; 601], count: usize) -> Answer
+// Compares what we answer to the record of the first `count` bytes that the digits spell.
+fn spelled_agrees(line: &[u8; 153], digits: &[u8; 601], count: usize) -> bool
     requires { ⌜ count ≤ 300 ⌝ }
 {
     let mut bytes = [0u8; 300];
@@ -71,7 +69,7 @@ fn answer_of(digits: &[u8; 601], count: usize) -> Answer
         bytes[i] = byte(digits, i);
         i += 1;
     }
-    judge(&bytes[..count])
+    figures_agree(line, &bytes[..count]) & text_agrees(line, &bytes[..count])
 }
 
 // The byte number n, from 0.
@@ -83,56 +81,24 @@ fn byte(digits: &[u8; 601], n: usize) -> u8
     (16 * high + low) as u8
 }
 
-fn answer_agrees(line: &[u8; 153], answer: Answer) -> bool {
-    let text = answer_text(answer);
+// The status and the figures or values; a place that nothing is handed out to is 0.
+fn figures_agree(line: &[u8; 153], record: &[u8]) -> bool
+    ensures { λ r. ⌜ r ≡ recordAgrees (now (line .entry)) (now («record» .entry)) ⌝ }
+{
+    let mut figures = [0.0; 7];
+    let status = station_air_judge(record, &mut figures);
+    (word(line, 0) == status as u64) & stand_on(line, 1, &figures)
+}
+
+fn text_agrees(line: &[u8; 153], record: &[u8]) -> bool {
+    let text = answer(record);
     let bytes = text.bytes;
     let len = text.len;
-    match answer {
-        Answer::Figures(figures) => {
-            figures_agree(line, figures) && is_figures_text(line, &bytes, len)
-        }
-        Answer::Refused(refusal) => {
-            refusal_agrees(line, refusal) && is_refusal_text(line, &bytes, len)
-        }
+    if word(line, 0) == 0 {
+        is_figures_text(line, &bytes, len)
+    } else {
+        is_refusal_text(line, &bytes, len)
     }
-}
-
-fn figures_agree(line: &[u8; 153], figures: Figures) -> bool {
-    word(line, 0) == 0
-        && same(figures.altitude_m, word(line, 1))
-        && same(figures.temperature_c, word(line, 2))
-        && same(figures.pressure_hpa, word(line, 3))
-        && same(figures.density_kg_m3, word(line, 4))
-        && same(figures.speed_of_sound_mps, word(line, 5))
-        && same(figures.pressure_altitude_m, word(line, 6))
-        && same(figures.density_matched_altitude_m, word(line, 7))
-}
-
-fn refusal_agrees(line: &[u8; 153], refusal: Refusal) -> bool {
-    if number(refusal) as u64 != word(line, 0) {
-        return false;
-    }
-    match refusal {
-        Refusal::DensityAltitudeNotFinite(d) => values_agree(line, d, 0.0),
-        Refusal::TemperatureNotFinite(t) => values_agree(line, t, 0.0),
-        Refusal::TemperatureTooLow(t) => values_agree(line, t, 0.0),
-        Refusal::NoAir(d, altitude_m) => values_agree(line, d, altitude_m),
-        Refusal::NotFinite(x) => values_agree(line, x, 0.0),
-        Refusal::PressureNotPositive(p) => values_agree(line, p, 0.0),
-        Refusal::HumidityOutOfRange(h) => values_agree(line, h, 0.0),
-        _ => values_agree(line, 0.0, 0.0),
-    }
-}
-
-// Words 1 and 2 are a refusal's values; a value that it does not have is 0, as are the words up to 7.
-fn values_agree(line: &[u8; 153], first: f64, second: f64) -> bool {
-    same(first, word(line, 1))
-        && same(second, word(line, 2))
-        && word(line, 3) == 0
-        && word(line, 4) == 0
-        && word(line, 5) == 0
-        && word(line, 6) == 0
-        && word(line, 7) == 0
 }
 
 // Three words of the line after `station`, four after `air`, each with the blank before it.

@@ -1,18 +1,25 @@
 -- An accepted answer is the resolved station, whose figures pass the tests of document 01's table. Assumes nothing.
-use mathlib.Core.Path.{_≡_, refl, sym, subst}
-use mathlib.Core.Bool.{Bool, true, false, not, _&&_, cond}
-use mathlib.Core.List.{[], _∷_}
+use mathlib.Core.Path.{_≡_, refl, sym, ap, subst, _∙_}
+use mathlib.Core.Bool.{Bool, true, false, not, _&&_, Bool·not-not}
 use Prim.Native.Nat.{ℕ}
 use lib.Dec.{T}
 use lib.Ieee.{Float, le}
 use lib.Ieee.Fits.{and-i, and-l, and-r}
+use Rattle.refusal.specs.Outcomes.{Outcome, accepted, refused}
+use Rattle.refusal.specs.Causes.{NoneHolds}
+use Rattle.refusal.proofs.Rows.{exactly}
+use Rattle.elementary.specs.Decimals.{nought}
 use Rattle.atmosphere.specs.declared.station.Reading.{Reading}
 use Rattle.atmosphere.specs.declared.station.Reading.the-variants.{Given, FromLayer}
 use Rattle.humid_air.specs.Doubles.{isFinite}
-use Rattle.humid_air.specs.MoistAir.{nought}
 use Rattle.density_altitude.specs.declared.inverse.Station.{Station}
-use Rattle.density_altitude.specs.Inverse.{figures, refused, resolve, absoluteZero, isFiniteAbove, hasAir, checkedTemperature, checkedStation, station}
+use Rattle.density_altitude.specs.Inverse.{resolve, absoluteZero, isFiniteAbove, hasAir, stationRows, station, Caused}
 use Rattle.density_altitude.specs.Order.{Accepted}
+
+-- each of 1 to 4 has exactly its cause
+pub caused : (p : ℕ) (d : Float) (t : Reading) → Caused p d t
+unfolding station
+caused p d t = exactly (resolve p d t) (stationRows p d t)
 
 -- ---- the tests of a resolved station
 pub record Exists (s : Station) : Type 0 where
@@ -46,49 +53,35 @@ pub record Granted (p : ℕ) (d : Float) (t : Reading) : Type 0 where
   pub read : T (temperatureRead t)
   pub air : T (hasAir (resolve p d t))
 
--- the last three tests
-rest : (d : Float) (t : Reading) (s : Station) → Accepted (checkedTemperature t (checkedStation d s)) → T (temperatureRead t) × T (hasAir s)
-rest d (Given t) s = go (isFinite t) (le t absoluteZero) (hasAir s)
-  where
-    go : (a b c : Bool) → Accepted (cond (not a) (refused 2 (t ∷ [])) (cond b (refused 3 (t ∷ [])) (cond c (figures s) (refused 4 (d ∷ s .«altitude_m» ∷ []))))) → T (a && not b) × T c
-    go true false true h = (tt, tt)
-    go true false false h = absurd h
-    go true true c h = absurd h
-    go false b c h = absurd h
-rest d FromLayer s = go (hasAir s)
-  where
-    go : (c : Bool) → Accepted (cond c (figures s) (refused 4 (d ∷ s .«altitude_m» ∷ []))) → T true × T c
-    go true h = (tt, tt)
-    go false h = absurd h
+-- a row that does not hold, and its test
+passes : (b : Bool) → not b ≡ false → T b
+passes b e = subst T (sym (ap not e) ∙ Bool·not-not b) tt
+
+holds-not : (b : Bool) → T b → not b ≡ false
+holds-not true h = refl
+holds-not false h = absurd h
+
+both : (a b : Bool) → not a ≡ false → b ≡ false → T (a && not b)
+both true false e f = tt
+both true true e f = subst T f tt
+both false b e f = subst T e tt
 
 pub granted : (p : ℕ) (d : Float) (t : Reading) → Accepted (station p d t) → Granted p d t
-unfolding station
-granted p d t = go (isFinite d) refl
+granted p d t h = by-outcome (station p d t) refl h
   where
-    go : (a : Bool) → isFinite d ≡ a → Accepted (cond (not a) (refused 1 (d ∷ [])) (checkedTemperature t (checkedStation d (resolve p d t)))) → Granted p d t
-    go true e h = let r = rest d t (resolve p d t) h in record { finite = subst T (sym e) tt; read = r .0; air = r .1 }
-    go false e h = absurd h
+    by-rows : (u : Reading) → NoneHolds (stationRows p d u) → Granted p d u
+    by-rows (Given u) n = record { finite = passes (isFinite d) (n .0); read = both (isFinite u) (le u absoluteZero) (n .1 .0) (n .1 .1 .0); air = passes (hasAir (resolve p d (Given u))) (n .1 .1 .1 .0) }
+    by-rows FromLayer n = record { finite = passes (isFinite d) (n .0); read = tt; air = passes (hasAir (resolve p d FromLayer)) (n .1 .0) }
 
-pub is-station : (p : ℕ) (d : Float) (t : Reading) → Granted p d t → station p d t ≡ figures (resolve p d t)
-unfolding station
-is-station p d (Given t) g = go (isFinite d) (isFinite t) (le t absoluteZero) (hasAir s) (g .finite) (g .read) (g .air)
+    by-outcome : (o : Outcome Station) → station p d t ≡ o → Accepted o → Granted p d t
+    by-outcome (accepted s) e h = by-rows t (caused p d t .accepted-because e .0)
+    by-outcome (refused number values) e h = absurd h
+
+pub is-station : (p : ℕ) (d : Float) (t : Reading) → Granted p d t → station p d t ≡ accepted (resolve p d t)
+is-station p d t g = caused p d t .accepted-where (none t (g .read) (g .air))
   where
-    s : Station
-    s = resolve p d (Given t)
-
-    go : (a b c e : Bool) → T a → T (b && not c) → T e
-        → cond (not a) (refused 1 (d ∷ [])) (cond (not b) (refused 2 (t ∷ [])) (cond c (refused 3 (t ∷ [])) (cond e (figures s) (refused 4 (d ∷ s .«altitude_m» ∷ []))))) ≡ figures s
-    go true true false true f r h = refl
-    go true true false false f r h = absurd h
-    go true true true e f r h = absurd r
-    go true false c e f r h = absurd r
-    go false b c e f r h = absurd f
-is-station p d FromLayer g = go (isFinite d) (hasAir s) (g .finite) (g .air)
-  where
-    s : Station
-    s = resolve p d FromLayer
-
-    go : (a e : Bool) → T a → T e → cond (not a) (refused 1 (d ∷ [])) (cond e (figures s) (refused 4 (d ∷ s .«altitude_m» ∷ []))) ≡ figures s
-    go true true f h = refl
-    go true false f h = absurd h
-    go false e f h = absurd f
+    none : (u : Reading) → T (temperatureRead u) → T (hasAir (resolve p d u)) → NoneHolds (stationRows p d u)
+    none (Given u) r a =
+        let warm = holds-not (not (le u absoluteZero)) (and-r (isFinite u) (not (le u absoluteZero)) r) in
+        (holds-not (isFinite d) (g .finite), (holds-not (isFinite u) (and-l (isFinite u) (not (le u absoluteZero)) r), (sym (Bool·not-not (le u absoluteZero)) ∙ warm, (holds-not (hasAir (resolve p d (Given u))) a, tt))))
+    none FromLayer r a = (holds-not (isFinite d) (g .finite), (holds-not (hasAir (resolve p d FromLayer)) a, tt))

@@ -8,6 +8,7 @@ use lib.Dec.{T}
 use lib.Ieee.{Float, nan, inf, fin, binary64, ofBits, neg, add, sub, mul, div, fits, lt, le}
 use lib.Ieee.Bits.{ofBits-fits}
 use lib.Ieee.Fits.{and-i, and-l, and-r, sub-fits, mul-fits, div-fits}
+use Rattle.elementary.specs.Decimals.{nought}
 use Rattle.elementary.specs.Operators.{_⊖_, _⊗_, _⊘_}
 use Rattle.elementary.specs.Power.{power}
 use Rattle.elementary.proofs.Order.{zero-below, le-trans-double}
@@ -15,11 +16,10 @@ use Rattle.elementary.proofs.Strict.{lt-le-trans}
 use Rattle.atmosphere.specs.declared.station.Reading.{Reading}
 use Rattle.atmosphere.specs.declared.station.Reading.the-variants.{Given, FromLayer}
 use Rattle.humid_air.specs.Doubles.{isFinite}
-use Rattle.humid_air.specs.MoistAir.{nought}
 use Rattle.atmosphere.specs.Station.{standardPressure}
 use Rattle.atmosphere.specs.Altitudes.{foot}
 use Rattle.density_altitude.specs.declared.inverse.Station.{Station}
-use Rattle.density_altitude.specs.Inverse.{steepness, correction, pressureAltitudeFeet, nwsBase, nwsExponent, nwsPressure, resolve, absoluteZero, isFiniteAbove, station}
+use Rattle.density_altitude.specs.Inverse.{steepness, correction, pressureAltitudeFeet, nwsBase, nwsReciprocal, nwsPressure, resolve, absoluteZero, isFiniteAbove, station}
 use Rattle.density_altitude.specs.Order.{NoneGiven, InOrder}
 use Rattle.density_altitude.proofs.Figures.{Corrected, pressure-altitude-rises, pressure-altitude-fits, altitude-rises, temperature-falls, base-falls, pressure-falls}
 use Rattle.density_altitude.proofs.Accepted.{Exists, exists, has-air, Granted, is-station}
@@ -55,7 +55,7 @@ corrected (Given t) d u = of-difference (d ⊘ foot) (correction t) (of-quotient
 corrected FromLayer d u = tt
 
 -- a pressure above zero has a base from zero up: a negative one has no power, and that of −∞ is ∞
-base-from-zero : (p : ℕ) (x : Float) → T (isFiniteAbove nought (standardPressure ⊗ power p nwsExponent x)) → T (le (fin false 0 (pos 0)) x)
+base-from-zero : (p : ℕ) (x : Float) → T (isFiniteAbove nought (standardPressure ⊗ power p nwsReciprocal x)) → T (le (fin false 0 (pos 0)) x)
 unfolding isFinite ofBits mul div power lt
 base-from-zero p nan u = absurd u
 base-from-zero p (inf true) u = absurd u

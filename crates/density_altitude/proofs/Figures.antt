@@ -7,6 +7,7 @@ use lib.IntN.{pos, negsuc}
 use lib.Dec.{T}
 use lib.Ieee.{Float, nan, inf, fin, binary64, ofBits, add, mul, div, fits, le}
 use lib.Ieee.Fits.{sub-fits, mul-fits, div-fits}
+use Rattle.elementary.specs.Decimals.{decimal}
 use Rattle.elementary.specs.Operators.{_⊖_, _⊗_, _⊘_}
 use Rattle.elementary.proofs.Rises.{Rises, power-rises, power-fits}
 use Rattle.elementary.proofs.Sums.{sub-falls, sub-rises}
@@ -14,8 +15,8 @@ use Rattle.elementary.proofs.Products.{mul-rises, mul-by-rises, div-rises}
 use Rattle.atmosphere.specs.declared.station.Reading.{Reading}
 use Rattle.atmosphere.specs.declared.station.Reading.the-variants.{Given, FromLayer}
 use Rattle.humid_air.specs.Doubles.{isFinite}
-use Rattle.atmosphere.specs.Altitudes.{foot, standardFahrenheit}
-use Rattle.density_altitude.specs.Inverse.{correction, steepness, pressureAltitudeFeet, stationCelsius, nwsBase, nwsExponent, nwsPressure}
+use Rattle.atmosphere.specs.Altitudes.{foot, thousand, fahrenheitPerThousandFeet, standardFahrenheit}
+use Rattle.density_altitude.specs.Inverse.{correction, steepness, pressureAltitudeFeet, stationCelsius, nwsBase, nwsReciprocal, nwsPressure}
 
 -- ---- the pressure altitude, where the correction is finite
 abbrev pub Corrected : Reading → Type 0
@@ -58,11 +59,11 @@ Falls f = (x y : Float) → T (fits binary64 x) → T (fits binary64 y) → T (l
 standard-falls : Falls standardFahrenheit
 unfolding ofBits fits
 standard-falls h k f g l =
-    let per-foot : Float → Float = λ x. x ⊘ ofBits binary64 0x408f400000000000 ⊗ ofBits binary64 0x400c8f5c28f5c28f in
+    let per-foot : Float → Float = λ x. x ⊘ thousand ⊗ fahrenheitPerThousandFeet in
     sub-falls false 59 (pos 0) tt (per-foot h) (per-foot k) (mul-fits binary64 _ _) (mul-fits binary64 _ _)
     (mul-rises 8038925334856334 (negsuc 50) _ _ (div-fits binary64 _ _) (div-fits binary64 _ _) (div-rises 124 (pos 3) h k f g l))
 
-celsius-rises : Rises (λ F. (F ⊖ ofBits binary64 0x4040000000000000) ⊗ ofBits binary64 0x4014000000000000 ⊘ ofBits binary64 0x4022000000000000)
+celsius-rises : Rises (λ F. (F ⊖ decimal "32") ⊗ decimal "5" ⊘ decimal "9")
 unfolding ofBits fits
 celsius-rises x y f g h =
     div-rises 8 (pos 0) _ _ (mul-fits binary64 _ _) (mul-fits binary64 _ _) (mul-rises 4 (pos 0) _ _ (sub-fits binary64 _ _) (sub-fits binary64 _ _) (sub-rises false 1 (pos 5) tt x y f g h))
@@ -80,5 +81,5 @@ base-falls h k f g l = sub-falls false 1 (pos 0) tt _ _ (div-fits binary64 h _) 
 pub pressure-falls : (p : ℕ) (h k : Float) → T (fits binary64 h) → T (fits binary64 k) → T (le h k) → T (le (fin false 0 (pos 0)) (nwsBase k)) → T (le (nwsPressure p k) (nwsPressure p h))
 unfolding ofBits div
 pressure-falls p h k f g l z =
-    mul-by-rises 4052 (negsuc 1) _ _ (power-fits p nwsExponent (nwsBase k)) (power-fits p nwsExponent (nwsBase h))
-    (power-rises p nwsExponent refl (nwsBase k) (nwsBase h) (sub-fits binary64 _ _) (sub-fits binary64 _ _) z (base-falls h k f g l))
+    mul-by-rises 4052 (negsuc 1) _ _ (power-fits p nwsReciprocal (nwsBase k)) (power-fits p nwsReciprocal (nwsBase h))
+    (power-rises p nwsReciprocal refl (nwsBase k) (nwsBase h) (sub-fits binary64 _ _) (sub-fits binary64 _ _) z (base-falls h k f g l))

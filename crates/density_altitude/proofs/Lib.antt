@@ -5,3 +5,5 @@ pub mod Between
 pub mod PressuresApart
 pub mod Spread
 pub mod Demand
+pub mod Owned
+pub mod Rejected

@@ -15,14 +15,14 @@ use Rattle.elementary.proofs.Rises.{power-fits}
 use Rattle.elementary.proofs.Between.{products-apart}
 use Rattle.elementary.proofs.PowersApart.{powers-parted}
 use Rattle.atmosphere.specs.Station.{standardPressure}
-use Rattle.density_altitude.specs.Inverse.{nwsExponent}
+use Rattle.density_altitude.specs.Inverse.{nwsReciprocal}
 
 -- the exponent, about 5.2553, times 2^58
 abbrev magnitude : ℕ
 magnitude = 1514737845282376448
 
 abbrev pub pressureAt : ℕ → Float → Float
-pressureAt p x = standardPressure ⊗ power p nwsExponent x
+pressureAt p x = standardPressure ⊗ power p nwsReciprocal x
 
 -- ---- the bases, from 1/2 to 2
 abbrev half : Float
@@ -45,11 +45,11 @@ Apart p x y = T (fits binary64 x) → T (fits binary64 y) → T (le half x) → 
 apart : (p : ℕ) → 52 ≤ p → p ≤ 60 → (m n : ℕ) (e d : ℤ) → Apart p (fin false (suc m) e) (fin false (suc n) d)
 unfolding ofBits div fits
 apart p least most m n e d f g low high units =
-    let u : Float = power p nwsExponent (fin false (suc m) e) in
-    let v : Float = power p nwsExponent (fin false (suc n) d) in
+    let u : Float = power p nwsReciprocal (fin false (suc m) e) in
+    let v : Float = power p nwsReciprocal (fin false (suc n) d) in
     let low-units : 2 ^ 1073 ≤ unitsOf (fin false (suc m) e) = le-of-pos (count-of-le false false 1 (suc m) (negsuc 0) e tt f low) in
     let high-units : unitsOf (fin false (suc n) d) ≤ 2 ^ 1075 = le-of-pos (count-of-le false false (suc n) 1 d (pos 1) g tt high) in
-    products-apart 4052 1 25 (lit≤ tt) (2 ^ 32) u v (power-fits p nwsExponent (fin false (suc m) e)) (power-fits p nwsExponent (fin false (suc n) d)) (lit< tt)
+    products-apart 4052 1 25 (lit≤ tt) (2 ^ 32) u v (power-fits p nwsReciprocal (fin false (suc m) e)) (power-fits p nwsReciprocal (fin false (suc n) d)) (lit< tt)
     (powers-parted p magnitude (record { least = lit≤ tt; most = lit≤ tt }) least most m n e d f g low-units high-units units)
 
 -- x ≤ y is asked for, since `unitsOf` sees no sign, and no infinity

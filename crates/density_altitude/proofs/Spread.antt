@@ -11,6 +11,7 @@ use lib.Ieee.Bits.{ofBits-fits}
 use lib.Ieee.Fits.{add-fits, sub-fits, mul-fits, div-fits}
 use lib.Ieee.Positive.{above-of-le}
 use lib.Ieee.Scale.{finite}
+use Rattle.elementary.specs.Decimals.{decimal, one}
 use Rattle.elementary.specs.Operators.{_⊖_, _⊗_, _⊘_}
 use Rattle.elementary.specs.Nearest.{unitsOf}
 use Rattle.elementary.proofs.CommonDenominator.{above, beneath}
@@ -22,8 +23,7 @@ use Rattle.elementary.proofs.Near.{Step, step-pos}
 use Rattle.elementary.proofs.Apart.{Apart, apart-lt, apart-weaker, sub-apart, sub-from-apart, mul-apart, div-apart}
 use Rattle.atmosphere.specs.declared.station.Reading.{Reading}
 use Rattle.atmosphere.specs.declared.station.Reading.the-variants.{Given, FromLayer}
-use Rattle.humid_air.specs.Saturation.{one}
-use Rattle.atmosphere.specs.Altitudes.{foot}
+use Rattle.atmosphere.specs.Altitudes.{foot, nwsFeet, seaLevelFahrenheit}
 use Rattle.density_altitude.specs.Inverse.{fahrenheit, correction, pressureAltitudeFeet, nwsBase}
 use Rattle.density_altitude.specs.Order.{Temperate, InRange, OneMetreApart}
 
@@ -45,42 +45,41 @@ ReadingFits (Given t) = T (fits binary64 t)
 ReadingFits FromLayer = Unit {0}
 
 -- ---- density altitudes
-lowest-small : Small (whole 3000) (ofBits binary64 0xc07f400000000000)
+lowest-small : Small (whole 3000) (decimal "-500")
 unfolding U ofBits fits
 lowest-small = record { is-finite = tt; double = tt; size = lit≤ tt }
 
-highest-small : Small (whole 3000) (ofBits binary64 0x40a7700000000000)
+highest-small : Small (whole 3000) (decimal "3000")
 unfolding U ofBits fits
 highest-small = record { is-finite = tt; double = tt; size = lit≤ tt }
 
 in-range-small : (d : Float) → T (fits binary64 d) → InRange d → Small (whole 3000) d
-in-range-small d f r = small-between (ofBits binary64 0xc07f400000000000) d (ofBits binary64 0x40a7700000000000) f lowest-small highest-small (r .bottom) (r .top)
+in-range-small d f r = small-between (decimal "-500") d (decimal "3000") f lowest-small highest-small (r .bottom) (r .top)
 
 -- ---- the correction for the temperature, which rises with it: -6,600 ft at -40 °C, and 4,200 ft at 50 °C
 correction-rises : Rises correction
 unfolding ofBits mul div fits
 correction-rises t u f g h =
-    let n : Float = ofBits binary64 0x4022000000000000 in
-    let d : Float = ofBits binary64 0x4014000000000000 in
-    let ice : Float = ofBits binary64 0x4040000000000000 in
-    let standard : Float = ofBits binary64 0x404d800000000000 in
-    mul-by-rises 4691249611844266 (negsuc 45) (fahrenheit t ⊖ standard) (fahrenheit u ⊖ standard) (sub-fits binary64 (fahrenheit t) standard) (sub-fits binary64 (fahrenheit u) standard)
+    let n : Float = decimal "9" in
+    let d : Float = decimal "5" in
+    let ice : Float = decimal "32" in
+    mul-by-rises 4691249611844266 (negsuc 45) (fahrenheit t ⊖ seaLevelFahrenheit) (fahrenheit u ⊖ seaLevelFahrenheit) (sub-fits binary64 _ _) (sub-fits binary64 _ _)
     (sub-rises false 59 (pos 0) tt (fahrenheit t) (fahrenheit u) (add-fits binary64 (t ⊗ n ⊘ d) ice) (add-fits binary64 (u ⊗ n ⊘ d) ice)
     (add-rises false 1 (pos 5) tt (t ⊗ n ⊘ d) (u ⊗ n ⊘ d) (div-fits binary64 (t ⊗ n) d) (div-fits binary64 (u ⊗ n) d)
     (div-rises 4 (pos 0) (t ⊗ n) (u ⊗ n) (mul-fits binary64 t n) (mul-fits binary64 u n) (mul-rises 8 (pos 0) t u f g h))))
 
-coldest-small : Small (whole 6601) (correction (ofBits binary64 0xc044000000000000))
+coldest-small : Small (whole 6601) (correction (decimal "-40"))
 unfolding U ofBits add sub mul div fits
 coldest-small = record { is-finite = tt; double = tt; size = lit≤ tt }
 
-hottest-small : Small (whole 6601) (correction (ofBits binary64 0x4049000000000000))
+hottest-small : Small (whole 6601) (correction (decimal "50"))
 unfolding U ofBits add sub mul div fits
 hottest-small = record { is-finite = tt; double = tt; size = lit≤ tt }
 
 correction-small : (t : Float) → T (fits binary64 t) → Temperate (Given t) → Small (whole 6601) (correction t)
 correction-small t f (cold, hot) =
-    let coldest : Float = ofBits binary64 0xc044000000000000 in
-    let hottest : Float = ofBits binary64 0x4049000000000000 in
+    let coldest : Float = decimal "-40" in
+    let hottest : Float = decimal "50" in
     small-between (correction coldest) (correction t) (correction hottest) (mul-fits binary64 _ _) coldest-small hottest-small
     (correction-rises coldest t (ofBits-fits binary64 0xc044000000000000) f cold) (correction-rises t hottest f (ofBits-fits binary64 0x4049000000000000) hot)
 
@@ -145,15 +144,15 @@ module _ (d₁ d₂ : Float) (f₁ : T (fits binary64 d₁)) (f₂ : T (fits bin
         apart-lt (h₁ ⊗ foot) (h₂ ⊗ foot) (step-pos U step)
         (mul-apart U (whole (2 ^ 14)) (whole (2 ^ 14)) 5490788665690108 (negsuc 53) step (omega arith) h₁ h₂ (omega arith) (omega arith) (pressure-altitudes t f mild))
 
-    quotients : Apart (2 ^ 20 * U) (2 ^ 35 * U) (pressureAltitudeFeet t d₁ ⊘ ofBits binary64 0x4101beb39999999a) (pressureAltitudeFeet t d₂ ⊘ ofBits binary64 0x4101beb39999999a)
+    quotients : Apart (2 ^ 20 * U) (2 ^ 35 * U) (pressureAltitudeFeet t d₁ ⊘ nwsFeet) (pressureAltitudeFeet t d₂ ⊘ nwsFeet)
     unfolding ofBits
     quotients =
         div-apart U (whole (2 ^ 14)) (2 ^ 35 * U) 2497376594742476 (negsuc 33) step (omega arith) (pressureAltitudeFeet t d₁) (pressureAltitudeFeet t d₂) (omega arith) (omega arith) (pressure-altitudes t f mild)
 
     pub bases-apart : Bases (nwsBase (pressureAltitudeFeet t d₂)) (nwsBase (pressureAltitudeFeet t d₁))
     bases-apart =
-        let q₁ : Float = pressureAltitudeFeet t d₁ ⊘ ofBits binary64 0x4101beb39999999a in
-        let q₂ : Float = pressureAltitudeFeet t d₂ ⊘ ofBits binary64 0x4101beb39999999a in
+        let q₁ : Float = pressureAltitudeFeet t d₁ ⊘ nwsFeet in
+        let q₂ : Float = pressureAltitudeFeet t d₂ ⊘ nwsFeet in
         let s₁ = quotients .lower in
         let s₂ = quotients .higher in
         let a = sub-from-apart U step (2 ^ 35 * U) (whole 1) (2 ^ 37 * U + 2 ^ 35 * U + U) (omega arith) (omega arith) {h = (2 ^ 20 - 2) * U} q₁ q₂ one one-small (omega arith) quotients in

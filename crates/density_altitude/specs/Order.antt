@@ -3,31 +3,32 @@ use Prim.Native.Nat.{_^_}
 use lib.IntN.{ℤ, pos, _+ℤ_}
 use lib.Dec.{T}
 use lib.Signed.{_≤ℤ_}
-use lib.Ieee.{Float, nan, inf, fin, binary64, ofBits, lt, le}
+use lib.Ieee.{Float, nan, inf, fin, lt, le}
+use Rattle.elementary.specs.Decimals.{decimal}
 use Rattle.elementary.specs.Whole.{signed}
 use Rattle.elementary.specs.Nearest.{unitsOf}
 use Rattle.atmosphere.specs.declared.station.Reading.{Reading}
 use Rattle.atmosphere.specs.declared.station.Reading.the-variants.{Given, FromLayer}
 use Rattle.density_altitude.specs.declared.inverse.Station.{Station}
-use Rattle.density_altitude.specs.Inverse.{Outcome, figures, refused}
+use Rattle.refusal.specs.Outcomes.{Outcome, accepted, refused}
 
 -- ---- an answer
 -- accepted: the three figures, none of the refusals 1 to 4
 abbrev pub Accepted : Outcome Station → Type 0
-Accepted (figures s) = Unit {0}
+Accepted (accepted s) = Unit {0}
 Accepted (refused number values) = ⊥
 
 -- its figures; a refusal has none, and NaN is not in order with anything
 abbrev pub altitude : Outcome Station → Float
-altitude (figures s) = s .«altitude_m»
+altitude (accepted s) = s .«altitude_m»
 altitude (refused number values) = nan
 
 abbrev pub pressure : Outcome Station → Float
-pressure (figures s) = s .«pressure_hpa»
+pressure (accepted s) = s .«pressure_hpa»
 pressure (refused number values) = nan
 
 abbrev pub temperature : Outcome Station → Float
-temperature (figures s) = s .«temperature_c»
+temperature (accepted s) = s .«temperature_c»
 temperature (refused number values) = nan
 
 -- ---- a figure, from one answer to another
@@ -50,14 +51,14 @@ NoneGiven FromLayer = Unit {0}
 
 -- none, or one from -40 to 50 °C
 abbrev pub Temperate : Reading → Type 0
-Temperate (Given t) = T (le (ofBits binary64 0xc044000000000000) t) × T (le t (ofBits binary64 0x4049000000000000))
+Temperate (Given t) = T (le (decimal "-40") t) × T (le t (decimal "50"))
 Temperate FromLayer = Unit {0}
 
 -- ---- density altitudes
 -- from -500 to 3,000 m
 pub record InRange (d : Float) : Type 0 where
-  pub bottom : T (le (ofBits binary64 0xc07f400000000000) d)
-  pub top : T (le d (ofBits binary64 0x40a7700000000000))
+  pub bottom : T (le (decimal "-500") d)
+  pub top : T (le d (decimal "3000"))
 
 -- a finite double as an exact whole number of 2 ^ -1074 m
 abbrev pub exactly : Float → ℤ
@@ -84,3 +85,10 @@ pub record Demand₃ (t : Reading) (d₁ d₂ : Float) (a₁ a a₂ : Outcome St
   pub lower : InOrder t a₁ a
   pub upper : InOrder t a a₂
   pub strictly : InRange d₁ → InRange d₂ → OneMetreApart d₁ d₂ → Temperate t → Strictly a₁ a₂
+
+-- ---- what follows for two density altitudes at least 1 m apart, by the numbers of the demand: where both are accepted, the higher one has the greater
+-- altitude and the lower pressure
+abbrev pub Thinner : Reading → Float → Float → Outcome Station → Outcome Station → Type 0
+Thinner t d₁ d₂ a₁ a₂ =
+    T (le (decimal "-500") d₁) → T (le d₁ d₂) → T (le d₂ (decimal "3000")) → OneMetreApart d₁ d₂ → Temperate t → Accepted a₁ → Accepted a₂
+    → T (lt (altitude a₁) (altitude a₂)) × T (lt (pressure a₂) (pressure a₁))

@@ -1,7 +1,9 @@
 // The FAA's rule turned round: the station whose air has a given density altitude, with a given
 // temperature or the standard one.
 ghost use mathlib.Core.Path.{_≡_};
-ghost use Rattle.density_altitude.specs.Inverse.{stationWith, resolve, isFiniteAbove, hasAir, outcome, checkedStation, station};
+ghost use Rattle.refusal.specs.Outcomes.{accepted, checked, passed, _then_};
+ghost use Rattle.density_altitude.specs.Inverse.{stationWith, resolve, isFiniteAbove, hasAir, outcome, temperatureRows, givenRows, airRows, station};
+ghost use Rattle.elementary.specs.Places.{places};
 use atmosphere::altitudes::DA_FAA_RULE_FT_PER_DEG_F;
 use atmosphere::altitudes::DA_FT_TO_M;
 use atmosphere::altitudes::DA_NWS_LAPSE_F_PER_1000FT;
@@ -11,6 +13,10 @@ use atmosphere::altitudes::DA_NWS_SEA_LEVEL_TEMP_F;
 use atmosphere::station::Reading;
 use elementary::power::power;
 use humid_air::doubles::is_finite;
+use refusal::Check;
+use refusal::Refusal;
+use refusal::first_of;
+use refusal::refuse_if;
 
 // the number of the exponent 1 / 0.190284 in elementary's table
 const DA_NWS_EXPONENT_RECIPROCAL: usize = 12;
@@ -23,23 +29,19 @@ pub struct Station {
     pub pressure_hpa: f64,
 }
 
-// The station, or why there is none.
+// The station, or why there is none: a cause 1 to 4.
 pub enum Answer {
     Station(Station),
-    // the density altitude
-    DensityAltitudeNotFinite(f64),
-    // the temperature
-    TemperatureNotFinite(f64),
-    TemperatureTooLow(f64),
-    // the density altitude and the altitude that it resolves to
-    NoAir(f64, f64),
+    Refused(Refusal),
 }
 
+// The altitude, temperature and pressure that a density altitude resolves to, whether or not a station
+// can have them.
 pub fn resolve_atmosphere_for_density_altitude(
     density_altitude_m: f64,
     explicit_temperature_c: Reading,
 ) -> Station
-    ensures { λ r. ⌜ r ≡ resolve 52 «density_altitude_m» «explicit_temperature_c» ⌝ }
+    ensures { λ r. ⌜ r ≡ resolve places «density_altitude_m» «explicit_temperature_c» ⌝ }
 {
     let density_altitude_ft = density_altitude_m / DA_FT_TO_M;
     match explicit_temperature_c {
@@ -61,7 +63,7 @@ pub fn resolve_atmosphere_for_density_altitude(
 
 // The station at a pressure altitude.
 fn station_at(pressure_alt_ft: f64, temperature_c: f64) -> Station
-    ensures { λ r. ⌜ r ≡ stationWith 52 «pressure_alt_ft» «temperature_c» ⌝ }
+    ensures { λ r. ⌜ r ≡ stationWith places «pressure_alt_ft» «temperature_c» ⌝ }
 {
     Station {
         altitude_m: pressure_alt_ft * DA_FT_TO_M,
@@ -95,7 +97,8 @@ fn has_air(station: Station) -> bool
 
 // The resolved station, or that there is no air.
 fn checked_station(density_altitude_m: f64, explicit_temperature_c: Reading) -> Answer
-    ensures { λ r. ⌜ outcome r ≡ checkedStation «density_altitude_m» (resolve 52 «density_altitude_m» «explicit_temperature_c») ⌝ }
+    ensures { λ r. ⌜ outcome r ≡ (airRows «density_altitude_m» (resolve places «density_altitude_m» «explicit_temperature_c»)
+        then accepted (resolve places «density_altitude_m» «explicit_temperature_c»)) ⌝ }
 {
     let station = resolve_atmosphere_for_density_altitude(
         density_altitude_m,
@@ -104,29 +107,47 @@ fn checked_station(density_altitude_m: f64, explicit_temperature_c: Reading) -> 
     if has_air(station) {
         return Answer::Station(station);
     }
-    Answer::NoAir(density_altitude_m, station.altitude_m)
+    Answer::Refused(Refusal::NoAir(density_altitude_m, station.altitude_m))
 }
 
-// The station with a density altitude, or why there is none.
+// Whether a temperature can be one: the causes 2 and 3.
+pub fn check_temperature(temperature_c: f64) -> Check
+    ensures { λ r. ⌜ checked r ≡ passed (temperatureRows «temperature_c») ⌝ }
+{
+    first_of(
+        refuse_if(
+            !is_finite(temperature_c),
+            Refusal::TemperatureNotFinite(temperature_c),
+        ),
+        refuse_if(
+            temperature_c <= ABSOLUTE_ZERO_C,
+            Refusal::TemperatureTooLow(temperature_c),
+        ),
+    )
+}
+
+fn check_given(explicit_temperature_c: Reading) -> Check
+    ensures { λ r. ⌜ checked r ≡ passed (givenRows «explicit_temperature_c») ⌝ }
+{
+    match explicit_temperature_c {
+        Reading::Given(temperature_c) => check_temperature(temperature_c),
+        Reading::FromLayer => Check::Passed,
+    }
+}
+
+// The station with a density altitude, or why there is none: the causes 1 to 4 in their order.
 pub fn station_for_density_altitude(
     density_altitude_m: f64,
     explicit_temperature_c: Reading,
 ) -> Answer
-    ensures { λ r. ⌜ outcome r ≡ station 52 «density_altitude_m» «explicit_temperature_c» ⌝ }
+    ensures { λ r. ⌜ outcome r ≡ station places «density_altitude_m» «explicit_temperature_c» ⌝ }
 {
-    if !is_finite(density_altitude_m) {
-        return Answer::DensityAltitudeNotFinite(density_altitude_m);
-    }
-    match explicit_temperature_c {
-        Reading::Given(temperature_c) => {
-            if !is_finite(temperature_c) {
-                return Answer::TemperatureNotFinite(temperature_c);
-            }
-            if temperature_c <= ABSOLUTE_ZERO_C {
-                return Answer::TemperatureTooLow(temperature_c);
-            }
-            checked_station(density_altitude_m, explicit_temperature_c)
-        }
-        Reading::FromLayer => checked_station(density_altitude_m, explicit_temperature_c),
+    let altitude = refuse_if(
+        !is_finite(density_altitude_m),
+        Refusal::DensityAltitudeNotFinite(density_altitude_m),
+    );
+    match first_of(altitude, check_given(explicit_temperature_c)) {
+        Check::Refused(refusal) => Answer::Refused(refusal),
+        Check::Passed => checked_station(density_altitude_m, explicit_temperature_c),
     }
 }

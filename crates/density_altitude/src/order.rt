@@ -1,9 +1,10 @@
-// Demand 3, promised of three calls.
+// Demand 3, promised of three calls, and what follows for two.
 ghost use mathlib.Core.Path.{_≡_};
 ghost use lib.Dec.{T};
 ghost use lib.Ieee.{le};
 ghost use Rattle.density_altitude.specs.Inverse.{outcome, station};
-ghost use Rattle.density_altitude.specs.Order.{Accepted, Demand₃};
+ghost use Rattle.density_altitude.specs.Order.{Accepted, Demand₃, Thinner};
+ghost use Rattle.elementary.specs.Places.{places};
 use super::inverse::Answer;
 use super::inverse::station_for_density_altitude;
 use atmosphere::station::Reading;
@@ -21,9 +22,9 @@ pub fn stations_for_density_altitudes(
     high_m: f64,
     explicit_temperature_c: Reading,
 ) -> Stations
-    ensures { λ r. ⌜ (outcome (r .low) ≡ station 52 «low_m» «explicit_temperature_c»)
-        × ((outcome (r .middle) ≡ station 52 «middle_m» «explicit_temperature_c»)
-        × ((outcome (r .high) ≡ station 52 «high_m» «explicit_temperature_c»)
+    ensures { λ r. ⌜ (outcome (r .low) ≡ station places «low_m» «explicit_temperature_c»)
+        × ((outcome (r .middle) ≡ station places «middle_m» «explicit_temperature_c»)
+        × ((outcome (r .high) ≡ station places «high_m» «explicit_temperature_c»)
         × (T (le «low_m» «middle_m») → T (le «middle_m» «high_m») → Accepted (outcome (r .low)) → Accepted (outcome (r .high))
         → Demand₃ «explicit_temperature_c» «low_m» «high_m» (outcome (r .low)) (outcome (r .middle)) (outcome (r .high))))) ⌝ }
 {
@@ -31,5 +32,30 @@ pub fn stations_for_density_altitudes(
         low: station_for_density_altitude(low_m, explicit_temperature_c),
         middle: station_for_density_altitude(middle_m, explicit_temperature_c),
         high: station_for_density_altitude(high_m, explicit_temperature_c),
+    }
+}
+
+pub struct Pair {
+    pub low: Answer,
+    pub high: Answer,
+}
+
+// The stations with two density altitudes, for one given temperature or for none: the higher one has the
+// thinner air.
+pub fn two_stations_for_density_altitudes(
+    low_m: f64,
+    high_m: f64,
+    explicit_temperature_c: Reading,
+) -> Pair
+    ensures { λ r. ⌜ (outcome (r .low) ≡ station places «low_m» «explicit_temperature_c»)
+        × ((outcome (r .high) ≡ station places «high_m» «explicit_temperature_c»)
+        × Thinner «explicit_temperature_c» «low_m» «high_m» (outcome (r .low)) (outcome (r .high))) ⌝ }
+{
+    let stations = stations_for_density_altitudes(low_m, low_m, high_m, explicit_temperature_c);
+    let low = stations.low;
+    let high = stations.high;
+    Pair {
+        low: low,
+        high: high,
     }
 }

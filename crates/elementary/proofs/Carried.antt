@@ -4,7 +4,7 @@ use Prim.Native.Nat.{ℕ, zero, suc, _+_, _-_, _*_, _/_, _%_, _^_, _≤_, _<_}
 use native.Mathlib.Nat.{le-trans, le-of-eq, le-of-lt, le-add-left, lt-of-lt-of-le, lt-of-le-of-lt, not-le-of-lt, zero-add, add-zero, one-mul, mul-assoc, suc-mul, mul-le-mul, mul-le-mul-left, mul-le-mul-right, mul-lt-mul-of-pos-left, add-le-add, mod-lt, mod-eq-of-lt, mul-add-mod-self-right, div-lt-iff-lt-mul}
 use native.Mathlib.Omega.{arith}
 use lib.Dec.{lit<, lit≤}
-use lib.Pow.{pow-pos, pow-mono, pow-add, shl-lt}
+use lib.Pow.{pow-pos, pow-mono, pow-add, shl-lt, shl-exact}
 use Rattle.wide.specs.declared.words.Wide.{Wide}
 use Rattle.wide.specs.Value.{value}
 use Rattle.elementary.proofs.Times.{remaining}
@@ -22,6 +22,9 @@ low-remainder w k h =
     let there : 64 - k + k ≡ 64 = omega arith in
     let multiple : w .hi * 2 ^ 64 ≡ w .hi * 2 ^ (64 - k) * 2 ^ k = ap (λ (n : ℕ). w .hi * 2 ^ n) (sym there) ∙ ap (λ (n : ℕ). w .hi * n) (pow-add 2 (64 - k) k) ∙ sym (mul-assoc (w .hi) (2 ^ (64 - k)) (2 ^ k)) in
     sym (ap (λ (n : ℕ). (n + w .lo) % 2 ^ k) multiple ∙ mul-add-mod-self-right (w .hi * 2 ^ (64 - k)) (2 ^ k) (w .lo))
+
+pub one-moved : (k : ℕ) → k ≤ 62 → (1 * 2 ^ k) % 2 ^ 64 ≡ 2 ^ k
+one-moved k h = shl-exact 1 k 64 (lit< tt) (omega arith) ∙ one-mul (2 ^ k)
 
 -- what is shown of the words that the answer is made of
 pub record Quotients (whole part factor extra shift quotient high low : ℕ) : Type 0 where
@@ -66,7 +69,7 @@ module _ (whole part factor extra shift : ℕ) (whole-lt : whole < 2 ^ 12) (part
     rest-value : 0 + above .lo % ((1 * 2 ^ shift) % 2 ^ 64) ≡ whole * factor % 2 ^ shift
     rest-value =
         zero-add (above .lo % ((1 * 2 ^ shift) % 2 ^ 64))
-        ∙ ap (λ (n : ℕ). above .lo % n) (ap (λ (n : ℕ). n % 2 ^ 64) (one-mul (2 ^ shift)) ∙ mod-eq-of-lt (lt-of-le-of-lt (pow-mono {j = 62} shift-le) (lit< {m = 2 ^ 62} tt)))
+        ∙ ap (λ (n : ℕ). above .lo % n) (one-moved shift shift-le)
         ∙ low-remainder above shift (omega arith)
         ∙ ap (λ (n : ℕ). n % 2 ^ shift) above-is
 

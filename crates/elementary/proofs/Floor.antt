@@ -1,14 +1,14 @@
 -- floor(x * 2^52) of a double of n = q * 2^k units of 2 ^ -1074, as the quotient that `floor_word` computes from q. Assumes nothing.
 use mathlib.Core.Path.{_≡_, sym, ap, ap₂, _∙_}
 use mathlib.Core.Logic.{⊎-elim}
-use Prim.Native.Nat.{ℕ, zero, suc, _+_, _-_, _*_, _/_, _^_, _≤_, _<_}
-use native.Mathlib.Nat.{le-trans, le-of-eq, lt-of-le-of-lt, lt-of-not-le, not-le-of-lt, not-suc-le-zero, mul-pos, mul-comm, mul-assoc, mul-right-comm, mul-le-mul-right, mul-lt-mul-of-pos-right, div-div-eq-div-mul, mul-div-mul-right, div-lt-iff-lt-mul}
-use native.Mathlib.Numerals.{sub-one}
+use Prim.Native.Nat.{ℕ, _+_, _-_, _*_, _/_, _^_, _≤_, _<_}
+use native.Mathlib.Nat.{le-trans, le-of-eq, lt-of-le-of-lt, lt-of-not-le, not-le-of-lt, mul-pos, mul-comm, mul-assoc, mul-right-comm, mul-le-mul-right, mul-lt-mul-of-pos-right, div-div-eq-div-mul, mul-div-mul-right, div-lt-iff-lt-mul}
 use native.Mathlib.Omega.{arith}
 use lib.IntN.{pos, negsuc, negℤ}
 use lib.Arith.{digits-div, mul-pred}
 use lib.Pow.{pow-pos, pow-add, pow-mono}
 use Rattle.elementary.specs.Parts.{Digits}
+use Rattle.elementary.proofs.Integers.{opposite-of}
 
 -- a fraction's numerator, one less, keeps the floor under a common factor
 pub pred-div : (x d c : ℕ) → 0 < x → 0 < c → (x - 1) / d ≡ (x * c - 1) / (d * c)
@@ -16,10 +16,6 @@ pred-div x d c X C =
     ap (λ (n : ℕ). n / d) (sym (ap (λ (n : ℕ). n / c) (mul-pred X C) ∙ digits-div (x - 1) (omega arith)))
     ∙ div-div-eq-div-mul (x * c - 1) c d
     ∙ ap (λ (n : ℕ). (x * c - 1) / n) (mul-comm c d)
-
-pub opposite-of : (n : ℕ) → 0 < n → negℤ (pos n) ≡ negsuc (n - 1)
-opposite-of zero h = absurd (not-suc-le-zero h)
-opposite-of (suc n) h = ap negsuc (sym (sub-one (suc n)))
 
 module _ (q k : ℕ) (digits : Digits q k) (small : q * 2 ^ k < 2 ^ 1085) where
   pub places : k ≤ 1086

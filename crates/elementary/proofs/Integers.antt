@@ -1,13 +1,15 @@
 -- The order of the whole numbers, and what keeps or turns it: the opposite, a product with a fixed factor, a floor. Assumes nothing.
 use mathlib.Core.Path.{_≡_, refl, sym, ap, _∙_}
 use Prim.Native.Nat.{ℕ, zero, suc, _-_, _*_, _/_, _≤_, _<_, zero-le, suc-le-suc}
-use native.Mathlib.Nat.{le-trans, le-of-suc-le-suc, not-suc-le-zero, zero-lt-suc, mul-le-mul-right, le-of-mul-le-mul-right, mul-pos, zero-mul, div-mul-le-self, le-div-iff-mul-le}
+use native.Mathlib.Nat.{le-trans, le-of-suc-le-suc, not-suc-le-zero, zero-lt-suc, mul-le-mul-right, le-of-mul-le-mul-right, mul-pos, zero-mul}
+use native.Mathlib.Numerals.{sub-one}
 use native.Mathlib.Omega.{arith}
 use mathlib.Core.Bool.{Bool, true, false, cond}
 use lib.IntN.{ℤ, pos, negsuc, negℤ, negℤ-negℤ, _*ℤ_, *ℤ-zero, *ℤ-negsuc}
 use lib.Dec.{T, leb, leb→le, le→leb}
 use lib.Signed.{_≤ℤ_}
 use lib.Ieee.{minus}
+use lib.Ieee.Nearest.{div-mono as div-ratios}
 use Rattle.elementary.specs.Whole.{signed, floorDiv}
 
 -- ---- the order
@@ -33,6 +35,10 @@ pub ≤ℤ-trans : {a b c : ℤ} → a ≤ℤ b → b ≤ℤ c → a ≤ℤ c
 ≤ℤ-trans {a = negsuc a} {b = negsuc b} {c = negsuc c} h k = negsuc-le (le-trans (le-of-negsuc k) (le-of-negsuc h))
 
 -- ---- the opposite
+pub opposite-of : (n : ℕ) → 0 < n → negℤ (pos n) ≡ negsuc (n - 1)
+opposite-of zero h = absurd (not-suc-le-zero h)
+opposite-of (suc n) h = ap negsuc (sym (sub-one (suc n)))
+
 pub neg-below : (n m : ℕ) → negℤ (pos n) ≤ℤ pos m
 neg-below zero m = pos-le zero-le
 neg-below (suc n) m = record { le = tt }
@@ -88,7 +94,7 @@ times-anti q {a} {b} h = rw (neg-times a q, neg-times b q) (neg-mono (times-mono
 
 -- ---- floors
 pub div-mono : (d : ℕ) → 0 < d → {a b : ℕ} → a ≤ b → a / d ≤ b / d
-div-mono d D {a} h = le-div-iff-mul-le D .1 (le-trans (div-mul-le-self a d) h)
+div-mono d D {a} {b} h = div-ratios a d b d D D (mul-le-mul-right d h)
 
 pub floorDiv-mono : (d : ℕ) → 0 < d → {a b : ℤ} → a ≤ℤ b → floorDiv a d ≤ℤ floorDiv b d
 floorDiv-mono d D {a = pos a} {b = pos b} h = pos-le (div-mono d D (le-of-pos h))

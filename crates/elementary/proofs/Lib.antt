@@ -16,6 +16,7 @@ pub mod Units
 pub mod NearestWhole
 pub mod RootDigits
 pub mod NearestRoot
+pub mod Decimals
 pub mod Exponents
 pub mod PowerCases
 pub mod Times
@@ -23,6 +24,7 @@ pub mod Carried
 pub mod Floor
 pub mod Ordered
 pub mod Rises
+pub mod ExpRises
 pub mod CommonDenominator
 pub mod Sums
 pub mod Products

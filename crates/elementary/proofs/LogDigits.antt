@@ -5,17 +5,19 @@ use native.Mathlib.Nat.{le-trans, le-of-eq, lt-of-lt-of-le, lt-of-not-le, not-le
 use native.Mathlib.Numerals.{sub-one}
 use native.Mathlib.Omega.{arith}
 use mathlib.Core.Bool.{Bool, true, false, cond}
-use lib.IntN.{pos, negsuc, negℤ, subℕ, _+ℤ_, _*ℤ_}
-use lib.Dec.{leb, ltb, le→leb, lt→ltb, lit≤}
+use lib.IntN.{ℤ, pos, negsuc, negℤ, subℕ, _+ℤ_, _*ℤ_}
+use lib.Dec.{ltb, lt→ltb, lit≤}
 use lib.Count.{leadingZeros, leading-top}
-use lib.Arith.{digits-div, digits-mod, lt→nleb}
+use lib.Arith.{digits-div, digits-mod}
 use lib.Pow.{pow-add, pow-pos, pow-mono, shl-lt, shl-exact}
 use lib.Ieee.{size, minus}
-use lib.Ieee.Bits.{is-true, is-false}
+use lib.Ieee.Bits.{is-true}
 use Rattle.elementary.specs.declared.word.Word.{Word}
 use Rattle.elementary.specs.Whole.{asWord}
 use Rattle.elementary.specs.Log.{mantissaOf, logBits, wordOfUnits}
 use Rattle.elementary.proofs.Pattern.{size-is}
+use Rattle.elementary.proofs.Size.{size-shifted}
+use Rattle.elementary.proofs.Differences.{minus-above, minus-below}
 use Rattle.elementary.proofs.Range.{Mantissa}
 
 -- ---- a significand and its leading zeros in a word of 64 bits
@@ -50,7 +52,7 @@ moved-mantissa q zeros l =
 
 -- ---- e * 2^p + b, for e = s - 1074
 pub word-above : (p s b : ℕ) → 1074 ≤ s → minus s 1074 *ℤ pos (2 ^ p) +ℤ pos b ≡ pos ((s - 1074) * 2 ^ p + b)
-word-above p s b h = ap (λ (t : Bool). cond t (pos (s - 1074)) (negsuc (1074 - suc s)) *ℤ pos (2 ^ p) +ℤ pos b) (is-true (leb 1074 s) (le→leb 1074 s h))
+word-above p s b h = ap (λ (z : ℤ). z *ℤ pos (2 ^ p) +ℤ pos b) (minus-above s 1074 h)
 
 -- -(x + y) + b, for b below x: what is left is -(y + (x - b - 1) + 1)
 below-zero : (c b j : ℕ) → b < c → negℤ (pos (suc j * c)) +ℤ pos b ≡ negsuc (j * c + (c - suc b))
@@ -66,15 +68,14 @@ below-zero c b j h =
 
 pub word-below : (p s b : ℕ) → b < 2 ^ p → s < 1074 → minus s 1074 *ℤ pos (2 ^ p) +ℤ pos b ≡ negsuc ((1073 - s) * 2 ^ p + (2 ^ p - suc b))
 word-below p s b B h =
-    ap (λ (t : Bool). cond t (pos (s - 1074)) (negsuc (1074 - suc s)) *ℤ pos (2 ^ p) +ℤ pos b) (is-false (leb 1074 s) (lt→nleb 1074 s h))
+    ap (λ (z : ℤ). z *ℤ pos (2 ^ p) +ℤ pos b) (minus-below s 1074 h)
     ∙ below-zero (2 ^ p) b (1074 - suc s) B
     ∙ ap (λ (x : ℕ). negsuc (x * 2 ^ p + (2 ^ p - suc b))) (omega arith)
 
 -- ---- q * 2^k, where q's highest digit is its digit j
 module _ (q j k : ℕ) (low : 2 ^ j ≤ q) (high : q < 2 ^ suc j) where
   units-size : size (q * 2 ^ k) ≡ suc (j + k)
-  units-size =
-      size-is (q * 2 ^ k) (j + k) (le-trans (le-of-eq (pow-add 2 j k)) (mul-le-mul-right (2 ^ k) low)) (subst (λ (x : ℕ). q * 2 ^ k < 2 ^ x) (suc-add j k) (shl-lt (suc j) k high))
+  units-size = size-shifted q k (lt-of-lt-of-le (pow-pos j) low) ∙ ap (λ (x : ℕ). x + k) (size-is q j low high) ∙ suc-add j k
 
   highest : size (q * 2 ^ k) - 1 ≡ j + k
   highest = ap (λ (x : ℕ). x - 1) units-size ∙ sub-one (suc (j + k))

@@ -10,6 +10,7 @@ use lib.Dec.{T, leb, leb→le, nleb→lt}
 use Rattle.wide.specs.Root.{root}
 use Rattle.wide.proofs.Root.{root-le, root-gt}
 use Rattle.elementary.specs.Sqrt.{nearestRoot}
+use Rattle.elementary.proofs.Powers.{squares-lt}
 
 -- (q - 1/2) ^ 2 < N < (q + 1/2) ^ 2, in whole numbers
 abbrev pub Nearest : ℕ → ℕ → Type 0
@@ -58,16 +59,13 @@ midpoint-at-most N q h near g l = elim (eq-or-lt-of-le g) [
 abbrev pub Placed : ℕ → ℕ → ℕ → Type 0
 Placed h u Z = (Z < h * u) ⊎ ((z : ℕ) × (Z ≡ z * u))
 
-square-lt : (a b : ℕ) → a < b → a * a < b * b
-square-lt a b h = lt-of-lt-of-le {m = suc a * suc a} (omega arith) (mul-le-mul h h)
-
 module _ (N q h u : ℕ) (U : 0 < u) (near : Nearest N q) (l : h * h ≤ N) where
   in-units : (z : ℕ) → (z * u + q * u) * (z * u + q * u) ≡ (z + q) * (z + q) * (u * u)
   in-units z = ap (λ (x : ℕ). x * x) (sym (add-mul z q u)) ∙ mul-mul-mul-comm (z + q) u (z + q) u
 
   pub lower-is-farther : (Z : ℕ) → Placed h u Z → Z < q * u → (Z + q * u) * (Z + q * u) < 4 * N * (u * u)
   lower-is-farther Z (inl k) b =
-      lt-of-lt-of-le (square-lt (Z + q * u) (h * u + q * u) (omega arith)) (le-trans (le-of-eq (in-units h)) (mul-le-mul-right (u * u) (midpoint-at-most N q h near (nearest-at-least N q h near l) l)))
+      lt-of-lt-of-le (squares-lt {a = Z + q * u} {b = h * u + q * u} (omega arith)) (le-trans (le-of-eq (in-units h)) (mul-le-mul-right (u * u) (midpoint-at-most N q h near (nearest-at-least N q h near l) l)))
   lower-is-farther Z (inr (z, e)) b =
       subst (λ (x : ℕ). (x + q * u) * (x + q * u) < 4 * N * (u * u)) (sym e)
       (subst (λ (x : ℕ). x < 4 * N * (u * u)) (sym (in-units z)) (mul-lt-mul-of-pos-right (midpoint-below N q z near (lt-of-mul-lt-mul-right u (subst (λ (x : ℕ). x < q * u) e b))) (mul-pos U U)))

@@ -2,8 +2,8 @@
 -- Assumes nothing.
 use mathlib.Core.Path.{_≡_, refl, sym, ap, _∙_, subst₂}
 use mathlib.Core.Logic.{_⊎_, inl, inr}
-use Prim.Native.Nat.{ℕ, zero, suc, _+_, _*_, _/_, _^_, _≤_}
-use native.Mathlib.Nat.{le-of-eq, le-of-lt, eq-or-lt-of-le, eq-zero-or-pos, not-suc-le-zero, zero-mul, mul-assoc, mul-comm, mul-right-comm, mul-pos, zero-div, mul-div-cancel}
+use Prim.Native.Nat.{ℕ, zero, suc, _+_, _*_, _^_, _≤_}
+use native.Mathlib.Nat.{le-of-eq, le-of-lt, eq-or-lt-of-le, eq-zero-or-pos, not-suc-le-zero, zero-mul, mul-assoc, mul-comm, mul-right-comm, mul-pos, zero-div}
 use native.Mathlib.Omega.{arith}
 use mathlib.Core.Bool.{Bool, true, false, not, _&&_, _||_}
 use lib.IntN.{ℤ, pos, negℤ, negℤ-negℤ, _*ℤ_}
@@ -15,14 +15,14 @@ use lib.Ieee.Fits.{down-pos, and-i, and-l, and-r, eq→eqb}
 use Rattle.elementary.specs.Whole.{signed}
 use Rattle.elementary.specs.Nearest.{unitsOf}
 use Rattle.elementary.proofs.Integers.{pos-le, le-of-pos, neg-below, opposites, le-of-opposites, ≤ℤ-trans, times-mono, times-cancel, signed-times, neg-mono}
-use Rattle.elementary.proofs.Units.{unit-exponent, in-range}
+use Rattle.elementary.proofs.Units.{unit-exponent, in-range, units-are}
 
 -- ---- ±a against ±b, as `le` compares them: the order of the whole numbers
 or-cases : (x y : Bool) → T (x || y) → T x ⊎ T y
 or-cases true y h = inl tt
 or-cases false y h = inr h
 
-or-left : (x y : Bool) → T x → T (x || y)
+pub or-left : (x y : Bool) → T x → T (x || y)
 or-left true y h = tt
 or-left false y h = absurd h
 
@@ -69,8 +69,10 @@ pub units-exact : (s : Bool) (m : ℕ) (e : ℤ) → T (fits binary64 (fin s m e
 units-exact s zero e h = rw (zero-mul (up e), zero-div (down e), zero-mul (down e))
 units-exact s (suc m) e h =
     let j = unit-exponent 1074 e (in-range s m e h .1) in
-    let multiple : suc m * up e * 2 ^ 1074 ≡ suc m * 2 ^ (j .0) * down e = mul-assoc (suc m) (up e) (2 ^ 1074) ∙ ap (λ (n : ℕ). suc m * n) (j .1) ∙ sym (mul-assoc (suc m) (2 ^ (j .0)) (down e)) in
-    multiple ∙ ap (λ (n : ℕ). n * down e) (sym (ap (λ (n : ℕ). n / down e) multiple ∙ mul-div-cancel (suc m * 2 ^ (j .0)) (down-pos e)))
+    mul-assoc (suc m) (up e) (2 ^ 1074)
+    ∙ ap (λ (n : ℕ). suc m * n) (j .1)
+    ∙ sym (mul-assoc (suc m) (2 ^ (j .0)) (down e))
+    ∙ ap (λ (n : ℕ). n * down e) (sym (units-are s (suc m) e (j .0) (j .1)))
 
 -- what `le` compares, k being the other double's denominator
 compared : (s : Bool) (m k : ℕ) (e : ℤ) → T (fits binary64 (fin s m e)) → signed s (m * up e * k) *ℤ pos (2 ^ 1074) ≡ count (fin s m e) *ℤ pos (down e * k)

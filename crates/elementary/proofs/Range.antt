@@ -2,7 +2,7 @@
 -- p places are a number below 2 ^ p. Assumes nothing.
 use mathlib.Core.Path.{_≡_, sym, ap, _∙_, subst}
 use Prim.Native.Nat.{ℕ, zero, suc, _+_, _-_, _*_, _/_, _%_, _^_, _≤_, _<_}
-use native.Mathlib.Nat.{le-refl, le-trans, le-add-right, lt-of-le-of-lt, lt-of-not-le, not-le-of-lt, mul-le-mul, mul-le-mul-left, mul-lt-mul-of-pos-right, mod-lt, pow-succ', le-div-iff-mul-le, div-lt-iff-lt-mul}
+use native.Mathlib.Nat.{le-refl, le-add-right, lt-of-le-of-lt, mul-le-mul, mul-le-mul-left, mul-lt-mul-of-pos-right, mod-lt, pow-succ', le-div-iff-mul-le, div-lt-iff-lt-mul}
 use native.Mathlib.Omega.{arith}
 use mathlib.Core.Bool.{Bool, true, false, not, cond}
 use lib.Dec.{T, leb, leb→le, nleb→lt, lit<}
@@ -15,6 +15,7 @@ use Rattle.wide.proofs.Root.{root-le, root-gt}
 use Rattle.elementary.specs.Log.{squared, bitOf, nextOf, logBits, mantissaOf}
 use Rattle.elementary.specs.Antilog.{antilogRoot}
 use Rattle.elementary.proofs.Powers.{squares-lt, lt-of-squares}
+use Rattle.elementary.proofs.Size.{size-pos}
 
 pub record Mantissa (M : ℕ) : Type 0 where
   pub low : 2 ^ 62 ≤ M
@@ -76,7 +77,7 @@ antilogRoot-mantissa (suc p) f h = root-mantissa (f / 2 ^ p) (antilogRoot-mantis
 -- a positive number lies between what its highest binary digit is worth and twice that
 pub size-bounds : {n : ℕ} → 0 < n → (2 ^ (size n - 1) ≤ n) × (n < 2 * 2 ^ (size n - 1))
 size-bounds {n} h =
-    let some : 0 < size n = lt-of-not-le (λ (none : size n ≤ 0). not-le-of-lt (size-lt n) (le-trans (pow-mono none) h)) in
+    let some : 0 < size n = size-pos n h in
     let next : size n ≡ suc (size n - 1) = omega arith in
     (size-reaches n (size n - 1) (omega arith), subst (λ (k : ℕ). n < k) (ap (λ (k : ℕ). 2 ^ k) next ∙ pow-succ' 2 (size n - 1)) (size-lt n))
 

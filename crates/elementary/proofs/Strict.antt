@@ -1,6 +1,6 @@
 -- The strict order of doubles: one number is less than another exactly if the other is not at most it. So what is less stays less than what rises.
 -- Assumes nothing.
-use mathlib.Core.Bool.{Bool, true, false, _||_}
+use mathlib.Core.Bool.{Bool, true, false}
 use Prim.Native.Nat.{ℕ, zero, suc, _+_, _*_, _≤_, _<_}
 use native.Mathlib.Nat.{lt-of-not-le, not-le-of-lt}
 use native.Mathlib.Omega.{arith}
@@ -10,7 +10,7 @@ use lib.Signed.{_≤ℤ_, ≤ℤ-refl}
 use lib.Ieee.{Float, nan, inf, fin, binary64, up, down, fits, lt, le, eq, below}
 use Rattle.elementary.specs.Whole.{signed}
 use Rattle.elementary.proofs.Integers.{pos-le, le-of-pos, neg-below, opposites, not-below-neg, le-of-opposites}
-use Rattle.elementary.proofs.Order.{signed-of-le, le-of-signed, number, highest, numbers-of-le, le-trans-double}
+use Rattle.elementary.proofs.Order.{or-left, signed-of-le, le-of-signed, number, highest, numbers-of-le, le-trans-double}
 
 -- ---- ±a against ±b, as `lt` compares them
 less-of-signed : (s t : Bool) (a b : ℕ) → (signed t b ≤ℤ signed s a → ⊥) → T (below s a t b)
@@ -61,11 +61,7 @@ not-le-of-less (fin s m e) (fin t n d) h k =
 
 le-of-lt : (x y : Float) → T (lt x y) → T (le x y)
 unfolding le
-le-of-lt x y h = go (lt x y) (eq x y) h
-  where
-    go : (a b : Bool) → T a → T (a || b)
-    go true b h = tt
-    go false b h = absurd h
+le-of-lt x y h = or-left (lt x y) (eq x y) h
 
 pub lt-le-trans : (x y z : Float) → T (fits binary64 x) → T (fits binary64 y) → T (fits binary64 z) → T (lt x y) → T (le y z) → T (lt x z)
 lt-le-trans x y z f g h l k =

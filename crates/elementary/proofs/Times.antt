@@ -2,7 +2,7 @@
 -- And the signed whole numbers that the two signs of a word stand for. Assumes nothing.
 use mathlib.Core.Path.{_≡_, refl, sym, ap, _∙_, subst}
 use Prim.Native.Nat.{ℕ, zero, suc, pred, _+_, _-_, _*_, _/_, _%_, _^_, _≤_, _<_, zero-le}
-use native.Mathlib.Nat.{add-assoc, mul-right-comm, add-mul, suc-mul, add-suc, div-add-mod', mul-add-div-right, mul-add-mod-self-right, div-div-eq-div-mul, suc-pred-eq-of-pos, add-zero, not-suc-le-zero, le-refl, lt-of-lt-of-le, lt-of-le-of-lt, le-of-lt, le-of-suc-le-suc, mul-le-mul, mod-lt, div-lt-iff-lt-mul}
+use native.Mathlib.Nat.{add-assoc, mul-right-comm, add-mul, suc-mul, add-suc, div-add-mod', mul-add-div-right, mul-add-mod-self-right, div-div-eq-div-mul, suc-pred-eq-of-pos, add-zero, le-refl, lt-of-lt-of-le, lt-of-le-of-lt, le-of-lt, le-of-suc-le-suc, mul-le-mul, mod-lt, div-lt-iff-lt-mul}
 use native.Mathlib.Numerals.{sub-one}
 use native.Mathlib.Omega.{arith}
 use mathlib.Core.Bool.{Bool, true, false, cond}
@@ -10,7 +10,7 @@ use lib.IntN.{ℤ, pos, negsuc, negℤ, _*ℤ_}
 use lib.Arith.{digits-lt}
 use lib.Pow.{pow-pos}
 use Rattle.elementary.specs.declared.word.Word.{Word}
-use Rattle.elementary.proofs.Integers.{neg-times, neg-left}
+use Rattle.elementary.proofs.Integers.{opposite-of, neg-times, neg-left}
 use Rattle.elementary.specs.Whole.{signed, floorDiv, digits, wordValue, asWord}
 
 -- what is left to divide once the digits above the point have given their whole quotient
@@ -62,8 +62,7 @@ same-word s e f = λ i. record { negative = s; whole = e i; part = f i }
 
 -- -a is -((a - 1) + 1)
 pub opposite-positive : (p a : ℕ) → 0 < a → _≡_ {A = Word} (record { negative = true; whole = (a - 1) / 2 ^ p; part = (a - 1) % 2 ^ p }) (asWord p (negℤ (pos a)))
-opposite-positive p zero h = absurd (not-suc-le-zero h)
-opposite-positive p (suc a) h = ap (λ (x : ℕ). asWord p (negsuc x)) (sub-one (suc a))
+opposite-positive p a h = ap (asWord p) (sym (opposite-of a h))
 
 -- ---- a word and the whole number that it stands for
 pub word-value : (p : ℕ) (z : ℤ) → wordValue p (asWord p z) ≡ z

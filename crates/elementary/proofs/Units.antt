@@ -50,8 +50,8 @@ in-range s m e t =
     )
 
 -- the division in `unitsOf` is exact
-units-exact : (s : Bool) (m : ℕ) (e : ℤ) (j : ℕ) → up e * 2 ^ 1074 ≡ 2 ^ j * down e → unitsOf (fin s m e) ≡ m * 2 ^ j
-units-exact s m e j h =
+pub units-are : (s : Bool) (m : ℕ) (e : ℤ) (j : ℕ) → up e * 2 ^ 1074 ≡ 2 ^ j * down e → unitsOf (fin s m e) ≡ m * 2 ^ j
+units-are s m e j h =
     ap (λ (x : ℕ). x / down e) (mul-assoc m (up e) (2 ^ 1074) ∙ ap (λ (x : ℕ). m * x) h ∙ sym (mul-assoc m (2 ^ j) (down e))) ∙ mul-div-cancel (m * 2 ^ j) (down-pos e)
 
 pub units-short : (s : Bool) (m : ℕ) (e : ℤ) → T (fits binary64 (fin s m e)) → Short (unitsOf (fin s m e))
@@ -59,7 +59,7 @@ units-short s zero e t = (0, 0, lit< tt, ap (λ (x : ℕ). x * 2 ^ 1074 / down e
 units-short s (suc m) e t =
     let range = in-range s m e t in
     let j = unit-exponent 1074 e (range .1) in
-    (suc m, j .0, range .0, units-exact s (suc m) e (j .0) (j .1))
+    (suc m, j .0, range .0, units-are s (suc m) e (j .0) (j .1))
 
 pub units-below : (s : Bool) (m : ℕ) (e : ℤ) → T (fits binary64 (fin s (suc m) e)) → unitsOf (fin s (suc m) e) < 2 ^ 2098
 units-below s m e t =

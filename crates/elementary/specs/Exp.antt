@@ -2,8 +2,9 @@
 use Prim.Native.Nat.{ℕ, _*_, _^_}
 use mathlib.Core.Bool.{false, cond}
 use lib.IntN.{ℤ, pos, _*ℤ_}
-use lib.Ieee.{Float, nan, inf, fin, binary64, ofBits, neg, le, isNan}
+use lib.Ieee.{Float, nan, inf, fin, ofBits, neg, le, isNan}
 use Rattle.elementary.specs.Whole.{signed, floorDiv}
+use Rattle.elementary.specs.Decimals.{decimal}
 use Rattle.elementary.specs.Nearest.{unitsOf}
 use Rattle.elementary.specs.Antilog.{antilog}
 
@@ -17,12 +18,12 @@ floorScaled p (fin s m e) = floorDiv (signed s (unitsOf (fin s m e) * 2 ^ p)) (2
 abbrev pub log2e : ℕ
 log2e = 0x5c551d94ae0bf85d
 
--- 1,024 and -1,100
+-- the limits: infinity from the first up, and +0 from the second down
 abbrev pub expTop : Float
-expTop = ofBits binary64 0x4090000000000000
+expTop = decimal "1024"
 
 abbrev pub expBottom : Float
-expBottom = neg (ofBits binary64 0x4091300000000000)
+expBottom = neg (decimal "1100")
 
 -- W = floor(x * 2^p), antilog of floor(W * log2e / 2^62)
 abbrev pub expWithin : ℕ → Float → Float

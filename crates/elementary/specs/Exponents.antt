@@ -5,88 +5,80 @@ use mathlib.Core.Bool.{Bool, false, not, _&&_}
 use mathlib.Core.List.{List, [], _∷_}
 use lib.Dec.{eqb}
 use lib.ListN.{getD}
-use lib.Ieee.{Float, nan, inf, fin, binary64, ofBits, neg, sub, mul, div, up, down}
+use lib.Ieee.{Float, nan, inf, fin, ofBits, neg, sub, mul, div, up, down}
+use Rattle.elementary.specs.Decimals.{decimal, one}
 use Rattle.elementary.specs.Operators.{_⊖_, _⊗_, _⊘_}
 
--- ---- the constants: G_ACCEL_MPS2, R_AIR, DA_NWS_EXPONENT, ISA_LAPSE_K_PER_M
--- 9.80665
-abbrev g : Float
-g = ofBits binary64 0x40239d013a92a305
+-- ---- ICAO Doc 7488, primary constants
+-- the standard acceleration of free fall, m/s² (`G_ACCEL_MPS2`)
+abbrev pub g₀ : Float
+g₀ = decimal "9.80665"
 
--- 287.0531
-abbrev R : Float
-R = ofBits binary64 0x4071f0d97f62b6ae
+-- the specific gas constant of dry air, J/(kg K) (`R_AIR`)
+abbrev pub Rd : Float
+Rd = decimal "287.0531"
 
--- 0.190284
-abbrev nws : Float
-nws = ofBits binary64 0x3fc85b39e279dd3c
+-- ---- the temperature gradients of the layers that have one, K/m (`ICAO_LAYERS`); layers 1 and 4 have none
+abbrev gradient0 : Float
+gradient0 = decimal "-0.0065"
 
--- 0.0065
-abbrev isaLapse : Float
-isaLapse = ofBits binary64 0x3f7a9fbe76c8b439
+abbrev gradient2 : Float
+gradient2 = decimal "0.001"
 
--- 1.0
-abbrev one : Float
-one = ofBits binary64 0x3ff0000000000000
+abbrev gradient3 : Float
+gradient3 = decimal "0.0028"
 
--- ---- the lapse rates of ICAO_LAYERS, K/m; layers 1 and 4 have none
--- layer 0: -0.0065
-abbrev lapse0 : Float
-lapse0 = ofBits binary64 0xbf7a9fbe76c8b439
+abbrev gradient5 : Float
+gradient5 = decimal "-0.0028"
 
--- layer 2: 0.001
-abbrev lapse2 : Float
-lapse2 = ofBits binary64 0x3f50624dd2f1a9fc
+abbrev gradient6 : Float
+gradient6 = decimal "-0.002"
 
--- layer 3: 0.0028
-abbrev lapse3 : Float
-lapse3 = ofBits binary64 0x3f66f0068db8bac7
+-- the troposphere's lapse rate (`ISA_LAPSE_K_PER_M`)
+abbrev pub lapse : Float
+lapse = decimal "0.0065"
 
--- layer 5: -0.0028
-abbrev lapse5 : Float
-lapse5 = ofBits binary64 0xbf66f0068db8bac7
+-- ---- the exponents of a layer with the temperature gradient β
+-- of a pressure over its temperature: -g₀ / (β R)
+abbrev pub pressureExponent : Float → Float
+pressureExponent β = neg g₀ ⊘ (β ⊗ Rd)
 
--- layer 6: -0.002
-abbrev lapse6 : Float
-lapse6 = ofBits binary64 0xbf60624dd2f1a9fc
+-- of a temperature over its pressure: -β R / g₀
+abbrev pub temperatureExponent : Float → Float
+temperatureExponent β = neg β ⊗ Rd ⊘ g₀
 
--- ---- the expressions
--- pressure over temperature, `-G_ACCEL_MPS2 / (layer.lapse_rate * R_AIR)`
-abbrev pressureExponent : Float → Float
-pressureExponent lapse = neg g ⊘ (lapse ⊗ R)
+-- of a density over its temperature: -g₀ / (R β) - 1
+abbrev pub densityExponent : Float → Float
+densityExponent β = neg g₀ ⊘ (Rd ⊗ β) ⊖ one
 
--- temperature over pressure, `-lapse * R_AIR / G_ACCEL_MPS2`
-abbrev temperatureExponent : Float → Float
-temperatureExponent lapse = neg lapse ⊗ R ⊘ g
+-- the troposphere's, g₀ / (R lapse) - 1
+abbrev pub troposphereExponent : Float
+troposphereExponent = g₀ ⊘ (Rd ⊗ lapse) ⊖ one
 
--- density over temperature, `-G_ACCEL_MPS2 / (R_AIR * lapse) - 1.0`
-abbrev densityExponent : Float → Float
-densityExponent lapse = neg g ⊘ (R ⊗ lapse) ⊖ one
-
--- the troposphere's, `G_ACCEL_MPS2 / (R_AIR * ISA_LAPSE_K_PER_M) - 1.0`
-abbrev troposphereExponent : Float
-troposphereExponent = g ⊘ (R ⊗ isaLapse) ⊖ one
+-- of the National Weather Service's pressure altitude (`DA_NWS_EXPONENT`)
+abbrev pub nwsExponent : Float
+nwsExponent = decimal "0.190284"
 
 -- ---- the table
 unfoldable pub exponents : List Float
 unfolding ofBits neg sub mul div
 exponents =
     -- 0 to 4
-    pressureExponent lapse0 ∷ pressureExponent lapse2 ∷ pressureExponent lapse3 ∷ pressureExponent lapse5 ∷ pressureExponent lapse6 ∷
+    pressureExponent gradient0 ∷ pressureExponent gradient2 ∷ pressureExponent gradient3 ∷ pressureExponent gradient5 ∷ pressureExponent gradient6 ∷
     -- 5: the QNH reduction's `exponent.recip()`
-    one ⊘ pressureExponent lapse0 ∷
+    one ⊘ pressureExponent gradient0 ∷
     -- 6 to 10
-    temperatureExponent lapse0 ∷ temperatureExponent lapse2 ∷ temperatureExponent lapse3 ∷ temperatureExponent lapse5 ∷ temperatureExponent lapse6 ∷
-    -- 11, 12: DA_NWS_EXPONENT and `1.0 / DA_NWS_EXPONENT`
-    nws ∷ one ⊘ nws ∷
+    temperatureExponent gradient0 ∷ temperatureExponent gradient2 ∷ temperatureExponent gradient3 ∷ temperatureExponent gradient5 ∷ temperatureExponent gradient6 ∷
+    -- 11, 12: the National Weather Service's and `1.0 / DA_NWS_EXPONENT`
+    nwsExponent ∷ one ⊘ nwsExponent ∷
     -- 13, 14
     troposphereExponent ∷ one ⊘ troposphereExponent ∷
     -- 15 to 17
-    densityExponent lapse2 ∷ densityExponent lapse3 ∷ densityExponent lapse5 ∷
+    densityExponent gradient2 ∷ densityExponent gradient3 ∷ densityExponent gradient5 ∷
     -- 18 to 21: `1.0 / density_exponent`
-    one ⊘ densityExponent lapse2 ∷ one ⊘ densityExponent lapse3 ∷ one ⊘ densityExponent lapse5 ∷ one ⊘ densityExponent lapse6 ∷
-    -- 22 to 26: 1.5, 3.0, 3.5, 4.0, 7.5 of the saturation pressure
-    ofBits binary64 0x3ff8000000000000 ∷ ofBits binary64 0x4008000000000000 ∷ ofBits binary64 0x400c000000000000 ∷ ofBits binary64 0x4010000000000000 ∷ ofBits binary64 0x401e000000000000 ∷ []
+    one ⊘ densityExponent gradient2 ∷ one ⊘ densityExponent gradient3 ∷ one ⊘ densityExponent gradient5 ∷ one ⊘ densityExponent gradient6 ∷
+    -- 22 to 26, of the saturation pressure
+    decimal "1.5" ∷ decimal "3" ∷ decimal "3.5" ∷ decimal "4" ∷ decimal "7.5" ∷ []
 
 -- ---- what a power needs of an exponent q
 pub record Exponent : Type 0 where

@@ -1,6 +1,8 @@
 -- What the contracts of `elementary` cite. Each file from Log to Ln is one paragraph of document 01, "Added: three functions by whole numbers",
--- and takes the number of places, `p`, as its first argument: 52 today, and any number from 1 to 60 in the laws.
+-- and takes the number of places, `p`, as its first argument: `places` in the contracts, and any number from 1 to 60 in the laws.
+pub mod Places
 pub mod Operators
+pub mod Decimals
 pub mod Whole
 pub mod Nearest
 pub mod Parts

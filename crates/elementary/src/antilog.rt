@@ -3,8 +3,12 @@ ghost use mathlib.Core.Path.{_≡_};
 ghost use Prim.Native.Nat.{_^_, _<_};
 ghost use Rattle.elementary.specs.Whole.{wordValue};
 ghost use Rattle.elementary.specs.Antilog.{antilogRoot, antilog};
+ghost use Rattle.elementary.specs.Places.{places};
 use super::nearest::nearest_product;
 use super::nearest::nearest_quotient;
+use super::word::ONES;
+use super::word::PLACES;
+use super::word::WHOLE;
 use super::word::Word;
 use wide::roots::floor_root;
 use wide::words::Wide;
@@ -12,13 +16,13 @@ use wide::words::Wide;
 // 2^62 times 2 to the power f / 2^52, from f's lowest bit to its highest. The radicand, y * 2^62 or
 // y * 2^63, has its upper word from y's upper bits.
 fn antilog_root(f: u64) -> u64
-    requires { ⌜ f < 2 ^ 52 ⌝ }
-    ensures { λ r. ⌜ r ≡ antilogRoot 52 f ⌝ }
+    requires { ⌜ f < 2 ^ places ⌝ }
+    ensures { λ r. ⌜ r ≡ antilogRoot places f ⌝ }
 {
     let mut y = 0x4000_0000_0000_0000u64;
     let mut rest = f;
     let mut place = 0u32;
-    while place < 52 {
+    while place < PLACES {
         let bit = rest % 2;
         y = floor_root(Wide {
             hi: y >> (2 - bit),
@@ -32,12 +36,12 @@ fn antilog_root(f: u64) -> u64
 
 // 2 to the power w, w being in units of 2^-52.
 pub fn antilog(w: Word) -> f64
-    ensures { λ r. ⌜ r ≡ antilog 52 (wordValue 52 w) ⌝ }
+    ensures { λ r. ⌜ r ≡ antilog places (wordValue places w) ⌝ }
 {
-    let whole = w.whole as u64 + w.part / 0x10_0000_0000_0000;
-    let part = w.part % 0x10_0000_0000_0000;
+    let whole = w.whole as u64 + w.part / WHOLE;
+    let part = w.part % WHOLE;
     if w.negative {
-        return nearest_quotient(antilog_root(0xf_ffff_ffff_ffff - part), whole + 63);
+        return nearest_quotient(antilog_root(ONES - part), whole + 63);
     }
     if whole < 62 {
         return nearest_quotient(antilog_root(part), 62 - whole);

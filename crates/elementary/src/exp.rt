@@ -2,14 +2,16 @@
 ghost use mathlib.Core.Path.{_≡_};
 ghost use mathlib.Core.Bool.{false};
 ghost use Prim.Native.Nat.{_*_, _^_, _<_};
-ghost use lib.Ieee.{le};
 ghost use Rattle.elementary.specs.Whole.{signed, floorDiv, asWord};
-ghost use Rattle.elementary.specs.Parts.{TakenApart, Digits};
-ghost use Rattle.elementary.specs.Exp.{expTop, expBottom, expWithin, exp};
+ghost use Rattle.elementary.specs.Parts.{Digits};
+ghost use Rattle.elementary.specs.Exp.{exp};
+ghost use Rattle.elementary.specs.Places.{places};
 use super::antilog::antilog;
 use super::nearest::Parts;
 use super::nearest::infinity_or_zero;
 use super::nearest::take_apart;
+use super::word::PLACES;
+use super::word::WHOLE;
 use super::word::Word;
 use super::word::times;
 use wide::words::Wide;
@@ -18,12 +20,15 @@ use wide::words::shifted_right;
 // 1 / ln 2, times 2^62
 const LOG2_E: u64 = 0x5c55_1d94_ae0b_f85d;
 
+// q * 2^64 / 2^(MOVED - k) is q * 2^k units of 2^-1074, counted in units of the last place
+const MOVED: u32 = 1138 - PLACES;
+
 // floor(x * 2^52), for an x of q * 2^k units of 2^-1074 with its sign, below 2^11 in size: the floor
-// of q * 2^64 / 2^(1086 - k). Where x is negative, its digits are those of the number one below.
+// of q * 2^64 / 2^(MOVED - k). Where x is negative, its digits are those of the number one below.
 fn floor_word(negative: bool, q: u64, k: u32) -> Word
     requires { ⌜ Digits q k ⌝ }
     requires { ⌜ q * 2 ^ k < 2 ^ 1085 ⌝ }
-    ensures { λ r. ⌜ (r ≡ asWord 52 (floorDiv (signed negative (q * 2 ^ k * 2 ^ 52)) (2 ^ 1074))) × (r .whole < 2 ^ 11) ⌝ }
+    ensures { λ r. ⌜ (r ≡ asWord places (floorDiv (signed negative (q * 2 ^ k * 2 ^ places)) (2 ^ 1074))) × (r .whole < 2 ^ 11) ⌝ }
 {
     let moved = if negative {
         shifted_right(
@@ -31,20 +36,20 @@ fn floor_word(negative: bool, q: u64, k: u32) -> Word
                 hi: q - 1,
                 lo: 0xffff_ffff_ffff_ffff,
             },
-            1086 - k,
+            MOVED - k,
         )
     } else {
-        shifted_right(Wide { hi: q, lo: 0 }, 1086 - k)
+        shifted_right(Wide { hi: q, lo: 0 }, MOVED - k)
     };
     Word {
         negative,
-        whole: (moved.lo / 0x10_0000_0000_0000) as u32,
-        part: moved.lo % 0x10_0000_0000_0000,
+        whole: (moved.lo / WHOLE) as u32,
+        part: moved.lo % WHOLE,
     }
 }
 
 pub fn exp(x: f64) -> f64
-    ensures { λ r. ⌜ r ≡ exp 52 x ⌝ }
+    ensures { λ r. ⌜ r ≡ exp places x ⌝ }
 {
     match take_apart(x) {
         Parts::NotANumber => x,

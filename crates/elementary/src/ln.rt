@@ -7,39 +7,44 @@ ghost use Rattle.elementary.specs.Whole.{wordValue};
 ghost use Rattle.elementary.specs.Nearest.{nearestRatio};
 ghost use Rattle.elementary.specs.Parts.{Digits};
 ghost use Rattle.elementary.specs.Ln.{lnPositive, ln};
+ghost use Rattle.elementary.specs.Places.{places};
 use super::log::log_of_digits;
 use super::nearest::Parts;
 use super::nearest::nearest_quotient;
 use super::nearest::take_apart;
+use super::word::PLACES;
+use super::word::WHOLE;
 use super::word::Word;
 use super::word::times;
 
 // ln 2, times 2^62
 const LN_2: u64 = 0x2c5c_85fd_f473_de6a;
 
+const DIGITS: u64 = PLACES as u64;
+
 // The double nearest to w / 2^52.
 fn nearest_to_word(w: Word) -> f64
-    requires { ⌜ (w .whole < 2 ^ 11) × (w .part < 2 ^ 52) ⌝ }
-    ensures { λ r. ⌜ r ≡ nearestRatio (wordValue 52 w) (2 ^ 52) ⌝ }
+    requires { ⌜ (w .whole < 2 ^ 11) × (w .part < 2 ^ places) ⌝ }
+    ensures { λ r. ⌜ r ≡ nearestRatio (wordValue places w) (2 ^ places) ⌝ }
 {
-    let digits = w.whole as u64 * 0x10_0000_0000_0000 + w.part;
+    let digits = w.whole as u64 * WHOLE + w.part;
     if w.negative {
-        -nearest_quotient(digits + 1, 52)
+        -nearest_quotient(digits + 1, DIGITS)
     } else {
-        nearest_quotient(digits, 52)
+        nearest_quotient(digits, DIGITS)
     }
 }
 
 // The logarithm of q * 2^k units of 2^-1074.
 fn positive_ln(q: u64, k: u32) -> f64
     requires { ⌜ Digits q k ⌝ }
-    ensures { λ r. ⌜ r ≡ lnPositive 52 (odd 53 false q k 1074) ⌝ }
+    ensures { λ r. ⌜ r ≡ lnPositive places (odd 53 false q k 1074) ⌝ }
 {
     nearest_to_word(times(log_of_digits(q, k), LN_2, 62))
 }
 
 pub fn ln(x: f64) -> f64
-    ensures { λ r. ⌜ r ≡ ln 52 x ⌝ }
+    ensures { λ r. ⌜ r ≡ ln places x ⌝ }
 {
     match take_apart(x) {
         Parts::NotANumber => x,

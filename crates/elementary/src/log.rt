@@ -5,8 +5,11 @@ ghost use Prim.Native.Nat.{_+_, _*_, _/_, _^_, _≤_, _<_};
 ghost use Rattle.elementary.specs.Whole.{asWord};
 ghost use Rattle.elementary.specs.Log.{logBits, wordOfUnits, logarithm};
 ghost use Rattle.elementary.specs.Parts.{Digits};
+ghost use Rattle.elementary.specs.Places.{places};
 use super::nearest::Parts;
 use super::nearest::take_apart;
+use super::word::ONES;
+use super::word::PLACES;
 use super::word::Word;
 use wide::words::product;
 
@@ -29,11 +32,11 @@ fn squared(m: u64) -> u64
 // the bit 1 and is halved; it has its highest digit set, so that digit is the bit.
 fn log_bits(m: u64) -> u64
     requires { ⌜ (2 ^ 62 ≤ m) × (m < 2 ^ 63) ⌝ }
-    ensures { λ r. ⌜ r ≡ logBits 52 m ⌝ }
+    ensures { λ r. ⌜ r ≡ logBits places m ⌝ }
 {
     let mut mantissa = m;
     let mut bits = 0u64;
-    let mut left = 52u32;
+    let mut left = PLACES;
     while 0 < left {
         let square = squared(mantissa);
         let bit = square / 0x8000_0000_0000_0000;
@@ -47,7 +50,7 @@ fn log_bits(m: u64) -> u64
 // The log word of q * 2^k units of 2^-1074.
 pub(crate) fn log_of_digits(q: u64, k: u32) -> Word
     requires { ⌜ Digits q k ⌝ }
-    ensures { λ r. ⌜ (r ≡ asWord 52 (wordOfUnits 52 (q * 2 ^ k))) × (r .whole < 2 ^ 11) ⌝ }
+    ensures { λ r. ⌜ (r ≡ asWord places (wordOfUnits places (q * 2 ^ k))) × (r .whole < 2 ^ 11) ⌝ }
 {
     let zeros = u64::leading_zeros(q);
     let bits = log_bits(q << (zeros - 1));
@@ -62,14 +65,14 @@ pub(crate) fn log_of_digits(q: u64, k: u32) -> Word
         Word {
             negative: true,
             whole: 1073 - highest,
-            part: 0xf_ffff_ffff_ffff - bits,
+            part: ONES - bits,
         }
     }
 }
 
 // The log word of x.
 pub fn log_word(x: f64) -> Logarithm
-    ensures { λ r. ⌜ r ≡ logarithm 52 x ⌝ }
+    ensures { λ r. ⌜ r ≡ logarithm places x ⌝ }
 {
     match take_apart(x) {
         Parts::Finite(negative, q, k) => {

@@ -13,7 +13,7 @@ ghost use Rattle.elementary.specs.Power.{infinityOrZero};
 
 // A double by its kind, with its sign, which is true where it is negative.
 // `Finite(s, q, k)` is q * 2^(k - 1074), or -q * 2^(k - 1074) where s is true.
-pub enum Parts {
+pub(crate) enum Parts {
     NotANumber,
     Infinite(bool),
     Zero(bool),
@@ -22,7 +22,7 @@ pub enum Parts {
 
 // The sign, the exponent's field and the digits' field of x's bit pattern say which kind x is. A
 // field of 0 has no leading digit, and counts as a field of 1.
-pub fn take_apart(x: f64) -> Parts
+pub(crate) fn take_apart(x: f64) -> Parts
     ensures { λ r. ⌜ TakenApart x r ⌝ }
 {
     if x != x {

@@ -7,6 +7,7 @@ ghost use lib.Ieee.{inf, fin, odd};
 ghost use Rattle.elementary.specs.Parts.{Digits};
 ghost use Rattle.elementary.specs.Exponents.{exponentAt};
 ghost use Rattle.elementary.specs.Power.{positivePower, power, powerAt};
+ghost use Rattle.elementary.specs.Places.{places};
 use super::antilog::antilog;
 use super::log::log_of_digits;
 use super::nearest::Parts;
@@ -100,7 +101,7 @@ fn is_negative(number: usize) -> bool
 fn positive_power(q: u64, k: u32, number: usize) -> f64
     requires { ⌜ Digits q k ⌝ }
     requires { ⌜ number < 27 ⌝ }
-    ensures { λ r. ⌜ r ≡ positivePower 52 (exponentAt number) (odd 53 false q k 1074) ⌝ }
+    ensures { λ r. ⌜ r ≡ positivePower places (exponentAt number) (odd 53 false q k 1074) ⌝ }
 {
     let log = log_of_digits(q, k);
     let word = if is_negative(number) {
@@ -114,7 +115,7 @@ fn positive_power(q: u64, k: u32, number: usize) -> f64
 // An infinite base.
 fn infinite_power(negative: bool, number: usize) -> f64
     requires { ⌜ number < 27 ⌝ }
-    ensures { λ r. ⌜ r ≡ power 52 (exponentAt number) (inf negative) ⌝ }
+    ensures { λ r. ⌜ r ≡ power places (exponentAt number) (inf negative) ⌝ }
 {
     if negative {
         if number == THREE {
@@ -128,7 +129,7 @@ fn infinite_power(negative: bool, number: usize) -> f64
 // A base of zero.
 fn zero_power(negative: bool, number: usize) -> f64
     requires { ⌜ number < 27 ⌝ }
-    ensures { λ r. ⌜ r ≡ power 52 (exponentAt number) (fin negative 0 (pos 0)) ⌝ }
+    ensures { λ r. ⌜ r ≡ power places (exponentAt number) (fin negative 0 (pos 0)) ⌝ }
 {
     if negative {
         if number == THREE {
@@ -143,7 +144,7 @@ fn zero_power(negative: bool, number: usize) -> f64
 fn finite_power(negative: bool, q: u64, k: u32, number: usize) -> f64
     requires { ⌜ Digits q k ⌝ }
     requires { ⌜ number < 27 ⌝ }
-    ensures { λ r. ⌜ r ≡ power 52 (exponentAt number) (odd 53 negative q k 1074) ⌝ }
+    ensures { λ r. ⌜ r ≡ power places (exponentAt number) (odd 53 negative q k 1074) ⌝ }
 {
     if negative {
         if number == THREE {
@@ -159,7 +160,7 @@ fn finite_power(negative: bool, q: u64, k: u32, number: usize) -> f64
 
 // x to the power of the exponent of that number; NaN where there is none.
 pub fn power(x: f64, number: usize) -> f64
-    ensures { λ r. ⌜ r ≡ powerAt 52 number x ⌝ }
+    ensures { λ r. ⌜ r ≡ powerAt places number x ⌝ }
 {
     if number >= 27 {
         return 0.0 / 0.0;

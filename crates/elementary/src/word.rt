@@ -4,11 +4,19 @@ ghost use mathlib.Core.Path.{_≡_};
 ghost use Prim.Native.Nat.{_^_, _≤_, _<_};
 ghost use lib.IntN.{pos, negℤ, _*ℤ_};
 ghost use Rattle.elementary.specs.Whole.{floorDiv, wordValue, asWord};
+ghost use Rattle.elementary.specs.Places.{places};
 use wide::words::Wide;
 use wide::words::product;
 use wide::words::shifted_left;
 use wide::words::shifted_right;
 use wide::words::sum;
+
+// the number of places, as specs/Places has it; a whole in units of the last place, and one unit less
+pub const PLACES: u32 = 52;
+
+pub const WHOLE: u64 = 1 << PLACES;
+
+pub const ONES: u64 = WHOLE - 1;
 
 // a = `whole` * 2^52 + `part` stands for a, and where `negative` for -(a + 1).
 pub struct Word {
@@ -19,14 +27,14 @@ pub struct Word {
 
 // -w.
 pub(crate) fn opposite(w: Word) -> Word
-    requires { ⌜ (w .whole < 2 ^ 31) × (w .part < 2 ^ 52) ⌝ }
-    ensures { λ r. ⌜ r ≡ asWord 52 (negℤ (wordValue 52 w)) ⌝ }
+    requires { ⌜ (w .whole < 2 ^ 31) × (w .part < 2 ^ places) ⌝ }
+    ensures { λ r. ⌜ r ≡ asWord places (negℤ (wordValue places w)) ⌝ }
 {
     let negative = w.negative;
     let whole = w.whole;
     let part = w.part;
     if negative {
-        if part == 0xf_ffff_ffff_ffff {
+        if part == ONES {
             Word {
                 negative: false,
                 whole: whole + 1,
@@ -49,7 +57,7 @@ pub(crate) fn opposite(w: Word) -> Word
         Word {
             negative: true,
             whole: whole - 1,
-            part: 0xf_ffff_ffff_ffff,
+            part: ONES,
         }
     } else {
         Word {
@@ -63,8 +71,8 @@ pub(crate) fn opposite(w: Word) -> Word
 // floor(w * factor / 2^shift). Where w is -(a + 1), the product is -(a * factor + factor), one
 // below -(a * factor + factor - 1), so the digits are divided alike for both signs.
 pub(crate) fn times(w: Word, factor: u64, shift: u32) -> Word
-    requires { ⌜ (w .whole < 2 ^ 12) × (w .part < 2 ^ 52) × (0 < factor) × (58 ≤ shift) × (shift ≤ 62) ⌝ }
-    ensures { λ r. ⌜ r ≡ asWord 52 (floorDiv (wordValue 52 w *ℤ pos factor) (2 ^ shift)) ⌝ }
+    requires { ⌜ (w .whole < 2 ^ 12) × (w .part < 2 ^ places) × (0 < factor) × (58 ≤ shift) × (shift ≤ 62) ⌝ }
+    ensures { λ r. ⌜ r ≡ asWord places (floorDiv (wordValue places w *ℤ pos factor) (2 ^ shift)) ⌝ }
 {
     let negative = w.negative;
     let extra = if negative { factor - 1 } else { 0 };
@@ -72,12 +80,12 @@ pub(crate) fn times(w: Word, factor: u64, shift: u32) -> Word
     let below = sum(product(w.part, factor), Wide { hi: 0, lo: extra });
     let quotient = shifted_right(above, shift);
     let rest = above.lo % (1u64 << shift);
-    let carried = sum(shifted_left(Wide { hi: 0, lo: rest }, 52), below.word);
-    let high = shifted_right(carried.word, shift + 52);
+    let carried = sum(shifted_left(Wide { hi: 0, lo: rest }, PLACES), below.word);
+    let high = shifted_right(carried.word, shift + PLACES);
     let low = shifted_right(carried.word, shift);
     Word {
         negative,
         whole: (quotient.lo + high.lo) as u32,
-        part: low.lo % 0x10_0000_0000_0000,
+        part: low.lo % WHOLE,
     }
 }

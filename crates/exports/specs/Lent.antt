@@ -10,21 +10,30 @@ use Rattle.atmosphere.specs.declared.station.Air.{Air}
 use Rattle.atmosphere.specs.declared.station.Reading.{Reading}
 use Rattle.atmosphere.specs.declared.station.Reading.the-variants.{Given, FromLayer}
 use Rattle.density_altitude.specs.declared.inverse.Station.{Station}
-use Rattle.density_altitude.specs.Inverse.{Outcome, figures, refused}
+use Rattle.refusal.specs.Outcomes.{Outcome, accepted, refused}
 use Rattle.mast.specs.declared.figures.Figures.{Figures}
 
--- ---- a lent array, where `most` is how many doubles the function may hand out
--- 16: the array has fewer places
-abbrev pub statusOf : ℕ → List Float → ℕ → ℕ
-statusOf most lent status = cond (ltb (length lent) most) 16 status
+-- ---- an outcome as a status and the doubles that are handed out: 0 and the figures, or the number of a refusal and its values
+pub record Told : Type 0 where
+  pub status : ℕ
+  pub values : List Float
 
+abbrev pub told : {A : Type 0} → (A → List Float) → Outcome A → Told
+told list (accepted a) = record { status = 0; values = list a }
+told list (refused n vs) = record { status = n; values = vs }
+
+-- ---- a lent array, where `most` is how many doubles the function may hand out
 -- the first places hold what is handed out
 abbrev pub handedOut : List Float → List Float → List Float
 handedOut values lent = values ++ drop (length values) lent
 
--- an array with fewer places is left as it was
-abbrev pub leftIn : ℕ → List Float → List Float → List Float
-leftIn most lent values = cond (ltb (length lent) most) lent (handedOut values lent)
+-- 255: the array has fewer places
+abbrev pub statusIn : ℕ → List Float → Told → ℕ
+statusIn most lent t = cond (ltb (length lent) most) 255 (t .status)
+
+-- and is left as it was
+abbrev pub leftIn : ℕ → List Float → Told → List Float
+leftIn most lent t = cond (ltb (length lent) most) lent (handedOut (t .values) lent)
 
 -- ---- a reading, as whether it is given and its value
 abbrev pub reading : Bool → Float → Reading
@@ -47,12 +56,3 @@ stationValues s = s .«altitude_m» ∷ s .«temperature_c» ∷ s .«pressure_h
 abbrev pub figureValues : Figures → List Float
 figureValues f =
     f .«altitude_m» ∷ f .«temperature_c» ∷ f .«pressure_hpa» ∷ f .«density_kg_m3» ∷ f .«speed_of_sound_mps» ∷ f .«pressure_altitude_m» ∷ f .«density_matched_altitude_m» ∷ []
-
--- ---- an outcome: 0 and its figures, or the number of a refusal and its values
-abbrev pub number : {A : Type 0} → Outcome A → ℕ
-number (figures a) = 0
-number (refused n values) = n
-
-abbrev pub values : {A : Type 0} → (A → List Float) → Outcome A → List Float
-values list (figures a) = list a
-values list (refused n vs) = vs

@@ -1,9 +1,10 @@
 -- The saturation pressure of water vapour over liquid water: IAPWS SR1-86(1992), "Revised Supplementary Release on Saturation Properties of Ordinary
--- Water Substance", equation (1), by W. Wagner and A. Pruss:
+-- Water Substance", equation (1), by W. Wagner and A. Pruss, with the coefficients that stand below it:
 --     ln(p / p_c) = (T_c / T) (a1 τ + a2 τ^1.5 + a3 τ^3 + a4 τ^3.5 + a5 τ^4 + a6 τ^7.5),  τ = 1 - T / T_c.
 -- The order of rounding is that of src/atmosphere.rs, and n is the number of places of exp and power. Definitions only.
 use Prim.Native.Nat.{ℕ}
-use lib.Ieee.{Float, binary64, ofBits}
+use lib.Ieee.{Float}
+use Rattle.elementary.specs.Decimals.{decimal, one}
 use Rattle.elementary.specs.Operators.{_⊕_, _⊖_, _⊗_, _⊘_}
 use Rattle.elementary.specs.Exponents.{ofDouble}
 use Rattle.elementary.specs.Power.{power}
@@ -11,62 +12,52 @@ use Rattle.elementary.specs.Exp.{exp}
 use Rattle.humid_air.specs.Doubles.{maxDouble}
 
 -- ---- the release's constants
--- T_c = 647.096 K
+-- T_c in K
 abbrev Tc : Float
-Tc = ofBits binary64 0x408438c49ba5e354
+Tc = decimal "647.096"
 
--- p_c = 22.064 MPa, which is 220640 hPa
+-- p_c, 22.064 MPa, in hPa
 abbrev pc : Float
-pc = ofBits binary64 0x410aef0000000000
+pc = decimal "220640"
 
--- a1 = -7.85951783
 abbrev a1 : Float
-a1 = ofBits binary64 0xc01f70257128b72e
+a1 = decimal "-7.85951783"
 
--- a2 = 1.84408259
 abbrev a2 : Float
-a2 = ofBits binary64 0x3ffd815cbef2c483
+a2 = decimal "1.84408259"
 
--- a3 = -11.7866497
 abbrev a3 : Float
-a3 = ofBits binary64 0xc02792c3bfddd101
+a3 = decimal "-11.7866497"
 
--- a4 = 22.6807411
 abbrev a4 : Float
-a4 = ofBits binary64 0x4036ae450c798b06
+a4 = decimal "22.6807411"
 
--- a5 = -15.9618719
 abbrev a5 : Float
-a5 = ofBits binary64 0xc02fec7a7942e1fd
+a5 = decimal "-15.9618719"
 
--- a6 = 1.80122502
 abbrev a6 : Float
-a6 = ofBits binary64 0x3ffcd1d1539a30ee
+a6 = decimal "1.80122502"
 
 -- τ^1.5, τ^3, τ^3.5, τ^4 and τ^7.5
 abbrev τ^1·5 : ℕ → Float → Float
-τ^1·5 n τ = power n (ofDouble (ofBits binary64 0x3ff8000000000000)) τ
+τ^1·5 n τ = power n (ofDouble (decimal "1.5")) τ
 
 abbrev τ^3 : ℕ → Float → Float
-τ^3 n τ = power n (ofDouble (ofBits binary64 0x4008000000000000)) τ
+τ^3 n τ = power n (ofDouble (decimal "3")) τ
 
 abbrev τ^3·5 : ℕ → Float → Float
-τ^3·5 n τ = power n (ofDouble (ofBits binary64 0x400c000000000000)) τ
+τ^3·5 n τ = power n (ofDouble (decimal "3.5")) τ
 
 abbrev τ^4 : ℕ → Float → Float
-τ^4 n τ = power n (ofDouble (ofBits binary64 0x4010000000000000)) τ
+τ^4 n τ = power n (ofDouble (decimal "4")) τ
 
 abbrev τ^7·5 : ℕ → Float → Float
-τ^7·5 n τ = power n (ofDouble (ofBits binary64 0x401e000000000000)) τ
+τ^7·5 n τ = power n (ofDouble (decimal "7.5")) τ
 
 -- ---- the saturation pressure
--- 1
-abbrev pub one : Float
-one = ofBits binary64 0x3ff0000000000000
-
--- 173.15 K: a temperature below this one, or NaN, counts as this one
+-- a temperature below this one, in K, or NaN, counts as this one; it is the source's, not the release's
 abbrev pub coldest : Float
-coldest = ofBits binary64 0x4065a4cccccccccd
+coldest = decimal "173.15"
 
 -- ln(p / p_c) at T
 abbrev logRatio : ℕ → Float → Float

@@ -1,24 +1,21 @@
 -- The speed of sound in moist air as an ideal gas, c = √(γ R T), where γ and R are those of dry air, each corrected to the first order in the mole
--- fraction x_v of water vapour. The formula and its order of rounding are those of src/atmosphere.rs, and n is the number of places of exp and power.
--- Definitions only.
+-- fraction x_v of water vapour. The formula, its two factors and its order of rounding are those of src/atmosphere.rs, which names no document for
+-- them, and n is the number of places of exp and power. Definitions only.
 use Prim.Native.Nat.{ℕ}
-use lib.Ieee.{Float, binary64, ofBits}
+use lib.Ieee.{Float}
+use Rattle.elementary.specs.Decimals.{decimal, one}
 use Rattle.elementary.specs.Operators.{_⊕_, _⊖_, _⊗_}
+use Rattle.elementary.specs.Exponents.{Rd}
 use Rattle.elementary.specs.Sqrt.{sqrt}
-use Rattle.humid_air.specs.Saturation.{one}
 use Rattle.humid_air.specs.MoistAir.{capped, moleFractionKelvin}
 
 -- γ = 1.4 (1 - 0.062 x_v)
 abbrev heatCapacityRatio : Float → Float
-heatCapacityRatio xv = ofBits binary64 0x3ff6666666666666 ⊗ (one ⊖ xv ⊗ ofBits binary64 0x3fafbe76c8b43958)
+heatCapacityRatio xv = decimal "1.4" ⊗ (one ⊖ xv ⊗ decimal "0.062")
 
--- R, the specific gas constant of dry air: 287.0531 J/(kg K)
-abbrev pub R : Float
-R = ofBits binary64 0x4071f0d97f62b6ae
-
--- R (1 + 0.378 x_v)
+-- R = R_d (1 + 0.378 x_v), with the R_d of dry air
 abbrev gasConstant : Float → Float
-gasConstant xv = R ⊗ (one ⊕ ofBits binary64 0x3fd83126e978d4fe ⊗ xv)
+gasConstant xv = Rd ⊗ (one ⊕ decimal "0.378" ⊗ xv)
 
 -- in m/s, from K
 abbrev pub soundSpeedAt : Float → Float → Float

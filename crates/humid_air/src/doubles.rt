@@ -2,6 +2,7 @@
 ghost use mathlib.Core.Path.{_≡_};
 ghost use Rattle.humid_air.specs.Doubles.{clampDouble, maxDouble, absDouble, isFinite};
 
+// x, or the bound that it lies beyond. A NaN stays, and so does a zero at a zero bound.
 pub fn clamp(x: f64, low: f64, high: f64) -> f64
     ensures { λ r. ⌜ r ≡ clampDouble x low high ⌝ }
 {
@@ -12,6 +13,7 @@ pub fn clamp(x: f64, low: f64, high: f64) -> f64
     }
 }
 
+// The greater one, or the other one where one is NaN.
 pub fn max(x: f64, y: f64) -> f64
     ensures { λ r. ⌜ r ≡ maxDouble x y ⌝ }
 {
@@ -22,6 +24,7 @@ pub fn max(x: f64, y: f64) -> f64
     if x < y { y } else { x }
 }
 
+// The size of x, with no sign.
 pub fn abs(x: f64) -> f64
     ensures { λ r. ⌜ r ≡ absDouble x ⌝ }
 {
@@ -32,6 +35,7 @@ pub fn abs(x: f64) -> f64
     if x == 0.0 { 0.0 } else { x }
 }
 
+// Whether x is neither NaN nor an infinity.
 pub fn is_finite(x: f64) -> bool
     ensures { λ r. ⌜ r ≡ isFinite x ⌝ }
 {

@@ -4,6 +4,7 @@ ghost use mathlib.Core.Path.{_≡_};
 ghost use Rattle.humid_air.specs.Saturation.{saturationPressure};
 ghost use Rattle.humid_air.specs.MoistAir.{enhancementFactor, moleFraction, capped, moleFractionAt, moleFractionCelsius, moleFractionKelvin, compressibilityFactor, molarMassRatio, airDensity};
 ghost use Rattle.humid_air.specs.Sound.{soundSpeedAt, soundSpeed};
+ghost use Rattle.elementary.specs.Places.{places};
 use super::doubles::clamp;
 use super::doubles::max;
 use elementary::exp::exp;
@@ -73,9 +74,10 @@ const D: f64 = 1.83e-11;
 
 const E: f64 = -0.765e-8;
 
-// In hPa, over liquid water at every temperature, and NaN above the critical temperature.
+// The saturation pressure of water vapour, hPa, at a temperature in K: over liquid water at every
+// temperature, and NaN above the critical one.
 pub fn enhanced_saturation_vapor_pressure(t_k: f64) -> f64
-    ensures { λ r. ⌜ r ≡ saturationPressure 52 «t_k» ⌝ }
+    ensures { λ r. ⌜ r ≡ saturationPressure places «t_k» ⌝ }
 {
     let t_k_safe = max(t_k, 173.15);
     let tau = 1.0 - t_k_safe / 647.096;
@@ -89,13 +91,15 @@ pub fn enhanced_saturation_vapor_pressure(t_k: f64) -> f64
     220640.0 * exp(ln_p_ratio)
 }
 
-// p in Pa, t in degrees Celsius.
+// The enhancement factor of moist air, of a pressure in Pa and a temperature in degrees Celsius.
 pub fn enhanced_enhancement_factor(p: f64, t: f64) -> f64
     ensures { λ r. ⌜ r ≡ enhancementFactor p t ⌝ }
 {
     F_ALPHA + F_BETA * p + F_GAMMA * t * t
 }
 
+// The compressibility factor of moist air, of a pressure in Pa, a temperature in K and the mole fraction
+// of vapour.
 pub fn enhanced_compressibility_factor(p: f64, t_k: f64, x_v: f64) -> f64
     ensures { λ r. ⌜ r ≡ compressibilityFactor p «t_k» «x_v» ⌝ }
 {
@@ -108,8 +112,9 @@ pub fn enhanced_compressibility_factor(p: f64, t_k: f64, x_v: f64) -> f64
     z_second_order + z_third_order
 }
 
-// Uncapped. At 0 percent the saturation pressure is left out, so that dry air is dry air above the
-// critical temperature too.
+// The mole fraction of vapour, uncapped, of a saturation pressure in hPa, an enhancement factor, a
+// humidity in percent and a pressure in Pa. At 0 percent the saturation pressure is left out, so that dry
+// air is dry air above the critical temperature too.
 pub fn vapor_mole_fraction(p_sv_hpa: f64, f: f64, humidity_percent: f64, p_pa: f64) -> f64
     ensures { λ r. ⌜ r ≡ moleFraction «p_sv_hpa» f «humidity_percent» «p_pa» ⌝ }
 {
@@ -122,7 +127,7 @@ pub fn vapor_mole_fraction(p_sv_hpa: f64, f: f64, humidity_percent: f64, p_pa: f
     p_v_pa / p_pa
 }
 
-// At most 1; a NaN is not above 1, and stays.
+// The mole fraction, or 1 where it is above 1. A NaN is not above 1, and stays.
 pub fn capped_vapor_mole_fraction(mole_fraction_vapor: f64) -> f64
     ensures { λ r. ⌜ r ≡ capped «mole_fraction_vapor» ⌝ }
 {
@@ -133,10 +138,11 @@ pub fn capped_vapor_mole_fraction(mole_fraction_vapor: f64) -> f64
     }
 }
 
-// The temperature stands in K and in degrees Celsius, as the two callers round it. Dry air asks for no
+// The mole fraction of vapour, uncapped. The temperature stands in K and in degrees Celsius, as the two
+// callers round it. Dry air asks for no
 // saturation pressure, by far the longest step, so there any number serves.
 fn vapor_mole_fraction_at(t_k: f64, temp_c: f64, pressure_pa: f64, humidity_percent: f64) -> f64
-    ensures { λ r. ⌜ r ≡ moleFractionAt 52 «t_k» «temp_c» «pressure_pa» «humidity_percent» ⌝ }
+    ensures { λ r. ⌜ r ≡ moleFractionAt places «t_k» «temp_c» «pressure_pa» «humidity_percent» ⌝ }
 {
     let f = enhanced_enhancement_factor(pressure_pa, temp_c);
     let p_pa = max(pressure_pa, MIN_POSITIVE);
@@ -147,33 +153,37 @@ fn vapor_mole_fraction_at(t_k: f64, temp_c: f64, pressure_pa: f64, humidity_perc
     vapor_mole_fraction(p_sv, f, humidity_percent, p_pa)
 }
 
+// The mole fraction of vapour, uncapped, of degrees Celsius, hPa and percent.
 pub fn water_vapor_mole_fraction_uncapped(
     temp_c: f64,
     pressure_hpa: f64,
     humidity_percent: f64,
 ) -> f64
-    ensures { λ r. ⌜ r ≡ moleFractionCelsius 52 «temp_c» «pressure_hpa» «humidity_percent» ⌝ }
+    ensures { λ r. ⌜ r ≡ moleFractionCelsius places «temp_c» «pressure_hpa» «humidity_percent» ⌝ }
 {
     let t_k = temp_c + 273.15;
     let pressure_pa = pressure_hpa * 100.0;
     vapor_mole_fraction_at(t_k, temp_c, pressure_pa, humidity_percent)
 }
 
+// The mole fraction of vapour, uncapped, of K, Pa and percent.
 pub fn moist_air_vapor_mole_fraction(temp_k: f64, pressure_pa: f64, humidity_percent: f64) -> f64
-    ensures { λ r. ⌜ r ≡ moleFractionKelvin 52 «temp_k» «pressure_pa» «humidity_percent» ⌝ }
+    ensures { λ r. ⌜ r ≡ moleFractionKelvin places «temp_k» «pressure_pa» «humidity_percent» ⌝ }
 {
     let temp_c = temp_k - 273.15;
     vapor_mole_fraction_at(temp_k, temp_c, pressure_pa, humidity_percent)
 }
 
+// The molar mass of moist air over that of dry air.
 pub fn moist_molar_mass_ratio(mole_fraction_vapor: f64) -> f64
     ensures { λ r. ⌜ r ≡ molarMassRatio «mole_fraction_vapor» ⌝ }
 {
     1.0 - mole_fraction_vapor * (1.0 - M_V / M_A)
 }
 
+// The density of moist air, kg/m3, of degrees Celsius, hPa and percent.
 pub fn calculate_air_density_cimp(temp_c: f64, pressure_hpa: f64, humidity_percent: f64) -> f64
-    ensures { λ r. ⌜ r ≡ airDensity 52 «temp_c» «pressure_hpa» «humidity_percent» ⌝ }
+    ensures { λ r. ⌜ r ≡ airDensity places «temp_c» «pressure_hpa» «humidity_percent» ⌝ }
 {
     let t_k = temp_c + 273.15;
     let p_pa = max(pressure_hpa * 100.0, MIN_POSITIVE);
@@ -186,6 +196,7 @@ pub fn calculate_air_density_cimp(temp_c: f64, pressure_hpa: f64, humidity_perce
     ((p_pa * M_A) / (z * R * t_k)) * moist_molar_mass_ratio(x_v)
 }
 
+// The speed of sound in moist air, m/s, of K and the mole fraction of vapour.
 pub fn moist_sound_speed_at_mole_fraction(temp_k: f64, mole_fraction_vapor: f64) -> f64
     ensures { λ r. ⌜ r ≡ soundSpeedAt «temp_k» «mole_fraction_vapor» ⌝ }
 {
@@ -194,8 +205,9 @@ pub fn moist_sound_speed_at_mole_fraction(temp_k: f64, mole_fraction_vapor: f64)
     sqrt(gamma_moist * r_moist * temp_k)
 }
 
+// The speed of sound in moist air, m/s, of K, Pa and percent.
 pub fn moist_speed_of_sound(temp_k: f64, pressure_pa: f64, humidity_percent: f64) -> f64
-    ensures { λ r. ⌜ r ≡ soundSpeed 52 «temp_k» «pressure_pa» «humidity_percent» ⌝ }
+    ensures { λ r. ⌜ r ≡ soundSpeed places «temp_k» «pressure_pa» «humidity_percent» ⌝ }
 {
     let mole_fraction_vapor = capped_vapor_mole_fraction(moist_air_vapor_mole_fraction(
         temp_k,

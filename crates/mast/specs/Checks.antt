@@ -1,58 +1,51 @@
--- The checks on a record's readings: which fields exclude each other, and the values field by field. Definitions only.
+-- The checks on a record's readings, document 01's table: which fields exclude each other, and the values field by field. Definitions only.
 use mathlib.Core.Bool.{Bool, not, _&&_, _||_}
-use mathlib.Core.List.{[], _∷_}
+use mathlib.Core.List.{List, [], _∷_, _++_}
+use Prim.Native.Nat.{ℕ}
 use lib.Ieee.{Float, lt, le}
+use Rattle.elementary.specs.Decimals.{nought, hundred}
 use Rattle.humid_air.specs.Doubles.{isFinite}
-use Rattle.humid_air.specs.MoistAir.{nought, hundred}
-use Rattle.density_altitude.specs.Inverse.{Outcome, absoluteZero}
-use Rattle.mast.specs.declared.checks.Check.{Check}
-use Rattle.mast.specs.declared.checks.Check.the-variants as check
-use Rattle.mast.specs.declared.readings.Entry.{Entry}
-use Rattle.mast.specs.declared.readings.Entry.the-variants.{Absent, Present}
-use Rattle.mast.specs.declared.readings.Readings.{Readings}
-use Rattle.mast.specs.Record.{isPresent}
-use Rattle.mast.specs.Refusals.{refusal, Passed, refuse, _then_}
+use Rattle.refusal.specs.Outcomes.{Row, row}
+use Rattle.density_altitude.specs.Inverse.{temperatureRows}
+use Rattle.record.specs.declared.readings.Entry.{Entry}
+use Rattle.record.specs.declared.readings.Entry.the-variants.{Absent, Present}
+use Rattle.record.specs.declared.readings.Readings.{Readings}
+use Rattle.record.specs.Fields.{altitude, temperature, stationPressure, qnh, humidity, densityAltitude}
+use Rattle.record.specs.Readings.{isPresent, entryOf}
 
--- what each case of a check of the code stands for
-abbrev pub checked : Check → Outcome (Unit {0})
-checked check.Passed = Passed
-checked (check.Refused c) = refusal c
+abbrev pub has : Readings → ℕ → Bool
+has r m = isPresent (entryOf r m)
 
 -- ---- 9: 03 with 04, or 06 with 01, 03, 04 or 05
 abbrev pub isClash : Readings → Bool
-isClash r =
-    let altitude = isPresent (r .«altitude_m») in
-    let station = isPresent (r .«station_pressure_hpa») in
-    let qnh = isPresent (r .«qnh_hpa») in
-    let humidity = isPresent (r .«humidity_percent») in
-    let density = isPresent (r .«density_altitude_m») in
-    (station && qnh) || (density && (altitude || station || qnh || humidity))
+isClash r = (has r stationPressure && has r qnh) || (has r densityAltitude && (has r altitude || has r stationPressure || has r qnh || has r humidity))
 
--- ---- the values
+-- ---- a value
 -- 11: not finite
-abbrev pub finiteCheck : Float → Outcome (Unit {0})
-finiteCheck x = refuse (not (isFinite x)) 11 (x ∷ [])
-
--- 2: temperature not finite. 3: temperature ≤ -273.15
-abbrev pub temperatureCheck : Entry → Outcome (Unit {0})
-temperatureCheck Absent = Passed
-temperatureCheck (Present t) = refuse (not (isFinite t)) 2 (t ∷ []) then refuse (le t absoluteZero) 3 (t ∷ [])
+abbrev pub finiteRows : Float → List Row
+finiteRows x = row (not (isFinite x)) 11 (x ∷ []) ∷ []
 
 -- 12: pressure ≤ 0
-abbrev pub pressureCheck : Entry → Outcome (Unit {0})
-pressureCheck Absent = Passed
-pressureCheck (Present p) = finiteCheck p then refuse (le p nought) 12 (p ∷ [])
+abbrev pub pressureRows : Float → List Row
+pressureRows p = finiteRows p ++ row (le p nought) 12 (p ∷ []) ∷ []
 
 -- 13: humidity below 0 or above 100
-abbrev pub humidityCheck : Entry → Outcome (Unit {0})
-humidityCheck Absent = Passed
-humidityCheck (Present h) = finiteCheck h then refuse (lt h nought || lt hundred h) 13 (h ∷ [])
+abbrev pub humidityRows : Float → List Row
+humidityRows h = finiteRows h ++ row (lt h nought || lt hundred h) 13 (h ∷ []) ∷ []
 
--- field by field, by rising tag: 01 to 05
-unfoldable pub valuesCheck : Float → Readings → Outcome (Unit {0})
-valuesCheck altitude r =
-    finiteCheck altitude then
-    temperatureCheck (r .«temperature_c») then
-    pressureCheck (r .«station_pressure_hpa») then
-    pressureCheck (r .«qnh_hpa») then
-    humidityCheck (r .«humidity_percent»)
+-- ---- the values by rising tag, each where it is present: 01 to 05. 2 and 3 are those of a temperature
+abbrev pub present : (Float → List Row) → Entry → List Row
+present rows Absent = []
+present rows (Present x) = rows x
+
+abbrev pub valueRows : Readings → List Row
+valueRows r =
+    present finiteRows (entryOf r altitude) ++
+    present temperatureRows (entryOf r temperature) ++
+    present pressureRows (entryOf r stationPressure) ++
+    present pressureRows (entryOf r qnh) ++
+    present humidityRows (entryOf r humidity)
+
+-- ---- without 06. 10: neither 01 nor 06
+abbrev pub ordinaryRows : Readings → List Row
+ordinaryRows r = row (not (has r altitude)) 10 [] ∷ valueRows r

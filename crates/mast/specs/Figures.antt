@@ -1,24 +1,31 @@
--- The seven figures of a record: what is resolved at the altitude, what is shown, and the figures of it. Temperatures in °C, pressures in hPa, altitudes
--- in m, humidities in percent; `places` is the number of places of exp and power. Definitions only.
-use Prim.Native.Nat.{ℕ}
+-- The seven figures of a station: what is resolved of readings, what is shown, and the figures of it. Temperatures in °C, pressures in hPa, altitudes in m,
+-- humidities in percent. Definitions only.
 use mathlib.Core.Bool.{Bool, _&&_}
 use lib.Ieee.{Float}
+use Rattle.elementary.specs.Places.{places}
+use Rattle.elementary.specs.Decimals.{nought, hundred}
 use Rattle.elementary.specs.Operators.{_⊖_, _⊘_}
+use Rattle.humid_air.specs.Doubles.{isFinite}
+use Rattle.humid_air.specs.MoistAir.{icePoint}
 use Rattle.atmosphere.specs.declared.station.Reading.{Reading}
 use Rattle.atmosphere.specs.declared.station.Reading.the-variants.{Given, FromLayer}
-use Rattle.humid_air.specs.Doubles.{isFinite}
 use Rattle.atmosphere.specs.Layers.{standardAir}
-use Rattle.humid_air.specs.MoistAir.{icePoint, nought, hundred}
-use Rattle.atmosphere.specs.Station.{stationPressure, stationTemperature, reducedQnh, atmosphere}
-use Rattle.atmosphere.specs.Altitudes.{pressureAltitude, densityAltitude}
+use Rattle.atmosphere.specs.Station.{stationTemperature, reducedQnh, atmosphere}
+use Rattle.atmosphere.specs.Station as station
+use Rattle.atmosphere.specs.Altitudes.{pressureAltitude, densityMatchedAltitude}
+use Rattle.density_altitude.specs.declared.inverse.Station.{Station}
 use Rattle.density_altitude.specs.Inverse.{isFiniteAbove}
+use Rattle.record.specs.declared.readings.Entry.{Entry}
+use Rattle.record.specs.declared.readings.Entry.the-variants.{Absent, Present}
+use Rattle.record.specs.declared.readings.Readings.{Readings}
+use Rattle.record.specs.Fields.{altitude, temperature, stationPressure, qnh, humidity}
+use Rattle.record.specs.Readings.{entryOf}
 use Rattle.mast.specs.declared.figures.Figures.{Figures}
+use Rattle.mast.specs.declared.figures.Resolved.{Resolved}
 use Rattle.mast.specs.declared.figures.Pressure.{Pressure}
 use Rattle.mast.specs.declared.figures.Pressure.the-variants as pressure
-use Rattle.mast.specs.declared.readings.Entry.{Entry}
-use Rattle.mast.specs.declared.readings.Entry.the-variants.{Absent, Present}
 
--- ---- a record without 06
+-- ---- readings without 06
 -- 03, or else 04
 abbrev pub pressureOf : Entry → Entry → Pressure
 pressureOf (Present p) q = pressure.Station p
@@ -27,43 +34,68 @@ pressureOf Absent Absent = pressure.Absent
 
 -- 02 and 03 pass their `resolve_` functions; 04 is reduced at the altitude
 abbrev pub resolvedTemperature : Entry → Float → Reading
-resolvedTemperature (Present t) altitude = stationTemperature t altitude
-resolvedTemperature Absent altitude = FromLayer
+resolvedTemperature (Present t) h = stationTemperature t h
+resolvedTemperature Absent h = FromLayer
 
-abbrev pub resolvedPressure : ℕ → Pressure → Float → Reading
-resolvedPressure places (pressure.Station p) altitude = stationPressure p altitude
-resolvedPressure places (pressure.Qnh q) altitude = Given (reducedQnh places q altitude)
-resolvedPressure places pressure.Absent altitude = FromLayer
+abbrev pub resolvedPressure : Pressure → Float → Reading
+resolvedPressure (pressure.Station p) h = station.stationPressure p h
+resolvedPressure (pressure.Qnh q) h = Given (reducedQnh places q h)
+resolvedPressure pressure.Absent h = FromLayer
 
--- what is absent or a default comes from the standard atmosphere: K - 273.15, Pa / 100
-abbrev pub shownTemperature : ℕ → Reading → Float → Float
-shownTemperature places (Given t) altitude = t
-shownTemperature places FromLayer altitude = standardAir places altitude .«temperature_k» ⊖ icePoint
+-- absent humidity is 0; an absent altitude is refused
+abbrev pub valueOrZero : Entry → Float
+valueOrZero (Present x) = x
+valueOrZero Absent = nought
 
-abbrev pub shownPressure : ℕ → Reading → Float → Float
-shownPressure places (Given p) altitude = p
-shownPressure places FromLayer altitude = standardAir places altitude .«pressure_pa» ⊘ hundred
-
--- absent humidity is 0
-abbrev pub humidityOf : Entry → Float
-humidityOf (Present h) = h
-humidityOf Absent = nought
-
--- ---- the figures
--- Density and sound speed are those of the readings r and s of temperature and pressure, the last two figures those of t and p, which are shown, and of
--- the humidity h.
-unfoldable pub figuresOf : ℕ → Float → Reading → Reading → Float → Float → Float → Figures
-figuresOf places altitude r s t p h =
-    let air = atmosphere places altitude r s h in
+unfoldable pub ordinary : Readings → Resolved
+ordinary r =
+    let h = valueOrZero (entryOf r altitude) in
     record {
-      «altitude_m» = altitude;
+      «altitude_m» = h;
+      temperature = resolvedTemperature (entryOf r temperature) h;
+      pressure = resolvedPressure (pressureOf (entryOf r stationPressure) (entryOf r qnh)) h;
+      «humidity_percent» = valueOrZero (entryOf r humidity);
+    }
+
+-- ---- with 06: the inverse gives altitude, temperature and pressure, both passed as overrides
+abbrev pub givenTemperature : Entry → Reading
+givenTemperature (Present t) = Given t
+givenTemperature Absent = FromLayer
+
+abbrev pub atStation : Station → Readings → Resolved
+atStation s r = record { «altitude_m» = s .«altitude_m»; temperature = Given (s .«temperature_c»); pressure = Given (s .«pressure_hpa»); «humidity_percent» = valueOrZero (entryOf r humidity) }
+
+-- ---- what is shown: what is absent or a default comes from the standard atmosphere, K - 273.15 and Pa / 100
+abbrev pub shownCelsius : Reading → Float → Float
+shownCelsius (Given t) h = t
+shownCelsius FromLayer h = standardAir places h .«temperature_k» ⊖ icePoint
+
+abbrev pub shownTemperature : Resolved → Float
+shownTemperature a = shownCelsius (a .temperature) (a .«altitude_m»)
+
+abbrev pub shownHectopascals : Reading → Float → Float
+shownHectopascals (Given p) h = p
+shownHectopascals FromLayer h = standardAir places h .«pressure_pa» ⊘ hundred
+
+abbrev pub shownPressure : Resolved → Float
+shownPressure a = shownHectopascals (a .pressure) (a .«altitude_m»)
+
+-- ---- the figures: density and sound speed are `calculate_atmosphere`'s, the last two those of what is shown, t and p, and of the humidity
+unfoldable pub figuresWith : Resolved → Float → Float → Figures
+figuresWith a t p =
+    let air = atmosphere places (a .«altitude_m») (a .temperature) (a .pressure) (a .«humidity_percent») in
+    record {
+      «altitude_m» = a .«altitude_m»;
       «temperature_c» = t;
       «pressure_hpa» = p;
       «density_kg_m3» = air .«density_kg_m3»;
       «speed_of_sound_mps» = air .«speed_of_sound_mps»;
       «pressure_altitude_m» = pressureAltitude places p;
-      «density_matched_altitude_m» = densityAltitude places t p h;
+      «density_matched_altitude_m» = densityMatchedAltitude places t p (a .«humidity_percent»);
     }
+
+abbrev pub figuresOf : Resolved → Figures
+figuresOf a = figuresWith a (shownTemperature a) (shownPressure a)
 
 -- all finite, and pressure, density and sound speed above 0
 abbrev pub isAir : Figures → Bool

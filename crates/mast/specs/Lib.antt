@@ -1,10 +1,5 @@
--- What the contracts of `mast` cite: bytes, a field, the record, its checks and figures, the judge and the text; and the causes, which the laws cite.
-pub mod Bytes
-pub mod Fields
-pub mod Refusals
-pub mod Record
+-- What the contracts of `mast` cite: the checks on readings, the figures of a station, the judge, and the laws of its answers.
 pub mod Checks
 pub mod Figures
 pub mod Judge
-pub mod Text
-pub mod Causes
+pub mod Laws

@@ -1,80 +1,65 @@
 // The checks on a record's readings: each is passed, or is the refusal that it gives.
 ghost use mathlib.Core.Path.{_≡_};
-ghost use Rattle.mast.specs.Refusals.{numberOf, valuesOf, refuse, _then_};
-ghost use Rattle.mast.specs.Checks.{checked, isClash, finiteCheck, temperatureCheck, pressureCheck, humidityCheck, valuesCheck};
-use super::readings::Entry;
-use super::readings::Readings;
-use super::readings::is_present;
-use super::refusal::Refusal;
+ghost use Rattle.refusal.specs.Outcomes.{checked, passed};
+ghost use Rattle.density_altitude.specs.Inverse.{temperatureRows};
+ghost use Rattle.mast.specs.Checks.{isClash, finiteRows, pressureRows, humidityRows, present, valueRows, ordinaryRows};
+use density_altitude::inverse::check_temperature;
 use humid_air::doubles::is_finite;
-
-pub enum Check {
-    Passed,
-    Refused(Refusal),
-}
-
-const ABSOLUTE_ZERO_C: f64 = -273.15;
-
-pub(crate) fn refuse_if(cause: bool, refusal: Refusal) -> Check
-    ensures { λ r. ⌜ checked r ≡ refuse cause (numberOf refusal) (valuesOf refusal) ⌝ }
-{
-    if cause {
-        Check::Refused(refusal)
-    } else {
-        Check::Passed
-    }
-}
-
-// The first refusal of two checks.
-fn first_of(a: Check, b: Check) -> Check
-    ensures { λ r. ⌜ checked r ≡ (checked a then checked b) ⌝ }
-{
-    match a {
-        Check::Passed => b,
-        Check::Refused(refusal) => Check::Refused(refusal),
-    }
-}
+use record::fields::ALTITUDE;
+use record::fields::DENSITY_ALTITUDE;
+use record::fields::HUMIDITY;
+use record::fields::QNH;
+use record::fields::STATION_PRESSURE;
+use record::fields::TEMPERATURE;
+use record::readings::Entry;
+use record::readings::Readings;
+use record::readings::entry_of;
+use record::readings::is_present;
+use refusal::Check;
+use refusal::Refusal;
+use refusal::first_of;
+use refusal::refuse_if;
 
 // 03 with 04, or 06 with 01, 03, 04 or 05.
 pub(crate) fn is_clash(readings: Readings) -> bool
     ensures { λ r. ⌜ r ≡ isClash readings ⌝ }
 {
-    let altitude_m = readings.altitude_m;
-    let station_pressure_hpa = readings.station_pressure_hpa;
-    let qnh_hpa = readings.qnh_hpa;
-    let humidity_percent = readings.humidity_percent;
-    let density_altitude_m = readings.density_altitude_m;
-    let altitude = is_present(altitude_m);
-    let station_pressure = is_present(station_pressure_hpa);
-    let qnh = is_present(qnh_hpa);
-    let humidity = is_present(humidity_percent);
-    let density_altitude = is_present(density_altitude_m);
+    let altitude = is_present(entry_of(readings, ALTITUDE));
+    let station_pressure = is_present(entry_of(readings, STATION_PRESSURE));
+    let qnh = is_present(entry_of(readings, QNH));
+    let humidity = is_present(entry_of(readings, HUMIDITY));
+    let density_altitude = is_present(entry_of(readings, DENSITY_ALTITUDE));
     (station_pressure & qnh) | (density_altitude & (altitude | station_pressure | qnh | humidity))
 }
 
 fn check_finite(x: f64) -> Check
-    ensures { λ r. ⌜ checked r ≡ finiteCheck x ⌝ }
+    ensures { λ r. ⌜ checked r ≡ passed (finiteRows x) ⌝ }
 {
     refuse_if(!is_finite(x), Refusal::NotFinite(x))
 }
 
-fn check_temperature(temperature_c: Entry) -> Check
-    ensures { λ r. ⌜ checked r ≡ temperatureCheck «temperature_c» ⌝ }
+fn check_altitude(entry: Entry) -> Check
+    ensures { λ r. ⌜ checked r ≡ passed (present finiteRows entry) ⌝ }
 {
-    match temperature_c {
+    match entry {
         Entry::Absent => Check::Passed,
-        Entry::Present(t) => {
-            let finite = refuse_if(!is_finite(t), Refusal::TemperatureNotFinite(t));
-            let above_zero = refuse_if(t <= ABSOLUTE_ZERO_C, Refusal::TemperatureTooLow(t));
-            first_of(finite, above_zero)
-        }
+        Entry::Present(x) => check_finite(x),
     }
 }
 
-fn check_pressure(pressure_hpa: Entry) -> Check
-    ensures { λ r. ⌜ checked r ≡ pressureCheck «pressure_hpa» ⌝ }
+fn check_celsius(entry: Entry) -> Check
+    ensures { λ r. ⌜ checked r ≡ passed (present temperatureRows entry) ⌝ }
 {
-    match pressure_hpa {
+    match entry {
+        Entry::Absent => Check::Passed,
+        Entry::Present(t) => check_temperature(t),
+    }
+}
+
+fn check_pressure(entry: Entry) -> Check
+    ensures { λ r. ⌜ checked r ≡ passed (present pressureRows entry) ⌝ }
+{
+    match entry {
         Entry::Absent => Check::Passed,
         Entry::Present(p) => {
             let positive = refuse_if(p <= 0.0, Refusal::PressureNotPositive(p));
@@ -83,10 +68,10 @@ fn check_pressure(pressure_hpa: Entry) -> Check
     }
 }
 
-fn check_humidity(humidity_percent: Entry) -> Check
-    ensures { λ r. ⌜ checked r ≡ humidityCheck «humidity_percent» ⌝ }
+fn check_humidity(entry: Entry) -> Check
+    ensures { λ r. ⌜ checked r ≡ passed (present humidityRows entry) ⌝ }
 {
-    match humidity_percent {
+    match entry {
         Entry::Absent => Check::Passed,
         Entry::Present(h) => {
             let within = refuse_if((h < 0.0) | (h > 100.0), Refusal::HumidityOutOfRange(h));
@@ -95,17 +80,26 @@ fn check_humidity(humidity_percent: Entry) -> Check
     }
 }
 
-// The values of a record without 06, by rising tag.
-pub(crate) fn check_values(altitude_m: f64, readings: Readings) -> Check
-    ensures { λ r. ⌜ checked r ≡ valuesCheck «altitude_m» readings ⌝ }
+// The values by rising tag.
+fn check_values(readings: Readings) -> Check
+    ensures { λ r. ⌜ checked r ≡ passed (valueRows readings) ⌝ }
 {
-    let temperature_c = readings.temperature_c;
-    let station_pressure_hpa = readings.station_pressure_hpa;
-    let qnh_hpa = readings.qnh_hpa;
-    let humidity_percent = readings.humidity_percent;
-    let from_05 = check_humidity(humidity_percent);
-    let from_04 = first_of(check_pressure(qnh_hpa), from_05);
-    let from_03 = first_of(check_pressure(station_pressure_hpa), from_04);
-    let from_02 = first_of(check_temperature(temperature_c), from_03);
-    first_of(check_finite(altitude_m), from_02)
+    let to_02 = first_of(
+        check_altitude(entry_of(readings, ALTITUDE)),
+        check_celsius(entry_of(readings, TEMPERATURE)),
+    );
+    let to_03 = first_of(to_02, check_pressure(entry_of(readings, STATION_PRESSURE)));
+    let to_04 = first_of(to_03, check_pressure(entry_of(readings, QNH)));
+    first_of(to_04, check_humidity(entry_of(readings, HUMIDITY)))
+}
+
+// Readings without 06: that there is an altitude, then the values.
+pub(crate) fn check_ordinary(readings: Readings) -> Check
+    ensures { λ r. ⌜ checked r ≡ passed (ordinaryRows readings) ⌝ }
+{
+    let absent = !is_present(entry_of(readings, ALTITUDE));
+    first_of(
+        refuse_if(absent, Refusal::NoAltitude),
+        check_values(readings),
+    )
 }

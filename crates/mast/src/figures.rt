@@ -1,9 +1,9 @@
-// The seven figures of a record.
+// The seven figures of a station: what is resolved, what is shown of it, and the figures.
 ghost use mathlib.Core.Path.{_≡_};
+ghost use Rattle.elementary.specs.Places.{places};
+ghost use Rattle.elementary.specs.Decimals.{nought};
 ghost use Rattle.density_altitude.specs.Inverse.{isFiniteAbove};
-ghost use Rattle.humid_air.specs.MoistAir.{nought};
-ghost use Rattle.mast.specs.Figures.{pressureOf, resolvedTemperature, resolvedPressure, shownTemperature, shownPressure, humidityOf, figuresOf, isAir};
-use super::readings::Entry;
+ghost use Rattle.mast.specs.Figures.{pressureOf, resolvedTemperature, resolvedPressure, valueOrZero, givenTemperature, ordinary, atStation, shownTemperature, shownPressure, figuresWith, isAir};
 use atmosphere::altitudes::density_matched_altitude_m;
 use atmosphere::altitudes::pressure_altitude_m;
 use atmosphere::layers::calculate_icao_standard_atmosphere;
@@ -12,7 +12,16 @@ use atmosphere::station::calculate_atmosphere;
 use atmosphere::station::reduce_qnh_to_station_pressure;
 use atmosphere::station::resolve_station_pressure;
 use atmosphere::station::resolve_station_temperature;
+use density_altitude::inverse::Station;
 use humid_air::doubles::is_finite;
+use record::fields::ALTITUDE;
+use record::fields::HUMIDITY;
+use record::fields::QNH;
+use record::fields::STATION_PRESSURE;
+use record::fields::TEMPERATURE;
+use record::readings::Entry;
+use record::readings::Readings;
+use record::readings::entry_of;
 
 pub struct Figures {
     pub altitude_m: f64,
@@ -30,7 +39,16 @@ pub enum Pressure {
     Absent,
 }
 
-pub(crate) fn pressure_of(station_pressure_hpa: Entry, qnh_hpa: Entry) -> Pressure
+// A station: its altitude, temperature and pressure as they are given or taken from the layer, and the
+// humidity.
+pub struct Resolved {
+    pub altitude_m: f64,
+    pub temperature: Reading,
+    pub pressure: Reading,
+    pub humidity_percent: f64,
+}
+
+fn pressure_of(station_pressure_hpa: Entry, qnh_hpa: Entry) -> Pressure
     ensures { λ r. ⌜ r ≡ pressureOf «station_pressure_hpa» «qnh_hpa» ⌝ }
 {
     match station_pressure_hpa {
@@ -42,7 +60,7 @@ pub(crate) fn pressure_of(station_pressure_hpa: Entry, qnh_hpa: Entry) -> Pressu
     }
 }
 
-pub(crate) fn resolved_temperature(temperature_c: Entry, altitude_m: f64) -> Reading
+fn resolved_temperature(temperature_c: Entry, altitude_m: f64) -> Reading
     ensures { λ r. ⌜ r ≡ resolvedTemperature «temperature_c» «altitude_m» ⌝ }
 {
     match temperature_c {
@@ -51,8 +69,8 @@ pub(crate) fn resolved_temperature(temperature_c: Entry, altitude_m: f64) -> Rea
     }
 }
 
-pub(crate) fn resolved_pressure(pressure: Pressure, altitude_m: f64) -> Reading
-    ensures { λ r. ⌜ r ≡ resolvedPressure 52 pressure «altitude_m» ⌝ }
+fn resolved_pressure(pressure: Pressure, altitude_m: f64) -> Reading
+    ensures { λ r. ⌜ r ≡ resolvedPressure pressure «altitude_m» ⌝ }
 {
     match pressure {
         Pressure::Station(p) => resolve_station_pressure(p, altitude_m),
@@ -61,49 +79,91 @@ pub(crate) fn resolved_pressure(pressure: Pressure, altitude_m: f64) -> Reading
     }
 }
 
-pub(crate) fn shown_temperature(temperature: Reading, altitude_m: f64) -> f64
-    ensures { λ r. ⌜ r ≡ shownTemperature 52 temperature «altitude_m» ⌝ }
+fn value_or_zero(entry: Entry) -> f64
+    ensures { λ r. ⌜ r ≡ valueOrZero entry ⌝ }
 {
-    match temperature {
-        Reading::Given(t) => t,
-        Reading::FromLayer => {
-            calculate_icao_standard_atmosphere(altitude_m).temperature_k - 273.15
-        }
-    }
-}
-
-pub(crate) fn shown_pressure(pressure: Reading, altitude_m: f64) -> f64
-    ensures { λ r. ⌜ r ≡ shownPressure 52 pressure «altitude_m» ⌝ }
-{
-    match pressure {
-        Reading::Given(p) => p,
-        Reading::FromLayer => calculate_icao_standard_atmosphere(altitude_m).pressure_pa / 100.0,
-    }
-}
-
-pub(crate) fn humidity_of(humidity_percent: Entry) -> f64
-    ensures { λ r. ⌜ r ≡ humidityOf «humidity_percent» ⌝ }
-{
-    match humidity_percent {
-        Entry::Present(h) => h,
+    match entry {
+        Entry::Present(x) => x,
         Entry::Absent => 0.0,
     }
 }
 
-// Density and sound speed are those of the readings, the last two figures those of what is shown.
-pub(crate) fn figures_of(
-    altitude_m: f64,
-    temperature: Reading,
-    pressure: Reading,
-    temperature_c: f64,
-    pressure_hpa: f64,
-    humidity_percent: f64,
-) -> Figures
-    ensures { λ r. ⌜ r ≡ figuresOf 52 «altitude_m» temperature pressure «temperature_c» «pressure_hpa» «humidity_percent» ⌝ }
+pub(crate) fn given_temperature(entry: Entry) -> Reading
+    ensures { λ r. ⌜ r ≡ givenTemperature entry ⌝ }
 {
-    let air = calculate_atmosphere(altitude_m, temperature, pressure, humidity_percent);
-    Figures {
+    match entry {
+        Entry::Present(t) => Reading::Given(t),
+        Entry::Absent => Reading::FromLayer,
+    }
+}
+
+// The station of readings without 06.
+pub(crate) fn ordinary(readings: Readings) -> Resolved
+    ensures { λ r. ⌜ r ≡ ordinary readings ⌝ }
+{
+    let altitude_m = value_or_zero(entry_of(readings, ALTITUDE));
+    let pressure = pressure_of(
+        entry_of(readings, STATION_PRESSURE),
+        entry_of(readings, QNH),
+    );
+    Resolved {
         altitude_m,
+        temperature: resolved_temperature(entry_of(readings, TEMPERATURE), altitude_m),
+        pressure: resolved_pressure(pressure, altitude_m),
+        humidity_percent: value_or_zero(entry_of(readings, HUMIDITY)),
+    }
+}
+
+// The station that the inverse found, with the humidity of the readings.
+pub(crate) fn at_station(station: Station, readings: Readings) -> Resolved
+    ensures { λ r. ⌜ r ≡ atStation station readings ⌝ }
+{
+    Resolved {
+        altitude_m: station.altitude_m,
+        temperature: Reading::Given(station.temperature_c),
+        pressure: Reading::Given(station.pressure_hpa),
+        humidity_percent: value_or_zero(entry_of(readings, HUMIDITY)),
+    }
+}
+
+pub(crate) fn shown_temperature(resolved: Resolved) -> f64
+    ensures { λ r. ⌜ r ≡ shownTemperature resolved ⌝ }
+{
+    let temperature = resolved.temperature;
+    match temperature {
+        Reading::Given(t) => t,
+        Reading::FromLayer => {
+            calculate_icao_standard_atmosphere(resolved.altitude_m).temperature_k - 273.15
+        }
+    }
+}
+
+pub(crate) fn shown_pressure(resolved: Resolved) -> f64
+    ensures { λ r. ⌜ r ≡ shownPressure resolved ⌝ }
+{
+    let pressure = resolved.pressure;
+    match pressure {
+        Reading::Given(p) => p,
+        Reading::FromLayer => {
+            calculate_icao_standard_atmosphere(resolved.altitude_m).pressure_pa / 100.0
+        }
+    }
+}
+
+// Density and sound speed are those of the readings, the last two figures those of what is shown.
+pub(crate) fn figures_with(resolved: Resolved, temperature_c: f64, pressure_hpa: f64) -> Figures
+    ensures { λ r. ⌜ r ≡ figuresWith resolved «temperature_c» «pressure_hpa» ⌝ }
+{
+    let temperature = resolved.temperature;
+    let pressure = resolved.pressure;
+    let air = calculate_atmosphere(
+        resolved.altitude_m,
+        temperature,
+        pressure,
+        resolved.humidity_percent,
+    );
+    Figures {
+        altitude_m: resolved.altitude_m,
         temperature_c,
         pressure_hpa,
         density_kg_m3: air.density_kg_m3,
@@ -112,7 +172,7 @@ pub(crate) fn figures_of(
         density_matched_altitude_m: density_matched_altitude_m(
             temperature_c,
             pressure_hpa,
-            humidity_percent,
+            resolved.humidity_percent,
         ),
     }
 }

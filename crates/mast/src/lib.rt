@@ -1,11 +1,4 @@
-// The mast record: its fields, the fixed order of checks, the seven figures or one refusal, and the
-// text of an answer.
-pub mod bits;
+// The judge of a mast's readings: a fixed order of checks, and the seven figures or one refusal.
 pub mod checks;
-pub mod fields;
 pub mod figures;
 pub mod judge;
-pub mod reader;
-pub mod readings;
-pub mod refusal;
-pub mod text;

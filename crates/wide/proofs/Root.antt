@@ -86,8 +86,5 @@ pub four-pow : (j : ℕ) → 4 ^ j ≡ 2 ^ j * 2 ^ j
 four-pow zero = refl
 four-pow (suc j) = pow-suc 4 j ∙ ap (λ (x : ℕ). x * 4) (four-pow j) ∙ mul-mul-mul-comm (2 ^ j) (2 ^ j) 2 2 ∙ ap (λ (x : ℕ). x * x) (sym (pow-suc 2 j))
 
-pub root-scaled : (n j : ℕ) → root (n * 4 ^ j) / 2 ^ j ≡ root n
-root-scaled n j = ap (λ (x : ℕ). root (n * x) / 2 ^ j) (four-pow j) ∙ scaled-by n (2 ^ j) (pow-pos j)
-
 pub root-shifted : (n j : ℕ) → root (n * 2 ^ (2 * j)) / 2 ^ j ≡ root n
 root-shifted n j = ap (λ (x : ℕ). root (n * 2 ^ x) / 2 ^ j) (two-mul j) ∙ ap (λ (x : ℕ). root (n * x) / 2 ^ j) (pow-add 2 j j) ∙ scaled-by n (2 ^ j) (pow-pos j)

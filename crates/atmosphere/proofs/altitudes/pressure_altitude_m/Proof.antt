@@ -4,29 +4,30 @@ use mathlib.Core.Bool.{Bool, true, false, _&&_, _||_, cond}
 use mathlib.Core.Logic.{⊎-elim}
 use borrow.Author.Needs.{needs}
 use lib.Ieee.{Float, le, ne, isNan}
+use Rattle.elementary.specs.Decimals.{hundred}
 use Rattle.elementary.specs.Operators.{_⊗_}
-use Rattle.humid_air.specs.MoistAir.{hundred}
 use Rattle.humid_air.proofs.NotANumber.{ne-self}
 use Rattle.atmosphere.specs.Layers.{lowestHeight}
 use Rattle.atmosphere.specs.Altitudes.{nwsAltitude, foot, tropopause, heightOfPressure, pressureAltitude}
 use Rattle.atmosphere.proofs.altitudes.pressure_altitude_m.Statement.{statement}
 use Rattle.atmosphere.proofs.altitudes.pressure_altitude_m.Tie as tie
+use Rattle.elementary.specs.Places.{places}
 
 abbrev within : Float → Bool
 within h = le lowestHeight h && le h tropopause
 
 -- the definition by the code's test of the NWS figure
-by-test : (p h : Float) (t : Bool) → h ≡ nwsAltitude 52 p ⊗ foot → (ne h h || within h) ≡ t → cond t h (heightOfPressure 52 (p ⊗ hundred)) ≡ pressureAltitude 52 p
+by-test : (p h : Float) (t : Bool) → h ≡ nwsAltitude places p ⊗ foot → (ne h h || within h) ≡ t → cond t h (heightOfPressure places (p ⊗ hundred)) ≡ pressureAltitude places p
 unfolding pressureAltitude
 by-test p h t e k =
-    let layered = heightOfPressure 52 (p ⊗ hundred) in
+    let layered = heightOfPressure places (p ⊗ hundred) in
     ap (λ (b : Bool). cond b h layered) (sym k ∙ ap (λ (b : Bool). b || within h) (ne-self h))
     ∙ ap (λ (g : Float). cond (isNan g || within g) g layered) e
 
 abbrev figure : tie.After-nws-pressure-altitude-ft → Float
 figure c = c .nws-pressure-altitude-ft .result ⊗ foot
 
-picks : (c : tie.After-nws-pressure-altitude-ft) (t : Bool) → (ne (figure c) (figure c) || within (figure c)) ≡ t → let p = c .before .args .station-pressure-hpa in cond t (figure c) (heightOfPressure 52 (p ⊗ hundred)) ≡ pressureAltitude 52 p
+picks : (c : tie.After-nws-pressure-altitude-ft) (t : Bool) → (ne (figure c) (figure c) || within (figure c)) ≡ t → let p = c .before .args .station-pressure-hpa in cond t (figure c) (heightOfPressure places (p ⊗ hundred)) ≡ pressureAltitude places p
 picks c t k = by-test (c .before .args .station-pressure-hpa) (figure c) t (ap (λ (x : Float). x ⊗ foot) (c .nws-pressure-altitude-ft .ensures)) k
 
 -- the code's second flag, where the ways of `&&` meet

@@ -4,15 +4,17 @@ use Prim.Native.Nat.{ℕ, _<_}
 use native.Mathlib.Omega.{arith}
 use lib.ListN.{getD}
 use lib.Ieee.{Float, nan}
+use Rattle.elementary.specs.Decimals.{one}
 use Rattle.elementary.specs.Operators.{_⊘_}
-use Rattle.elementary.specs.Exponents.{ofDouble}
+use Rattle.elementary.specs.Exponents.{ofDouble, densityExponent}
 use Rattle.elementary.specs.Power.{power, powerAt}
-use Rattle.humid_air.specs.Saturation.{one}
-use Rattle.atmosphere.specs.Altitudes.{heightIn, densityExponent, chainedRatio, heightOfRatio}
+use Rattle.atmosphere.specs.Layers.{gradient}
+use Rattle.atmosphere.specs.Altitudes.{heightIn, chainedRatio, heightOfRatio}
 use Rattle.atmosphere.proofs.LayerFrom.{layer-from-le, height-from-same}
 use Rattle.atmosphere.proofs.Chained.{ratios, ratioNumbers, ratio-at, ratio-power}
 use Rattle.atmosphere.proofs.altitudes.standard_altitude_above_tropopause_m.Statement.{statement}
 use Rattle.atmosphere.proofs.altitudes.standard_altitude_above_tropopause_m.Tie as tie
+use Rattle.elementary.specs.Places.{places}
 
 in-table : (c : tie.After-layer-from) → c .layer-from .result < 7
 unfolding ratios
@@ -23,10 +25,10 @@ unfolding ratios ratioNumbers heightOfRatio
 returns c =
     let x = c .before .before .args .ratio in
     let table : ℕ → Float = λ i. getD ratios i nan in
-    let raised : ℕ → Float → Float = λ i. powerAt 52 (getD ratioNumbers i 0) in
+    let raised : ℕ → Float → Float = λ i. powerAt places (getD ratioNumbers i 0) in
     c .height-in .ensures
-    ∙ ap (λ (i : ℕ). heightIn 52 (raised i) i (table i) x) (c .before .layer-from .ensures)
-    ∙ height-from-same 52 raised (λ (i : ℕ). power 52 (ofDouble (one ⊘ densityExponent i))) table (chainedRatio 52) 5 1 x (λ j l h. ratio-at j (omega arith)) (λ j b l h. ratio-power j b x l (omega arith))
+    ∙ ap (λ (i : ℕ). heightIn places (raised i) i (table i) x) (c .before .layer-from .ensures)
+    ∙ height-from-same places raised (λ (i : ℕ). power places (ofDouble (one ⊘ densityExponent (gradient i)))) table (chainedRatio places) 5 1 x (λ j l h. ratio-at j (omega arith)) (λ j b l h. ratio-power j b x l (omega arith))
 
 pub standard-altitude-above-tropopause-m-spec : {M : Type 1} → statement M
 standard-altitude-above-tropopause-m-spec =

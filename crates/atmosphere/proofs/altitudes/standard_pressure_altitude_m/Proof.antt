@@ -4,13 +4,15 @@ use Prim.Native.Nat.{ℕ, _<_}
 use native.Mathlib.Omega.{arith}
 use lib.ListN.{getD}
 use lib.Ieee.{Float, nan}
-use Rattle.elementary.specs.Exponents.{ofDouble}
+use Rattle.elementary.specs.Exponents.{ofDouble, temperatureExponent}
 use Rattle.elementary.specs.Power.{power, powerAt}
-use Rattle.atmosphere.specs.Altitudes.{heightIn, temperatureExponent, chainedPressure, heightOfPressure}
+use Rattle.atmosphere.specs.Layers.{gradient}
+use Rattle.atmosphere.specs.Altitudes.{heightIn, chainedPressure, heightOfPressure}
 use Rattle.atmosphere.proofs.LayerFrom.{layer-from-le, height-from-same}
 use Rattle.atmosphere.proofs.Chained.{pressures, temperatureNumbers, pressure-at, temperature-power}
 use Rattle.atmosphere.proofs.altitudes.standard_pressure_altitude_m.Statement.{statement}
 use Rattle.atmosphere.proofs.altitudes.standard_pressure_altitude_m.Tie as tie
+use Rattle.elementary.specs.Places.{places}
 
 in-table : (c : tie.After-layer-from) → c .layer-from .result < 7
 unfolding pressures
@@ -21,10 +23,10 @@ unfolding pressures temperatureNumbers heightOfPressure
 returns c =
     let x = c .before .before .args .pressure-pa in
     let table : ℕ → Float = λ i. getD pressures i nan in
-    let raised : ℕ → Float → Float = λ i. powerAt 52 (getD temperatureNumbers i 0) in
+    let raised : ℕ → Float → Float = λ i. powerAt places (getD temperatureNumbers i 0) in
     c .height-in .ensures
-    ∙ ap (λ (i : ℕ). heightIn 52 (raised i) i (table i) x) (c .before .layer-from .ensures)
-    ∙ height-from-same 52 raised (λ (i : ℕ). power 52 (ofDouble (temperatureExponent i))) table (chainedPressure 52) 6 0 x (λ j l h. pressure-at j (omega arith)) (λ j b l h. temperature-power j b x (omega arith))
+    ∙ ap (λ (i : ℕ). heightIn places (raised i) i (table i) x) (c .before .layer-from .ensures)
+    ∙ height-from-same places raised (λ (i : ℕ). power places (ofDouble (temperatureExponent (gradient i)))) table (chainedPressure places) 6 0 x (λ j l h. pressure-at j (omega arith)) (λ j b l h. temperature-power j b x (omega arith))
 
 pub standard-pressure-altitude-m-spec : {M : Type 1} → statement M
 standard-pressure-altitude-m-spec =

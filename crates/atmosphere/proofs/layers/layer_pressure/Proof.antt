@@ -6,22 +6,22 @@ use Prim.Native.Nat.{ℕ, zero, suc, _<_}
 use native.Mathlib.Omega.{arith}
 use borrow.Author.Needs.{needs}
 use lib.ListN.{getD}
-use lib.Ieee.{Float, ofBits, neg, lt}
-use Rattle.elementary.specs.Operators.{_⊗_, _⊘_}
-use Rattle.elementary.specs.Exponents.{ofDouble}
+use lib.Ieee.{Float, ofBits, lt}
+use Rattle.elementary.specs.Operators.{_⊗_}
+use Rattle.elementary.specs.Exponents.{ofDouble, pressureExponent}
 use Rattle.elementary.specs.Power.{power, powerAt}
 use Rattle.humid_air.specs.Doubles.{absDouble}
-use Rattle.humid_air.specs.Sound.{R}
-use Rattle.atmosphere.specs.Layers.{g₀, layers, basePressure, gradient, negligible, isothermal, isothermalPressure, gradientPressure, layerPressure}
+use Rattle.atmosphere.specs.Layers.{layers, basePressure, gradient, negligible, isothermal, isothermalPressure, gradientPressure, layerPressure}
 use Rattle.atmosphere.proofs.layers.layer_pressure.Statement.{statement}
 use Rattle.atmosphere.proofs.layers.layer_pressure.Tie as tie
+use Rattle.elementary.specs.Places.{places}
 
 -- the code's numbers of the layers' exponents
 numbers : List ℕ
 numbers = 0 ∷ 27 ∷ 1 ∷ 2 ∷ 27 ∷ 3 ∷ 4 ∷ []
 
 -- a layer that is not isothermal has its exponent -g₀ / (β R) in elementary's table, at its number
-layer-power : (p i : ℕ) (x : Float) → i < 7 → isothermal i ≡ false → powerAt p (getD numbers i 0) x ≡ power p (ofDouble (neg g₀ ⊘ (gradient i ⊗ R))) x
+layer-power : (p i : ℕ) (x : Float) → i < 7 → isothermal i ≡ false → powerAt p (getD numbers i 0) x ≡ power p (ofDouble (pressureExponent (gradient i))) x
 unfolding numbers layers ofBits lt absDouble powerAt
 layer-power p zero x h e = refl
 layer-power p (suc zero) x h e = absurd (true≢false e)
@@ -43,7 +43,7 @@ returns c =
     let start = c .before .before .before .before in
     let i = start .args .number in
     ap (λ (x : Float). basePressure i ⊗ x) (c .exp .ensures)
-    ∙ by-test 52 i (start .args .height-diff) (start .args .temperature) true (ap (λ (x : Float). lt x negligible) (sym (c .before .before .abs .ensures)) ∙ c .before .if1 .taken)
+    ∙ by-test places i (start .args .height-diff) (start .args .temperature) true (ap (λ (x : Float). lt x negligible) (sym (c .before .before .abs .ensures)) ∙ c .before .if1 .taken)
 
 returns-2 : tie.Need-returns-2
 unfolding numbers layers
@@ -51,7 +51,7 @@ returns-2 c =
     let start = c .before .before .before .before in
     let i = start .args .number in
     let tested : isothermal i ≡ false = ap (λ (x : Float). lt x negligible) (sym (c .before .before .abs .ensures)) ∙ c .before .if1 .left in
-    ap (λ (x : Float). basePressure i ⊗ x) (c .power .ensures ∙ layer-power 52 i _ (start .pre) tested) ∙ by-test 52 i (start .args .height-diff) (start .args .temperature) false tested
+    ap (λ (x : Float). basePressure i ⊗ x) (c .power .ensures ∙ layer-power places i _ (start .pre) tested) ∙ by-test places i (start .args .height-diff) (start .args .temperature) false tested
 
 pub layer-pressure-spec : {M : Type 1} → statement M
 layer-pressure-spec =

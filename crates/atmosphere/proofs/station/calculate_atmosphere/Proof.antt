@@ -8,12 +8,13 @@ use Rattle.atmosphere.specs.declared.station.Air.{Air}
 use Rattle.atmosphere.specs.Station.{airOf, kelvins, pascals, atmosphere}
 use Rattle.atmosphere.proofs.station.calculate_atmosphere.Statement.{statement}
 use Rattle.atmosphere.proofs.station.calculate_atmosphere.Tie as tie
+use Rattle.elementary.specs.Places.{places}
 
 -- from the temperature and the pressure that the readings stand for
-read : (altitude h : Float) {T P : Float} {t p t′ p′ : Reading} {a : Air} → a ≡ airOf 52 T P h → T ≡ kelvins 52 altitude t′ → P ≡ pascals 52 altitude p′ → t ≡ t′ → p ≡ p′ → a ≡ atmosphere 52 altitude t p h
+read : (altitude h : Float) {T P : Float} {t p t′ p′ : Reading} {a : Air} → a ≡ airOf places T P h → T ≡ kelvins places altitude t′ → P ≡ pascals places altitude p′ → t ≡ t′ → p ≡ p′ → a ≡ atmosphere places altitude t p h
 unfolding atmosphere
 read altitude h e eT eP et ep =
-    e ∙ ap₂ (λ (x y : Float). airOf 52 x y h) eT eP ∙ ap₂ (λ (x y : Reading). airOf 52 (kelvins 52 altitude x) (pascals 52 altitude y) h) (sym et) (sym ep)
+    e ∙ ap₂ (λ (x y : Float). airOf places x y h) eT eP ∙ ap₂ (λ (x y : Reading). airOf places (kelvins places altitude x) (pascals places altitude y) h) (sym et) (sym ep)
 
 returns : tie.Need-returns
 returns c =

@@ -1,9 +1,10 @@
 -- `atmosphere::station::in_legacy_default_pressure_band` meets its contract. Assumes nothing.
 use mathlib.Core.Path.{ap}
 use borrow.Author.Needs.{needs}
-use lib.Ieee.{Float, binary64, ofBits, lt}
+use lib.Ieee.{Float, lt}
+use Rattle.elementary.specs.Decimals.{decimal}
 use Rattle.atmosphere.proofs.station.in_legacy_default_pressure_band.Statement.{statement}
 use Rattle.atmosphere.proofs.station.in_legacy_default_pressure_band.Tie as tie
 
 pub in-legacy-default-pressure-band-spec : {M : Type 1} → statement M
-in-legacy-default-pressure-band-spec = tie.close (tie.spec (λ c κs. search needs) (λ c. ap (λ (x : Float). lt x (ofBits binary64 0x3fe0000000000000)) (c .abs .ensures)))
+in-legacy-default-pressure-band-spec = tie.close (tie.spec (λ c κs. search needs) (λ c. ap (λ (x : Float). lt x (decimal "0.5")) (c .abs .ensures)))

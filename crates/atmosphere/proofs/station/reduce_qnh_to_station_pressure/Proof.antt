@@ -1,20 +1,31 @@
--- `atmosphere::station::reduce_qnh_to_station_pressure` meets its contract. Assumes nothing.
+-- `atmosphere::station::reduce_qnh_to_station_pressure` meets its contract: its exponents are numbers 0 and 5 of elementary's table. Assumes nothing.
 use mathlib.Core.Path.{ap, ap₂, _∙_}
 use borrow.Author.Needs.{needs}
-use lib.Ieee.{Float, ofBits, neg}
+use lib.Ieee.{Float, ofBits}
+use Rattle.elementary.specs.Decimals.{one}
 use Rattle.elementary.specs.Operators.{_⊕_, _⊗_, _⊘_}
 use Rattle.elementary.specs.Power.{powerAt}
-use Rattle.humid_air.specs.Saturation.{one}
 use Rattle.atmosphere.specs.Layers.{layers, baseTemperature, gradient}
 use Rattle.atmosphere.proofs.station.reduce_qnh_to_station_pressure.Statement.{statement}
 use Rattle.atmosphere.proofs.station.reduce_qnh_to_station_pressure.Tie as tie
+use Rattle.elementary.specs.Places.{places}
 
 returns : tie.Need-returns
-unfolding layers ofBits neg
+unfolding layers ofBits powerAt
 returns c =
-    ap (λ (x : Float). c .before .before .before .args .qnh-hpa ⊗ x)
+    ap (λ (x : Float). c .before .before .before .before .args .qnh-hpa ⊗ x)
     (c .power2 .ensures
-    ∙ ap₂ (λ (h s : Float). powerAt 52 0 (one ⊕ gradient 0 ⊗ h ⊘ baseTemperature 0 ⊗ s)) (c .before .before .standard-geopotential-height-m .ensures) (c .before .power .ensures))
+    ∙ ap₂ (λ (h s : Float). powerAt places 0 (one ⊕ gradient 0 ⊗ h ⊘ baseTemperature 0 ⊗ s)) (c .before .before .standard-geopotential-height-m .ensures) (c .before .power .ensures))
 
 pub reduce-qnh-to-station-pressure-spec : {M : Type 1} → statement M
-reduce-qnh-to-station-pressure-spec = tie.close (tie.spec (λ c κs. search needs) (λ c κs. search needs) (λ c κs. search needs) returns)
+reduce-qnh-to-station-pressure-spec =
+    tie.close
+    (tie.spec
+    (λ c. search needs)
+    (λ c. search needs)
+    (λ c κs. search needs)
+    (λ c. search needs)
+    (λ c. search needs)
+    (λ c κs. search needs)
+    (λ c κs. search needs)
+    returns)

@@ -1,20 +1,15 @@
--- `checks::double::between` meets its contract.
--- Assumes nothing.
+-- `checks::double::between` meets its contract. Assumes nothing.
+use mathlib.Core.Path.{ap₂}
+use mathlib.Core.Bool.{_&&_}
 use borrow.Author.Needs.{needs}
+use lib.Ieee.{Float, le}
 use Rattle.checks.proofs.double.between.Statement.{statement}
 use Rattle.checks.proofs.double.between.Tie as tie
 
-double-requires : tie.Need-double-requires
-double-requires c κs = search needs
-
-double-requires-2 : tie.Need-double-requires-2
-double-requires-2 c κs = search needs
-
 returns : tie.Need-returns
-returns c = rw (← c .before .before .double .ensures, ← c .double2 .ensures, c .before .if1 .taken)
-
-returns-2 : tie.Need-returns-2
-returns-2 c = rw (← c .before .double .ensures, c .if1 .left)
+returns c =
+    let x = c .before .before .args .x in
+    ap₂ (λ (low high : Float). le low x && le x high) (c .before .double .ensures) (c .double2 .ensures)
 
 pub between-spec : {M : Type 1} → statement M
-between-spec = tie.close (tie.spec double-requires double-requires-2 returns returns-2)
+between-spec = tie.close (tie.spec (λ c κs. search needs) (λ c κs. search needs) returns)

@@ -2,7 +2,7 @@
 use mathlib.Core.Path.{_≡_, sym, ap, ap₂, _∙_}
 use mathlib.Core.Bool.{Bool, not, _&&_, Bool·not-not}
 use borrow.Author.Needs.{needs}
-use Rattle.humid_air.specs.MoistAir.{nought}
+use Rattle.elementary.specs.Decimals.{nought}
 use Rattle.density_altitude.specs.declared.inverse.Station.{Station}
 use Rattle.density_altitude.specs.Inverse.{isFiniteAbove, absoluteZero}
 use Rattle.density_altitude.proofs.inverse.has_air.Statement.{statement}

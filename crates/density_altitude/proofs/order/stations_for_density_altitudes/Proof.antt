@@ -1,41 +1,27 @@
 -- `density_altitude::order::stations_for_density_altitudes` meets its contract: demand 3, of the three calls. Assumes nothing.
 use mathlib.Core.Path.{_≡_, sym, subst, subst₂}
-use mathlib.Core.Bool.{true}
-use mathlib.Core.List.{List}
-use mir.Val.{Val}
-use denote.Laws.{Is}
-use denote.Enum.Declared.{row}
-use denote.Enum.Laws.{owed}
 use borrow.Author.Needs.{needs}
 use lib.Dec.{T, lit≤}
 use lib.Ieee.{Float, binary64, fits, le}
 use Rattle.atmosphere.specs.declared.station.Reading.{Reading}
-use Rattle.atmosphere.specs.declared.station.Reading.the-variants.{Given, FromLayer}
-use Rattle.atmosphere.proofs.station.Reading.{the-type}
-use Rattle.atmosphere.proofs.station.Reading.Laws.{the-laws}
 use Rattle.density_altitude.specs.declared.inverse.Station.{Station}
-use Rattle.density_altitude.specs.Inverse.{Outcome, station}
+use Rattle.refusal.specs.Outcomes.{Outcome}
+use Rattle.density_altitude.specs.Inverse.{station}
 use Rattle.density_altitude.specs.Order.{Accepted, Demand₃}
 use Rattle.density_altitude.proofs.Spread.{ReadingFits}
+use Rattle.density_altitude.proofs.Owned.{held, reading-held}
 use Rattle.density_altitude.proofs.Demand.{demand}
 use Rattle.density_altitude.proofs.order.stations_for_density_altitudes.Statement.{statement}
 use Rattle.density_altitude.proofs.order.stations_for_density_altitudes.Tie as tie
-
--- what owning a double or a reading tells: the format holds it
-held : (x : Float) → fits binary64 x ≡ true → T (fits binary64 x)
-held x e = subst T (sym e) tt
-
-reading-held : (t : Reading) (vs : List Val) → Is (row the-type) t vs → ReadingFits t
-reading-held (Given t) vs p = held t (owed the-type the-laws (Given t) vs p .0 .1)
-reading-held FromLayer vs p = tt
+use Rattle.elementary.specs.Places.{places}
 
 -- of answers that are the definition's
 of-answers : (t : Reading) (d₁ d d₂ : Float) {a₁ a a₂ : Outcome Station} → ReadingFits t → T (fits binary64 d₁) → T (fits binary64 d) → T (fits binary64 d₂)
-    → a₁ ≡ station 52 d₁ t → a ≡ station 52 d t → a₂ ≡ station 52 d₂ t → T (le d₁ d) → T (le d d₂) → Accepted a₁ → Accepted a₂ → Demand₃ t d₁ d₂ a₁ a a₂
+    → a₁ ≡ station places d₁ t → a ≡ station places d t → a₂ ≡ station places d₂ t → T (le d₁ d) → T (le d d₂) → Accepted a₁ → Accepted a₂ → Demand₃ t d₁ d₂ a₁ a a₂
 of-answers t d₁ d d₂ {a₁} {a} {a₂} g f₁ f f₂ e₁ e e₂ l₁ l₂ u₁ u₂ =
     subst (λ (b : Outcome Station). Demand₃ t d₁ d₂ a₁ b a₂) (sym e)
-    (subst₂ (λ (b c : Outcome Station). Demand₃ t d₁ d₂ b (station 52 d t) c) (sym e₁) (sym e₂)
-    (demand 52 (lit≤ tt) (lit≤ tt) t g d₁ d₂ f₁ f₂ (subst Accepted e₁ u₁) (subst Accepted e₂ u₂) d f l₁ l₂))
+    (subst₂ (λ (b c : Outcome Station). Demand₃ t d₁ d₂ b (station places d t) c) (sym e₁) (sym e₂)
+    (demand places (lit≤ tt) (lit≤ tt) t g d₁ d₂ f₁ f₂ (subst Accepted e₁ u₁) (subst Accepted e₂ u₂) d f l₁ l₂))
 
 returns : tie.Need-returns
 returns c =

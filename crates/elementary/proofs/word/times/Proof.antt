@@ -2,15 +2,13 @@
 use mathlib.Core.Path.{_≡_, sym, ap, ap₂, _∙_, subst}
 use mathlib.Core.Bool.{Bool}
 use mathlib.Core.Logic.{⊎-elim}
-use Prim.Native.Nat.{ℕ, _+_, _*_, _/_, _%_, _^_, _≤_, _<_}
-use native.Mathlib.Nat.{one-mul, mod-eq-of-lt, lt-of-le-of-lt}
+use Prim.Native.Nat.{ℕ, _+_, _*_, _/_, _%_, _^_, _<_}
 use native.Mathlib.Omega.{arith}
 use borrow.Author.Needs.{needs}
-use lib.Dec.{lit<}
-use lib.Pow.{pow-pos, pow-mono, pow-add}
+use lib.Pow.{pow-pos, pow-add}
 use Rattle.elementary.specs.Whole.{digits}
 use Rattle.elementary.proofs.Times.{remaining, extraOf, above-point, below-point, times-word, same-word}
-use Rattle.elementary.proofs.Carried.{Quotients, quotients}
+use Rattle.elementary.proofs.Carried.{one-moved, Quotients, quotients}
 use Rattle.elementary.proofs.word.times.Statement.{statement}
 use Rattle.elementary.proofs.word.times.Tie as tie
 
@@ -39,9 +37,6 @@ made c =
     (at-product .product .result) (at-product2 .product2 .result) (at-sum .sum .result .word) (at-right .shifted-right .result) (at-left .shifted-left .result) (at-sum2 .sum2 .result .word) (c .before .shifted-right2 .result) (c .shifted-right3 .result)
     (at-sum .sum .result .carry) (at-sum2 .sum2 .result .carry)
     (at-product .product .ensures) (at-product2 .product2 .ensures) (at-sum .sum .ensures) (at-right .shifted-right .ensures) (at-left .shifted-left .ensures) (at-sum2 .sum2 .ensures) (c .before .shifted-right2 .ensures) (c .shifted-right3 .ensures)
-
-one-moved : (k : ℕ) → k ≤ 62 → (1 * 2 ^ k) % 2 ^ 64 ≡ 2 ^ k
-one-moved k h = ap (λ (n : ℕ). n % 2 ^ 64) (one-mul (2 ^ k)) ∙ mod-eq-of-lt (lt-of-le-of-lt (pow-mono {j = 62} h) (lit< {m = 2 ^ 62} tt))
 
 rem-rest : tie.Need-rem-rest
 rem-rest c = subst (λ (n : ℕ). 0 < n) (sym (one-moved _ (c .before .before .before .before .before .before .before .pre .4))) (pow-pos _)

@@ -6,27 +6,26 @@ use mathlib.Core.List.{List}
 use lib.Ieee.{Float}
 use Rattle.mast.specs.declared.judge.Answer.{Answer}
 use Rattle.mast.specs.Judge.{outcome, judge}
-use Rattle.exports.specs.Lent.{handedOut, statusOf, leftIn, figureValues, number, values}
+use Rattle.exports.specs.Lent.{told, handedOut, statusIn, leftIn, figureValues}
 use Rattle.exports.proofs.Statuses.{too-short, answered}
 use Rattle.exports.proofs.stations.station_air_judge.Statement.{statement}
 use Rattle.exports.proofs.stations.station_air_judge.Tie as tie
 
 returns : tie.Need-returns
 returns c =
-    let start = c .before .before .before in
-    let found = judge 52 (start .args .record .now) in
-    let both = too-short 7 (number found) (start .args .lent .now) (values figureValues found) (c .if1 .taken) in
+    let x = c .before .before .before .args in
+    let both = too-short 7 (x .lent .now) (told figureValues (judge (x .record .now))) (c .if1 .taken) in
     (both .0, (both .1, refl))
 
--- an arm: the judge's answer is a, whose outcome r and left are
+-- an arm: the judge's answer is a, whose status r and values are left
 by-answer : (c : tie.After-judge) {a : Answer} {r : ℕ} {left : List Float} → c .judge .result ≡ a
-    → let start = c .before .before .before .before in
-    let lent = start .args .lent .now in
-    let found = judge 52 (start .args .record .now) in
-    (r ≡ number (outcome a)) × (left ≡ handedOut (values figureValues (outcome a)) lent)
-    → (r ≡ statusOf 7 lent (number found)) × (left ≡ leftIn 7 lent (values figureValues found))
-by-answer c told (e, w) =
-    answered figureValues (c .before .before .before .before .args .lent .now) (c .before .if1 .left) (sym (ap outcome told) ∙ c .judge .ensures .0) e w
+    → let x = c .before .before .before .before .args in
+    let lent = x .lent .now in
+    let found = told figureValues (judge (x .record .now)) in
+    (r ≡ told figureValues (outcome a) .status) × (left ≡ handedOut (told figureValues (outcome a) .values) lent)
+    → (r ≡ statusIn 7 lent found) × (left ≡ leftIn 7 lent found)
+by-answer c known (e, w) =
+    answered figureValues (c .before .before .before .before .args .lent .now) (c .before .if1 .left) (sym (ap outcome known) ∙ c .judge .ensures .0) e w
 
 returns-2 : tie.Need-returns-2
 returns-2 c =

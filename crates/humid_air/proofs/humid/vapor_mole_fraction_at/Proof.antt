@@ -4,7 +4,8 @@ use mathlib.Core.Bool.{true}
 use borrow.Author.Needs.{needs}
 use lib.Ieee.{Float, eq}
 use Rattle.humid_air.specs.Doubles.{clampDouble}
-use Rattle.humid_air.specs.MoistAir.{nought, hundred, moleFraction}
+use Rattle.elementary.specs.Decimals.{nought, hundred}
+use Rattle.humid_air.specs.MoistAir.{moleFraction}
 use Rattle.humid_air.proofs.humid.vapor_mole_fraction_at.Statement.{statement}
 use Rattle.humid_air.proofs.humid.vapor_mole_fraction_at.Tie as tie
 

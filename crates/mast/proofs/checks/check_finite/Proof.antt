@@ -2,13 +2,18 @@
 use mathlib.Core.Path.{ap, _∙_}
 use mathlib.Core.Bool.{Bool, not}
 use mathlib.Core.List.{[], _∷_}
+use Rattle.refusal.specs.Outcomes.{row, passed}
 use borrow.Author.Needs.{needs}
-use Rattle.mast.specs.Refusals.{refuse}
 use Rattle.mast.proofs.checks.check_finite.Statement.{statement}
 use Rattle.mast.proofs.checks.check_finite.Tie as tie
 
 returns : tie.Need-returns
-returns c = c .refuse-if .ensures ∙ ap (λ (b : Bool). refuse (not b) 11 (c .before .before .args .x ∷ [])) (c .before .is-finite .ensures)
+returns c = let x = c .before .before .args .x in c .refuse-if .ensures ∙ ap (λ (b : Bool). passed (row (not b) 11 (x ∷ []) ∷ [])) (c .before .is-finite .ensures)
 
 pub check-finite-spec : {M : Type 1} → statement M
-check-finite-spec = tie.close (tie.spec (λ c κs. search needs) (λ c κs. search needs) returns)
+check-finite-spec =
+    tie.close
+    (tie.spec
+    (λ c κs. search needs)
+    (λ c κs. search needs)
+    returns)

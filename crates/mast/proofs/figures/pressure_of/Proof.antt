@@ -1,8 +1,8 @@
 -- `mast::figures::pressure_of` meets its contract. Assumes nothing.
 use mathlib.Core.Path.{sym, ap, ap₂}
-use borrow.Author.Needs.{needs}
-use Rattle.mast.specs.declared.readings.Entry.{Entry}
+use Rattle.record.specs.declared.readings.Entry.{Entry}
 use Rattle.mast.specs.Figures.{pressureOf}
+use borrow.Author.Needs.{needs}
 use Rattle.mast.proofs.figures.pressure_of.Statement.{statement}
 use Rattle.mast.proofs.figures.pressure_of.Tie as tie
 

@@ -1,21 +1,21 @@
 -- `mast::figures::resolved_pressure` meets its contract. Assumes nothing.
 use mathlib.Core.Path.{sym, ap, _∙_}
-use borrow.Author.Needs.{needs}
 use Rattle.atmosphere.specs.declared.station.Reading.the-variants.{Given}
 use Rattle.mast.specs.declared.figures.Pressure.{Pressure}
 use Rattle.mast.specs.Figures.{resolvedPressure}
+use borrow.Author.Needs.{needs}
 use Rattle.mast.proofs.figures.resolved_pressure.Statement.{statement}
 use Rattle.mast.proofs.figures.resolved_pressure.Tie as tie
 
 returns : tie.Need-returns
 returns c =
     let a = c .before .before .before .before .args in
-    c .resolve-station-pressure .ensures ∙ ap (λ (p : Pressure). resolvedPressure 52 p (a .altitude-m)) (sym (c .before .before .pressure .given .1))
+    c .resolve-station-pressure .ensures ∙ ap (λ (p : Pressure). resolvedPressure p (a .altitude-m)) (sym (c .before .before .pressure .given .1))
 
 returns-2 : tie.Need-returns-2
 returns-2 c =
     let a = c .before .before .before .before .args in
-    ap Given (c .reduce-qnh-to-station-pressure .ensures) ∙ ap (λ (p : Pressure). resolvedPressure 52 p (a .altitude-m)) (sym (c .before .before .pressure2 .given .1))
+    ap Given (c .reduce-qnh-to-station-pressure .ensures) ∙ ap (λ (p : Pressure). resolvedPressure p (a .altitude-m)) (sym (c .before .before .pressure2 .given .1))
 
 pub resolved-pressure-spec : {M : Type 1} → statement M
 resolved-pressure-spec =

@@ -1,8 +1,8 @@
 -- `mast::figures::resolved_temperature` meets its contract. Assumes nothing.
 use mathlib.Core.Path.{sym, ap, _∙_}
-use borrow.Author.Needs.{needs}
-use Rattle.mast.specs.declared.readings.Entry.{Entry}
+use Rattle.record.specs.declared.readings.Entry.{Entry}
 use Rattle.mast.specs.Figures.{resolvedTemperature}
+use borrow.Author.Needs.{needs}
 use Rattle.mast.proofs.figures.resolved_temperature.Statement.{statement}
 use Rattle.mast.proofs.figures.resolved_temperature.Tie as tie
 
@@ -13,4 +13,10 @@ returns c =
 
 pub resolved-temperature-spec : {M : Type 1} → statement M
 resolved-temperature-spec =
-    tie.close (tie.spec (λ c. search needs) (λ c κs. search needs) (λ c. search needs) returns (λ c. search needs))
+    tie.close
+    (tie.spec
+    (λ c. search needs)
+    (λ c κs. search needs)
+    (λ c. search needs)
+    returns
+    (λ c. search needs))

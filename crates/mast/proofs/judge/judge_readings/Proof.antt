@@ -1,44 +1,55 @@
--- `mast::judge::judge_readings` meets its contract, by the fields that are there. Assumes nothing.
-use mathlib.Core.Path.{_≡_, sym, ap, ap₂, _∙_}
-use mathlib.Core.Bool.{Bool}
+-- `mast::judge::judge_readings` meets its contract, by the way that the readings ask. Assumes nothing.
+use mathlib.Core.Path.{_≡_, refl, sym, ap, _∙_}
+use mathlib.Core.Bool.{Bool, cond}
 use mathlib.Core.List.{[]}
+use lib.Ieee.{Float}
+use Rattle.elementary.specs.Places.{places}
+use Rattle.refusal.specs.Outcomes.{Outcome, accepted, refused, _then_}
+use Rattle.refusal.proofs.Rows.{then-append}
+use Rattle.density_altitude.specs.Inverse.{stationRows}
+use Rattle.record.specs.declared.readings.Entry.{Entry}
+use Rattle.record.specs.declared.readings.Entry.the-variants.{Absent, Present}
+use Rattle.record.specs.declared.readings.Readings.{Readings}
+use Rattle.record.specs.Fields.{temperature, densityAltitude}
+use Rattle.record.specs.Readings.{entryOf}
+use Rattle.mast.specs.declared.figures.Figures.{Figures}
+use Rattle.mast.specs.Checks.{isClash, ordinaryRows}
+use Rattle.mast.specs.Figures.{ordinary, givenTemperature, figuresOf}
+use Rattle.mast.specs.Judge.{airRows, airOutcome, wayRows, resolvedBy, judged, ordinaryOutcome, stationOutcome}
 use borrow.Author.Needs.{needs}
-use Rattle.mast.specs.declared.readings.Entry.{Entry}
-use Rattle.mast.specs.declared.readings.Readings.{Readings}
-use Rattle.mast.specs.Refusals.{refuse, _then_}
-use Rattle.mast.specs.Checks.{isClash}
-use Rattle.mast.specs.Judge.{byWay, judged}
 use Rattle.mast.proofs.judge.judge_readings.Statement.{statement}
 use Rattle.mast.proofs.judge.judge_readings.Tie as tie
 
-by-test : (r : Readings) {clash b : Bool} → clash ≡ b → clash ≡ isClash r → (refuse b 9 [] then byWay 52 (r .«density_altitude_m») (r .«altitude_m») r) ≡ judged 52 r
-unfolding judged
-by-test r told e = ap (λ (b : Bool). refuse b 9 [] then byWay 52 (r .«density_altitude_m») (r .«altitude_m») r) (sym told ∙ e)
+-- what comes after the clash, by the entry of the density altitude
+abbrev way : Readings → Entry → Outcome Figures
+way r e = wayRows r e then airOutcome (resolvedBy r e)
+
+judged-by : (r : Readings) {b : Bool} {e : Entry} → isClash r ≡ b → entryOf r densityAltitude ≡ e → cond b (refused 9 []) (way r e) ≡ judged r
+unfolding judged airOutcome
+judged-by r {b} clash told =
+    let d = entryOf r densityAltitude in
+    ap (λ (e : Entry). cond b (refused 9 []) (way r e)) (sym told)
+    ∙ ap (λ (b : Bool). cond b (refused 9 []) (way r d)) (sym clash)
+    ∙ ap (cond (isClash r) (refused 9 [])) (sym (then-append (wayRows r d) (airRows (resolvedBy r d)) (accepted (figuresOf (resolvedBy r d)))))
 
 returns : tie.Need-returns
-returns c = by-test (c .before .before .args .readings) (c .if1 .taken) (c .before .is-clash .ensures)
+returns c = judged-by (c .before .before .args .readings) (sym (c .before .is-clash .ensures) ∙ c .if1 .taken) refl
 
 returns-2 : tie.Need-returns-2
+unfolding stationOutcome
 returns-2 c =
-    let read = c .before .before in
-    let test = read .before .before in
-    let r = test .before .before .args .readings in
-    c .density-altitude-air .ensures ∙ ap (λ (d : Entry). byWay 52 d (r .«altitude_m») r) (sym (read .density-altitude-m .given .1)) ∙ by-test r (test .if1 .left) (test .before .is-clash .ensures)
+    let told = c .before .before in
+    let looked = told .before .before in
+    let test = looked .before in
+    c .station-air .ensures ∙ judged-by (test .before .before .args .readings) (sym (test .before .is-clash .ensures) ∙ test .if1 .left) (sym (looked .entry-of .ensures) ∙ told .density-altitude-m .given .1)
 
 returns-3 : tie.Need-returns-3
+unfolding ordinaryOutcome
 returns-3 c =
-    let read = c .before .before in
-    let none = read .before .before in
-    let test = none .before .before in
-    let r = test .before .before .args .readings in
-    c .ordinary-air .ensures ∙ ap₂ (λ (d h : Entry). byWay 52 d h r) (sym (none .enum-told .given .1)) (sym (read .altitude-m .given .1)) ∙ by-test r (test .if1 .left) (test .before .is-clash .ensures)
-
-returns-4 : tie.Need-returns-4
-returns-4 c =
-    let none = c .before .before in
-    let test = none .before .before in
-    let r = test .before .before .args .readings in
-    ap₂ (λ (d h : Entry). byWay 52 d h r) (sym (none .enum-told .given .1)) (sym (c .enum-told2 .given .1)) ∙ by-test r (test .if1 .left) (test .before .is-clash .ensures)
+    let told = c .before in
+    let looked = told .before .before in
+    let test = looked .before in
+    c .ordinary-air .ensures ∙ judged-by (test .before .before .args .readings) (sym (test .before .is-clash .ensures) ∙ test .if1 .left) (sym (looked .entry-of .ensures) ∙ told .enum-told .given .1)
 
 pub judge-readings-spec : {M : Type 1} → statement M
 judge-readings-spec =
@@ -46,12 +57,10 @@ judge-readings-spec =
     (tie.spec
     (λ c κs. search needs)
     returns
+    (λ c κs. search needs)
     (λ c. search needs)
     (λ c κs. search needs)
     (λ c. search needs)
-    (λ c. search needs)
     (λ c κs. search needs)
-    (λ c. search needs)
     returns-2
-    returns-3
-    returns-4)
+    returns-3)

@@ -1,0 +1,22 @@
+-- `checks::records::figures_agree` meets its contract. Assumes nothing.
+use borrow.Author.Needs.{needs}
+use Rattle.checks.proofs.Handed.{agree}
+use Rattle.checks.proofs.records.figures_agree.Statement.{statement}
+use Rattle.checks.proofs.records.figures_agree.Tie as tie
+
+returns : tie.Need-returns
+returns c =
+    let called = c .before .before .before .before .station-air-judge .ensures in
+    agree _ 1 (c .before .before .word .ensures) (called .0) (c .stand-on .ensures) (called .1 .0)
+
+pub figures-agree-spec : {M : Type 1} → statement M
+figures-agree-spec =
+    tie.close
+    (tie.spec
+    (λ c. search needs)
+    (λ c κs. search needs)
+    (λ c κs. search needs)
+    (λ c. search needs)
+    (λ c. search needs)
+    (λ c κs. search needs)
+    returns)

@@ -1,0 +1,25 @@
+-- `exports::lent::put_figures` meets its contract. Assumes nothing.
+use borrow.Author.Needs.{needs}
+use native.Mathlib.Nat.{le-trans}
+use lib.Dec.{lit≤}
+use Rattle.exports.specs.Lent.{figureValues}
+use Rattle.exports.proofs.Places.{fills}
+use Rattle.exports.proofs.lent.put_figures.Statement.{statement}
+use Rattle.exports.proofs.lent.put_figures.Tie as tie
+
+returns : tie.Need-returns
+returns c = fills (figureValues (c .args .figures)) (c .args .lent .now) (search needs)
+
+pub put-figures-spec : {M : Type 1} → statement M
+put-figures-spec =
+    tie.close
+    (tie.spec
+    (λ c. search needs)
+    (λ c. le-trans {m = 7} (lit≤ tt) (search needs))
+    (λ c. le-trans {m = 7} (lit≤ tt) (search needs))
+    (λ c. le-trans {m = 7} (lit≤ tt) (search needs))
+    (λ c. le-trans {m = 7} (lit≤ tt) (search needs))
+    (λ c. le-trans {m = 7} (lit≤ tt) (search needs))
+    (λ c. search needs)
+    (λ c. search needs)
+    returns)

@@ -1,0 +1,12 @@
+-- `exports::lent::put_one` meets its contract. Assumes nothing.
+use borrow.Author.Needs.{needs}
+use mathlib.Core.List.{[], _∷_}
+use Rattle.exports.proofs.Places.{fills}
+use Rattle.exports.proofs.lent.put_one.Statement.{statement}
+use Rattle.exports.proofs.lent.put_one.Tie as tie
+
+returns : tie.Need-returns
+returns c = fills (c .args .a ∷ []) (c .args .lent .now) (search needs)
+
+pub put-one-spec : {M : Type 1} → statement M
+put-one-spec = tie.close (tie.spec (λ c. search needs) (λ c. search needs) returns)

@@ -1,0 +1,77 @@
+// What is written to the first places of a lent array of doubles.
+ghost use mathlib.Core.Path.{_≡_};
+ghost use Prim.Native.Nat.{_≤_};
+ghost use mathlib.Core.List.{[], _∷_};
+ghost use lib.ListN.{length};
+ghost use Rattle.refusal.specs.Refusals.{numberOf, valuesOf, listed};
+ghost use Rattle.exports.specs.Lent.{handedOut, stationValues, figureValues};
+use density_altitude::inverse::Station;
+use mast::figures::Figures;
+use refusal::Refusal;
+use refusal::Values;
+use refusal::handed_out;
+use refusal::number;
+
+pub(crate) fn put_one(lent: &mut [f64], a: f64)
+    requires { ⌜ 1 ≤ length (now lent) ⌝ }
+    ensures { λ _. ⌜ now (lent .exit) ≡ handedOut (a ∷ []) (now (lent .entry)) ⌝ }
+{
+    lent[0] = a;
+}
+
+pub(crate) fn put_two(lent: &mut [f64], a: f64, b: f64)
+    requires { ⌜ 2 ≤ length (now lent) ⌝ }
+    ensures { λ _. ⌜ now (lent .exit) ≡ handedOut (a ∷ b ∷ []) (now (lent .entry)) ⌝ }
+{
+    lent[0] = a;
+    lent[1] = b;
+}
+
+pub(crate) fn put_station(lent: &mut [f64], station: Station)
+    requires { ⌜ 3 ≤ length (now lent) ⌝ }
+    ensures { λ _. ⌜ now (lent .exit) ≡ handedOut (stationValues station) (now (lent .entry)) ⌝ }
+{
+    lent[0] = station.altitude_m;
+    lent[1] = station.temperature_c;
+    lent[2] = station.pressure_hpa;
+}
+
+pub(crate) fn put_figures(lent: &mut [f64], figures: Figures)
+    requires { ⌜ 7 ≤ length (now lent) ⌝ }
+    ensures { λ _. ⌜ now (lent .exit) ≡ handedOut (figureValues figures) (now (lent .entry)) ⌝ }
+{
+    lent[0] = figures.altitude_m;
+    lent[1] = figures.temperature_c;
+    lent[2] = figures.pressure_hpa;
+    lent[3] = figures.density_kg_m3;
+    lent[4] = figures.speed_of_sound_mps;
+    lent[5] = figures.pressure_altitude_m;
+    lent[6] = figures.density_matched_altitude_m;
+}
+
+fn put_values(lent: &mut [f64], values: Values)
+    requires { ⌜ 2 ≤ length (now lent) ⌝ }
+    ensures { λ _. ⌜ now (lent .exit) ≡ handedOut (listed values) (now (lent .entry)) ⌝ }
+{
+    match values {
+        Values::None => {}
+        Values::One(a) => put_one(lent, a),
+        Values::Two(a, b) => put_two(lent, a, b),
+    }
+}
+
+fn wide(n: u8) -> u32
+    ensures { λ r. ⌜ r ≡ n ⌝ }
+{
+    n as u32
+}
+
+// The refusal's number, with its values in the first places.
+pub(crate) fn put_refusal(lent: &mut [f64], refusal: Refusal) -> u32
+    requires { ⌜ 2 ≤ length (now lent) ⌝ }
+    ensures { λ r. ⌜ r ≡ numberOf refusal ⌝ }
+    ensures { λ _. ⌜ now (lent .exit) ≡ handedOut (valuesOf refusal) (now (lent .entry)) ⌝ }
+{
+    put_values(lent, handed_out(refusal));
+    wide(number(refusal))
+}

@@ -1,0 +1,128 @@
+-- Dry air has no vapour: humidity 0 times and over anything is 0 or NaN, which is not above 1. So 14 is never answered with 06. Assumes nothing.
+use mathlib.Core.Path.{_≡_, refl, sym, ap, _∙_}
+use mathlib.Core.Bool.{Bool, true, false, _&&_, _||_, cond, true≢false, false≢true}
+use mathlib.Core.List.{List, [], _∷_, _++_}
+use Prim.Native.Nat.{ℕ, zero, suc, _*_, _<_}
+use native.Mathlib.Nat.{zero-mul}
+use native.Mathlib.Omega.{arith}
+use lib.IntN.{pos}
+use lib.Dec.{eqb}
+use lib.Ieee.{Float, nan, inf, fin, binary64, up, down, unlike, round, neg, mul, div, lt, eq, ofBits}
+use lib.Ieee.Fits.{up-pos, down-pos}
+use borrow.Author.Tests.{ne-eqb}
+use Rattle.elementary.specs.Places.{places}
+use Rattle.elementary.specs.Decimals.{one}
+use Rattle.elementary.specs.Operators.{_⊗_, _⊘_}
+use Rattle.elementary.proofs.Rounding.{round-opposite}
+use Rattle.elementary.proofs.Scaled.{zero-bits}
+use Rattle.humid_air.specs.MoistAir.{moleFraction, moleFractionCelsius}
+use Rattle.refusal.specs.Outcomes.{Outcome, accepted, refused, Row, row, _then_}
+use Rattle.refusal.proofs.Rows.{then-append, then-same}
+use Rattle.density_altitude.specs.Inverse.{stationRows}
+use Rattle.record.specs.declared.readings.Entry.{Entry}
+use Rattle.record.specs.declared.readings.Entry.the-variants.{Absent, Present}
+use Rattle.record.specs.declared.readings.Readings.{Readings}
+use Rattle.record.specs.Fields.{altitude, temperature, stationPressure, qnh, humidity, densityAltitude}
+use Rattle.record.specs.Readings.{isPresent, entryOf}
+use Rattle.mast.specs.declared.figures.Figures.{Figures}
+use Rattle.mast.specs.declared.figures.Resolved.{Resolved}
+use Rattle.mast.specs.Checks.{has, isClash}
+use Rattle.mast.specs.Figures.{givenTemperature, valueOrZero, shownTemperature, shownPressure, figuresOf}
+use Rattle.mast.specs.Judge.{airRows, wayRows, resolvedBy, judged}
+use Rattle.mast.specs.Laws.{Dry, without, NotWith06}
+
+-- ---- zero or NaN
+data Null : Float → Type 0 where
+  not-a-number : Null nan
+  zeros : (s : Bool) → Null (fin s 0 (pos 0))
+
+round-null : (s : Bool) (num den : ℕ) → num ≡ 0 → 0 < den → round binary64 s num den ≡ fin s 0 (pos 0)
+unfolding ofBits neg
+round-null false num den z D = sym (zero-bits num den z D)
+round-null true num den z D = round-opposite binary64 num den ∙ ap neg (sym (zero-bits num den z D))
+
+rounded : (s : Bool) (num den : ℕ) → num ≡ 0 → 0 < den → Null (round binary64 s num den)
+rounded s num den z D = rw (round-null s num den z D) (zeros s)
+
+mul-null : (x y : Float) → Null x → Null (x ⊗ y)
+unfolding mul
+mul-null x y not-a-number = not-a-number
+mul-null x nan (zeros s) = not-a-number
+mul-null x (inf t) (zeros s) = not-a-number
+mul-null x (fin t n d) (zeros s) = rounded (unlike s t) (0 * (n * up d)) (1 * down d) (zero-mul (n * up d)) (omega (arith, down-pos d))
+
+div-null : (x y : Float) → Null x → Null (x ⊘ y)
+unfolding div
+div-null x y not-a-number = not-a-number
+div-null x nan (zeros s) = not-a-number
+div-null x (inf t) (zeros s) = zeros (unlike s t)
+div-null x (fin t zero d) (zeros s) = not-a-number
+div-null x (fin t (suc n) d) (zeros s) = rw (ne-eqb (suc n) 0 (λ e. omega arith)) (rounded (unlike s t) (0 * down d) (suc n * up d * 1) (zero-mul (down d)) (omega (arith, up-pos d)))
+
+not-above : (x : Float) → Null x → lt one x ≡ false
+unfolding lt ofBits
+not-above x not-a-number = refl
+not-above x (zeros true) = refl
+not-above x (zeros false) = refl
+
+fraction : (s : Bool) (psv f p : Float) → lt one (moleFraction psv f (fin s 0 (pos 0)) p) ≡ false
+unfolding moleFraction lt eq ofBits
+fraction true psv f p = not-above _ (div-null _ p (mul-null _ f (zeros true)))
+fraction false psv f p = not-above _ (div-null _ p (mul-null _ f (zeros false)))
+
+pub dry : Dry
+unfolding ofBits
+dry = record { zero = λ t p. fraction false _ _ _; minus-zero = λ t p. fraction true _ _ _ }
+
+-- ---- 14 is not answered with 06
+or-right : (x y : Bool) → (x || y) ≡ false → y ≡ false
+or-right true y e = absurd (true≢false e)
+or-right false y e = e
+
+and-right : (x y : Bool) → x ≡ true → (x && y) ≡ false → y ≡ false
+and-right true y h e = e
+and-right false y h e = absurd (false≢true h)
+
+absent : (e : Entry) → isPresent e ≡ false → valueOrZero e ≡ valueOrZero Absent
+absent Absent h = refl
+absent (Present x) h = absurd (true≢false h)
+
+without-append : (n : ℕ) (xs ys : List Row) → without n (xs ++ ys) ≡ without n xs ++ without n ys
+without-append n [] ys = refl
+without-append n (r ∷ xs) ys = go (eqb (r .number) n) (without-append n xs ys)
+  where
+    go : (b : Bool) → without n (xs ++ ys) ≡ without n xs ++ without n ys
+        → cond b (without n (xs ++ ys)) (r ∷ without n (xs ++ ys)) ≡ cond b (without n xs) (r ∷ without n xs) ++ without n ys
+    go true e = e
+    go false e = ap (λ (l : List Row). r ∷ l) e
+
+-- the inverse has no row 14
+inverse-rows : (d : Float) (t : Entry) → let rows = stationRows places d (givenTemperature t) in without 14 rows ≡ rows
+inverse-rows d Absent = refl
+inverse-rows d (Present t) = refl
+
+air : (a : Resolved) (o : Outcome Figures) → a .«humidity_percent» ≡ valueOrZero Absent → (airRows a then o) ≡ (without 14 (airRows a) then o)
+air a o none = ap (λ (b : Bool). cond b (refused 14 []) (without 14 (airRows a) then o)) (ap (λ (h : Float). lt one (moleFractionCelsius places (shownTemperature a) (shownPressure a) h)) none ∙ dry .zero _ _)
+
+by-entry : (r : Readings) (e : Entry) → isPresent e ≡ true → has r humidity ≡ false
+    → let rows = wayRows r e ++ airRows (resolvedBy r e) in let o = accepted (figuresOf (resolvedBy r e)) in (rows then o) ≡ (without 14 rows then o)
+by-entry r Absent h none = absurd (false≢true h)
+by-entry r (Present d) h none =
+    let t = entryOf r temperature in
+    let rows = stationRows places d (givenTemperature t) in
+    let a = resolvedBy r (Present d) in
+    let o = accepted (figuresOf a) in
+    then-append rows (airRows a) o
+    ∙ then-same rows (λ _. air a o (absent (entryOf r humidity) none))
+    ∙ sym (then-append rows (without 14 (airRows a)) o)
+    ∙ ap (λ (l : List Row). (l ++ without 14 (airRows a)) then o) (sym (inverse-rows d t))
+    ∙ ap (λ (l : List Row). l then o) (sym (without-append 14 rows (airRows a)))
+
+pub not-with-06 : NotWith06
+unfolding judged
+not-with-06 r with06 =
+    let pressure = has r stationPressure in
+    let others = has r altitude || pressure || has r qnh in
+    let d = entryOf r densityAltitude in
+    then-same (row (isClash r) 9 [] ∷ []) (λ none.
+    by-entry r d with06 (or-right others (has r humidity) (and-right (isPresent d) (others || has r humidity) with06 (or-right (pressure && has r qnh) (isPresent d && (others || has r humidity)) (none .0)))))

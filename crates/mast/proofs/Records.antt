@@ -1,0 +1,83 @@
+-- What the judge's answer depends on, by the laws of the record: its first 256 bytes, nothing past a refusal 6 to 8, and no order of its fields. Assumes nothing.
+use mathlib.Core.Path.{_≡_, refl, sym, ap, subst, _∙_}
+use mathlib.Core.List.{List, [], _∷_, _++_}
+use Prim.Native.Nat.{ℕ, _≤_}
+use native.Mathlib.Omega.{arith}
+use lib.Ieee.{Float}
+use Rattle.elementary.specs.Places.{places}
+use Rattle.refusal.specs.Outcomes.{Outcome, accepted, refused, _⟫_, Row}
+use Rattle.refusal.proofs.Rows.{exactly}
+use Rattle.density_altitude.specs.Inverse.{temperatureRows, stationRows}
+use Rattle.record.specs.declared.readings.Entry.{Entry}
+use Rattle.record.specs.declared.readings.Entry.the-variants.{Absent, Present}
+use Rattle.record.specs.declared.readings.Readings.{Readings}
+use Rattle.record.specs.Fields.{altitude, temperature, stationPressure, qnh, humidity, densityAltitude}
+use Rattle.record.specs.Readings.{entryOf, readRecord}
+use Rattle.record.proofs.FirstBytes.{first-bytes}
+use Rattle.record.proofs.Following.{nothing-after}
+use Rattle.record.proofs.Exchange.{exchange}
+use Rattle.mast.specs.Checks.{finiteRows, pressureRows, humidityRows, present}
+use Rattle.mast.specs.Figures.{givenTemperature, figuresOf}
+use Rattle.mast.specs.Judge.{airRows, wayRows, resolved, readingRows, judged, judge}
+use Rattle.mast.specs.Laws.{FirstBytes, NothingAfter, AnyOrder}
+
+pub first-bytes-judged : FirstBytes
+unfolding judge
+first-bytes-judged s = ap (λ (o : Outcome Readings). o ⟫ judged) (first-bytes s)
+
+pub any-order : AnyOrder
+unfolding judge
+any-order s f g t r q before one one′ e = ap (λ (o : Outcome Readings). o ⟫ judged) (exchange f g t one one′ s before e ∙ sym e)
+
+-- ---- a refusal of readings is none of 6 to 8
+abbrev Outside : ℕ → Type 0
+Outside k = 6 ≤ k → k ≤ 8 → ⊥
+
+abbrev AllOutside : List Row → Type 0
+AllOutside [] = Unit {0}
+AllOutside (r ∷ rows) = Outside (r .number) × AllOutside rows
+
+both : (xs ys : List Row) → AllOutside xs → AllOutside ys → AllOutside (xs ++ ys)
+both [] ys h k = k
+both (r ∷ xs) ys h k = (h .0, both xs ys (h .1) k)
+
+here-outside : (xs : List Row) (r : Row) (ys : List Row) → AllOutside (xs ++ r ∷ ys) → Outside (r .number)
+here-outside [] r ys h = h .0
+here-outside (x ∷ xs) r ys h = here-outside xs r ys (h .1)
+
+where-present : (rows : Float → List Row) → ((x : Float) → AllOutside (rows x)) → (e : Entry) → AllOutside (present rows e)
+where-present rows h Absent = tt
+where-present rows h (Present x) = h x
+
+way-outside : (r : Readings) (e : Entry) → AllOutside (wayRows r e)
+way-outside r (Present d) = go (entryOf r temperature)
+  where
+    go : (t : Entry) → AllOutside (stationRows places d (givenTemperature t))
+    go Absent = omega arith
+    go (Present t) = omega arith
+way-outside r Absent =
+    let a = present finiteRows (entryOf r altitude) in
+    let t = present temperatureRows (entryOf r temperature) in
+    let p = present pressureRows (entryOf r stationPressure) in
+    let q = present pressureRows (entryOf r qnh) in
+    let h = present humidityRows (entryOf r humidity) in
+    let to-02 = both a t (where-present finiteRows (λ x. omega arith) (entryOf r altitude)) (where-present temperatureRows (λ x. omega arith) (entryOf r temperature)) in
+    let to-03 = both (a ++ t) p to-02 (where-present pressureRows (λ x. omega arith) (entryOf r stationPressure)) in
+    let to-04 = both (a ++ t ++ p) q to-03 (where-present pressureRows (λ x. omega arith) (entryOf r qnh)) in
+    (omega arith, both (a ++ t ++ p ++ q) h to-04 (where-present humidityRows (λ x. omega arith) (entryOf r humidity)))
+
+of-readings : (r : Readings) (k : ℕ) (vs : List Float) → judged r ≡ refused k vs → Outside k
+unfolding judged
+of-readings r k vs e =
+    let d = entryOf r densityAltitude in
+    let f = exactly (figuresOf (resolved r)) (readingRows r) .refused-because e in
+    let all : AllOutside (readingRows r) = (omega arith, both (wayRows r d) (airRows (resolved r)) (way-outside r d) (omega arith)) in
+    subst Outside (f .numbered) (here-outside (f .earlier) (f .here) (f .later) (subst AllOutside (f .all) all))
+
+pub nothing-after-judged : NothingAfter
+unfolding judge
+nothing-after-judged k vs low high s t e = go (readRecord s) refl e
+  where
+    go : (o : Outcome Readings) → readRecord s ≡ o → (o ⟫ judged) ≡ refused k vs → (readRecord (s ++ t) ⟫ judged) ≡ refused k vs
+    go (accepted r) h e = absurd (of-readings r k vs e low high)
+    go (refused n ws) h e = let same : n ≡ k = cc in ap (λ (o : Outcome Readings). o ⟫ judged) (nothing-after s t h (λ five. omega arith)) ∙ e

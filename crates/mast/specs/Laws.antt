@@ -1,0 +1,49 @@
+-- What may be relied on of the judge beyond its contracts, document 01. Definitions only.
+use Prim.Native.Nat.{ℕ, _≤_}
+use mathlib.Core.Path.{_≡_}
+use mathlib.Core.Bool.{true, false, cond}
+use mathlib.Core.List.{List, [], _∷_, _++_}
+use lib.Dec.{eqb}
+use lib.Ieee.{Float, lt}
+use lib.ListN.{length, take}
+use Rattle.elementary.specs.Places.{places}
+use Rattle.elementary.specs.Decimals.{decimal, one}
+use Rattle.humid_air.specs.MoistAir.{moleFractionCelsius}
+use Rattle.refusal.specs.Outcomes.{accepted, refused, Row, _then_}
+use Rattle.record.specs.declared.readings.Readings.{Readings}
+use Rattle.record.specs.Fields.{sizeOf, densityAltitude}
+use Rattle.record.specs.Readings.{readRecord}
+use Rattle.mast.specs.Checks.{has}
+use Rattle.mast.specs.Figures.{figuresOf}
+use Rattle.mast.specs.Judge.{resolved, readingRows, judged, judge}
+
+-- ---- dry air
+-- there is never more vapour than air at the humidity h, whatever t in °C and p in hPa are, NaN and the infinities too
+abbrev NeverTooMuchVapor : Float → Type 0
+NeverTooMuchVapor h = (t p : Float) → lt one (moleFractionCelsius places t p h) ≡ false
+
+pub record Dry : Type 0 where
+  pub zero : NeverTooMuchVapor (decimal "0")
+  pub minus-zero : NeverTooMuchVapor (decimal "-0")
+
+-- "14 (not with 06)": with 06 the answer is that of the rows without 14
+abbrev pub without : ℕ → List Row → List Row
+without n [] = []
+without n (r ∷ rows) = cond (eqb (r .number) n) (without n rows) (r ∷ without n rows)
+
+abbrev pub NotWith06 : Type 0
+NotWith06 = (r : Readings) → has r densityAltitude ≡ true → judged r ≡ (without 14 (readingRows r) then accepted (figuresOf (resolved r)))
+
+-- ---- the bytes of a record
+-- it is judged by its first 256 bytes
+abbrev pub FirstBytes : Type 0
+FirstBytes = (s : List ℕ) → judge (take 256 s) ≡ judge s
+
+-- a refusal 6, 7 or 8 stays whatever follows the record
+abbrev pub NothingAfter : Type 0
+NothingAfter = (number : ℕ) (values : List Float) → 6 ≤ number → number ≤ 8 → (s t : List ℕ) → judge s ≡ refused number values → judge (s ++ t) ≡ refused number values
+
+-- "any tag order": two fields f and g that follow each other, after whole fields s and before any t, may change places
+abbrev pub AnyOrder : Type 0
+AnyOrder = (s f g t : List ℕ) (r q : Readings) → readRecord s ≡ accepted r → length f ≡ sizeOf f → length g ≡ sizeOf g → readRecord (s ++ (f ++ (g ++ t))) ≡ accepted q
+    → judge (s ++ (g ++ (f ++ t))) ≡ judge (s ++ (f ++ (g ++ t)))

@@ -1,0 +1,14 @@
+-- A field by its checks, the record field by field, and a turn of the reading.
+pub mod FieldChecks
+pub mod Walk
+pub mod Entries
+pub mod Turn
+-- What a record depends on: a whole field on its own bytes, a refusal other than 5 on nothing past it, a record on its first 256 bytes and on no order of
+-- its fields.
+pub mod Followed
+pub mod FirstBytes
+pub mod Following
+pub mod Exchange
+-- The walks of the field reader's functions.
+pub mod Thin
+pub mod Held

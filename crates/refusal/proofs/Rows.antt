@@ -1,0 +1,93 @@
+-- Lists of rows: one after the other, what comes after them, and that an outcome of rows is exactly caused by them. Assumes nothing.
+use mathlib.Core.Path.{_≡_, refl, sym, ap, ap₂, _∙_}
+use mathlib.Core.Bool.{Bool, true, false, cond}
+use mathlib.Core.List.{List, [], _∷_, _++_}
+use Prim.Native.Nat.{ℕ}
+use native.Mathlib.Omega.{arith}
+use lib.Ieee.{Float}
+use Rattle.refusal.specs.declared.Check.{Check}
+use Rattle.refusal.specs.Outcomes.{Outcome, accepted, refused, _⟫_, Row, _then_, checked, passed}
+use Rattle.refusal.specs.Causes.{NoneHolds, FirstHolds, ExactlyCaused}
+
+-- ---- one list after the other
+by-first : {A : Type 0} (b : Bool) (n : ℕ) (vs : List Float) {o p : Outcome A} → o ≡ p → cond b (refused n vs) o ≡ cond b (refused n vs) p
+by-first b n vs e = ap (cond b (refused n vs)) e
+
+pub then-append : {A : Type 0} (xs ys : List Row) (o : Outcome A) → ((xs ++ ys) then o) ≡ (xs then ys then o)
+then-append [] ys o = refl
+then-append (r ∷ xs) ys o = by-first (r .holds) (r .number) (r .values) (then-append xs ys o)
+
+pub then-next : {A B : Type 0} (xs : List Row) (o : Outcome A) (k : A → Outcome B) → ((xs then o) ⟫ k) ≡ (xs then (o ⟫ k))
+then-next [] o k = refl
+then-next (r ∷ xs) o k = go (r .holds) (then-next xs o k)
+  where
+    go : (b : Bool) → ((xs then o) ⟫ k) ≡ (xs then (o ⟫ k)) → (cond b (refused (r .number) (r .values)) (xs then o) ⟫ k) ≡ cond b (refused (r .number) (r .values)) (xs then (o ⟫ k))
+    go true rest = refl
+    go false rest = rest
+
+pub passed-append : (xs ys : List Row) → (passed xs ⟫ λ _. passed ys) ≡ passed (xs ++ ys)
+passed-append xs ys = then-next xs (accepted tt) (λ _. passed ys) ∙ sym (then-append xs ys (accepted tt))
+
+-- the first refusal of two checks
+pub first-passed : (xs ys : List Row) {o p q : Outcome (Unit {0})} → o ≡ (p ⟫ (λ _. q)) → p ≡ passed xs → q ≡ passed ys → o ≡ passed (xs ++ ys)
+first-passed xs ys e f g = e ∙ ap₂ (λ (p q : Outcome (Unit {0})). p ⟫ (λ _. q)) f g ∙ passed-append xs ys
+
+-- what comes after a check k that is found to be k′
+pub after-check : {A : Type 0} (rows : List Row) (o : Outcome A) {k k′ : Check} → k ≡ k′ → checked k ≡ passed rows → (checked k′ ⟫ (λ _. o)) ≡ (rows then o)
+after-check rows o told e = ap (λ (p : Outcome (Unit {0})). p ⟫ (λ _. o)) (sym (ap checked told) ∙ e) ∙ then-next rows (accepted tt) (λ _. o)
+
+-- ---- where no row holds
+pub then-none : {A : Type 0} {o : Outcome A} (rows : List Row) → NoneHolds rows → (rows then o) ≡ o
+then-none [] h = refl
+then-none {A} {o} (r ∷ rows) h = ap (λ (b : Bool). cond b (refused (r .number) (r .values)) (rows then o)) (h .0) ∙ then-none rows (h .1)
+
+-- what comes after rows matters only there
+pub then-to : {A : Type 0} {o p q : Outcome A} (rows : List Row) → (NoneHolds rows → o ≡ q → p ≡ q) → (rows then o) ≡ q → (rows then p) ≡ q
+then-to [] next e = next tt e
+then-to {A} {o} {p} {q} (r ∷ rows) next e = go (r .holds) refl e (λ h. then-to rows (λ none. next (h, none)))
+  where
+    go : (b : Bool) → r .holds ≡ b → cond b (refused (r .number) (r .values)) (rows then o) ≡ q → (r .holds ≡ false → (rows then o) ≡ q → (rows then p) ≡ q)
+        → cond b (refused (r .number) (r .values)) (rows then p) ≡ q
+    go true h e rest = e
+    go false h e rest = rest h e
+
+pub then-same : {A : Type 0} {o p : Outcome A} (rows : List Row) → (NoneHolds rows → o ≡ p) → (rows then o) ≡ (rows then p)
+then-same rows same = sym (then-to rows (λ none e. sym (same none) ∙ e) refl)
+
+pub then-accepted : {A : Type 0} {o : Outcome A} {y : A} (rows : List Row) → (rows then o) ≡ accepted y → NoneHolds rows × (o ≡ accepted y)
+then-accepted [] e = (tt, e)
+then-accepted {A} {o} {y} (r ∷ rows) e = go (r .holds) refl e (λ f. then-accepted rows f)
+  where
+    go : (b : Bool) → r .holds ≡ b → cond b (refused (r .number) (r .values)) (rows then o) ≡ accepted y → ((rows then o) ≡ accepted y → NoneHolds rows × (o ≡ accepted y))
+        → ((r .holds ≡ false) × NoneHolds rows) × (o ≡ accepted y)
+    go true h e rest = let z : _≡_ {A = ℕ} 0 1 = cc in absurd (omega arith)
+    go false h e rest = ((h, rest e .0), rest e .1)
+
+-- ---- the first row that holds
+module _ {A : Type 0} (x : A) where
+  -- the first row that holds, one row further down
+  below : (r : Row) {rows : List Row} {n : ℕ} {vs : List Float} → r .holds ≡ false → FirstHolds rows n vs → FirstHolds (r ∷ rows) n vs
+  below r h f = record { earlier = r ∷ f .earlier; here = f .here; later = f .later; all = ap (λ (l : List Row). r ∷ l) (f .all); none = (h, f .none); holds = f .holds; numbered = f .numbered; valued = f .valued }
+
+  refusing : (rows : List Row) {n : ℕ} {vs : List Float} → (rows then accepted x) ≡ refused n vs → FirstHolds rows n vs
+  refusing [] e = let z : _≡_ {A = ℕ} 0 1 = cc in absurd (omega arith)
+  refusing (r ∷ rows) {n} {vs} e = go (r .holds) refl e (λ f. refusing rows f)
+    where
+      go : (b : Bool) → r .holds ≡ b → cond b (refused (r .number) (r .values)) (rows then accepted x) ≡ refused n vs → ((rows then accepted x) ≡ refused n vs → FirstHolds rows n vs)
+          → FirstHolds (r ∷ rows) n vs
+      go true h e rest = record { earlier = []; here = r; later = rows; all = refl; none = tt; holds = h; numbered = cc; valued = cc }
+      go false h e rest = below r h (rest e)
+
+  refused-at : (rows : List Row) {n : ℕ} {vs : List Float} → FirstHolds rows n vs → (rows then accepted x) ≡ refused n vs
+  refused-at rows {n} {vs} f =
+      ap (λ (l : List Row). l then accepted x) (f .all)
+      ∙ then-append (f .earlier) (f .here ∷ f .later) (accepted x) ∙ then-none (f .earlier) (f .none)
+      ∙ ap (λ (b : Bool). cond b (refused (f .here .number) (f .here .values)) (f .later then accepted x)) (f .holds)
+      ∙ ap₂ (λ (k : ℕ) (ws : List Float). refused k ws) (f .numbered) (f .valued)
+
+  accepting : (rows : List Row) {y : A} → (rows then accepted x) ≡ accepted y → NoneHolds rows × (x ≡ y)
+  accepting rows e = let a = then-accepted rows e in (a .0, cc)
+
+  -- an outcome of rows is exactly caused by them
+  pub exactly : (rows : List Row) → ExactlyCaused rows x (rows then accepted x)
+  exactly rows = record { refused-because = λ e. refusing rows e; refused-where = λ f. refused-at rows f; accepted-because = λ e. accepting rows e; accepted-where = λ h. then-none rows h }

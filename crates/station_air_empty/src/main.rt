@@ -1,0 +1,4 @@
+// The program on an empty record, which has no altitude.
+fn main() {
+    reply::reply();
+}

@@ -1,0 +1,139 @@
+// The text of an answer: two lines with the seven figures, or `refused` and the number.
+ghost use mathlib.Core.Path.{_≡_};
+ghost use Prim.Native.Nat.{_+_, _≤_, _<_};
+ghost use mathlib.Core.List.{[], _∷_};
+ghost use lib.ListN.{length, take};
+ghost use Rattle.refusal.specs.Refusals.{numberOf};
+ghost use Rattle.mast.specs.Judge.{outcome, judge};
+ghost use Rattle.text.specs.Text.{Appended, Holds, written, hexDigit, hexDigits, cell, decimal, stationLine, airLine, refusalLine, answerText};
+use mast::figures::Figures;
+use mast::judge::Answer;
+use mast::judge::judge;
+use record::bits::pattern;
+use refusal::Refusal;
+use refusal::number;
+
+// The first `len` bytes are the text: at most 131, the two lines'.
+pub struct Text {
+    pub bytes: [u8; 131],
+    pub len: usize,
+}
+
+fn no_text() -> Text
+    ensures { λ r. ⌜ (written r ≡ []) × (r .len ≡ 0) ⌝ }
+{
+    Text {
+        bytes: [0; 131],
+        len: 0,
+    }
+}
+
+fn with_byte(text: Text, b: u8) -> Text
+    requires { ⌜ text .len < 131 ⌝ }
+    ensures { λ r. ⌜ Appended text (b ∷ []) r ⌝ }
+{
+    let at = text.len;
+    let mut longer = text;
+    longer.bytes[at] = b;
+    longer.len = at + 1;
+    longer
+}
+
+fn with_word(text: Text, word: &[u8]) -> Text
+    requires { ⌜ text .len + length (now word) ≤ 131 ⌝ }
+    ensures { λ r. ⌜ Appended text (now (word .entry)) r ⌝ }
+{
+    let mut longer = text;
+    for i in 0..word.len() {
+        longer = with_byte(longer, word[i]);
+    }
+    longer
+}
+
+// A digit below 16, in upper case.
+fn hex_digit(digit: u8) -> u8
+    requires { ⌜ digit < 16 ⌝ }
+    ensures { λ r. ⌜ r ≡ hexDigit digit ⌝ }
+{
+    if digit < 10 { 48 + digit } else { 55 + digit }
+}
+
+fn with_hex_digits(text: Text, n: u64) -> Text
+    requires { ⌜ text .len + 16 ≤ 131 ⌝ }
+    ensures { λ r. ⌜ Appended text (hexDigits 16 n) r ⌝ }
+{
+    let mut longer = text;
+    let mut left: u64 = 16;
+    while left > 0 {
+        left -= 1;
+        longer = with_byte(longer, hex_digit(((n >> (4 * left)) % 16) as u8));
+    }
+    longer
+}
+
+// A blank and a double.
+fn with_cell(text: Text, x: f64) -> Text
+    requires { ⌜ text .len + 17 ≤ 131 ⌝ }
+    ensures { λ r. ⌜ Appended text (cell x) r × (r .len ≡ text .len + 17) ⌝ }
+{
+    with_hex_digits(with_byte(text, b' '), pattern(x))
+}
+
+fn with_number(text: Text, n: u8) -> Text
+    requires { ⌜ (n < 100) × (text .len + 2 ≤ 131) ⌝ }
+    ensures { λ r. ⌜ Appended text (decimal n) r × (r .len ≤ text .len + 2) ⌝ }
+{
+    if n < 10 {
+        return with_byte(text, 48 + n);
+    }
+    with_byte(with_byte(text, 48 + n / 10), 48 + n % 10)
+}
+
+fn station_line(figures: Figures) -> Text
+    ensures { λ r. ⌜ (written r ≡ stationLine figures) × (r .len ≡ 59) ⌝ }
+{
+    let word = with_word(no_text(), b"station");
+    let altitude = with_cell(word, figures.altitude_m);
+    let temperature = with_cell(altitude, figures.temperature_c);
+    let pressure = with_cell(temperature, figures.pressure_hpa);
+    with_byte(pressure, b'\n')
+}
+
+fn with_air_line(text: Text, figures: Figures) -> Text
+    requires { ⌜ text .len ≡ 59 ⌝ }
+    ensures { λ r. ⌜ Appended text (airLine figures) r × (r .len ≡ 131) ⌝ }
+{
+    let word = with_word(text, b"air");
+    let density = with_cell(word, figures.density_kg_m3);
+    let sound = with_cell(density, figures.speed_of_sound_mps);
+    let pressure_altitude = with_cell(sound, figures.pressure_altitude_m);
+    let matched_altitude = with_cell(pressure_altitude, figures.density_matched_altitude_m);
+    with_byte(matched_altitude, b'\n')
+}
+
+fn refusal_line(refusal: Refusal) -> Text
+    ensures { λ r. ⌜ (written r ≡ refusalLine (numberOf refusal)) × (r .len ≤ 131) ⌝ }
+{
+    let word = with_word(no_text(), b"refused ");
+    with_byte(with_number(word, number(refusal)), b'\n')
+}
+
+pub fn answer_text(answer: Answer) -> Text
+    ensures { λ r. ⌜ Holds r (answerText (outcome answer)) ⌝ }
+{
+    match answer {
+        Answer::Figures(figures) => with_air_line(station_line(figures), figures),
+        Answer::Refused(refusal) => refusal_line(refusal),
+    }
+}
+
+// The text of the answer to a record, judged by its first 256 bytes. The record is left as it was.
+pub fn answer(record: &[u8]) -> Text
+    ensures answered { λ r. ⌜ Holds r (answerText (judge (take 256 (now («record» .entry))))) ⌝ }
+    ensures kept { λ _. ⌜ now («record» .exit) ≡ now («record» .entry) ⌝ }
+{
+    if record.len() <= 256 {
+        return answer_text(judge(record));
+    }
+    answer_text(judge(&record[..256]))
+}

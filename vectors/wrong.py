@@ -1,0 +1,157 @@
+"""Writes the lists wrong_*.txt, each line of which the replay must find to differ: lines of the right lists with an answer changed by one unit
+or in sign, a flag or a refusal's number changed, ends moved past the answer, or the form broken. Prints how many lines each list has.
+
+wrong.py FOLDER, where FOLDER has the right lists.
+"""
+import sys
+from pathlib import Path
+
+SIGN = 1 << 63
+INFINITY = 0x7FF0000000000000
+UNIT = 1 << 52  # of a log word's whole part
+
+# How many inputs, as words after the number, and which of them are flags of an `Option`, for each function of source_*.txt.
+INPUTS = {0x03: 2, 0x04: 3, 0x05: 4, 0x07: 3, 0x08: 3, 0x0A: 3, 0x0B: 2, 0x0C: 3, 0x0D: 6, 0x10: 2, 0x11: 2, 0x12: 2, 0x16: 2, 0x17: 3, 0x19: 3, 0x1A: 3}
+FLAGS = {0x0D: [2, 4], 0x19: [2], 0x1A: [2]}
+
+
+def text(words):
+    return " ".join(f"{word:016x}" for word in words) + "\n"
+
+
+def words_of(line):
+    return [int(word, 16) for word in line.split()]
+
+
+def changed(word):
+    """Another answer, as near as there is one: a zero's sign, a NaN to infinity, else the last bit."""
+    if word in (0, SIGN):
+        return word ^ SIGN
+    return INFINITY if word & ~SIGN > INFINITY else word ^ 1
+
+
+def with_word(words, at, word):
+    return text(words[:at] + [word] + words[at + 1 :])
+
+
+def picked(lines):
+    """The first, the middle and the last."""
+    return [lines[i] for i in sorted({0, len(lines) // 2, len(lines) - 1})]
+
+
+def broken(line):
+    """The form broken at one byte: a digit in upper case, no digit, no blank, no newline. The first word stays, which fixes the length of some lines."""
+    digit = next((i for i, c in enumerate(line) if i > 16 and c in "abcdef"), None)
+    if digit:
+        yield line[:digit] + line[digit].upper() + line[digit + 1 :]
+    yield line[:32] + "g" + line[33:]
+    yield line[:16] + "0" + line[17:]
+    yield line[:-1] + " "
+
+
+def exact(lines, inputs):
+    for line in picked(lines):
+        words = words_of(line)
+        for at in range(inputs, len(words)):
+            yield with_word(words, at, changed(words[at]))
+    yield from broken(lines[0])
+    yield lines[0][:-1]
+
+
+def rank(word):
+    """Doubles in order, as whole numbers."""
+    return -(word & ~SIGN) if word & SIGN else word
+
+
+def pattern(rank):
+    return SIGN | -rank if rank < 0 else rank
+
+
+def past(low, high):
+    """Ends just above and just below the two ends, all of one sign."""
+    return [(high + 1, high + 2), (low - 2, low - 1)]
+
+
+def ends(lines, inputs):
+    for line in picked(lines):
+        words = words_of(line)
+        for low, high in past(rank(words[-2]), rank(words[-1])):
+            yield text(words[:inputs] + [pattern(low), pattern(high)])
+    yield from broken(lines[0])
+    yield lines[0][:-1]
+
+
+def log_ends(lines):
+    value = lambda k, f: (k - (k >> 63 << 64)) * UNIT + f
+    for line in picked(lines):
+        x, *words = words_of(line)
+        for low, high in past(value(*words[:2]), value(*words[2:])):
+            yield text([x, low // UNIT % 2**64, low % UNIT, high // UNIT % 2**64, high % UNIT])
+    yield from broken(lines[0])
+    yield lines[0][:-1]
+
+
+def by_number(lines):
+    kinds = {}
+    for line in lines:
+        kinds.setdefault(int(line[:16], 16), []).append(line)
+    return kinds
+
+
+def source(lines, other):
+    """Each function's answers and flags, a function of another list, and a number that no function has."""
+    for number, kind in by_number(lines).items():
+        inputs = 1 + INPUTS.get(number, 1)
+        for line in picked(kind):
+            words = words_of(line)
+            for at in range(inputs, len(words)):
+                yield with_word(words, at, changed(words[at]))
+            for at in FLAGS.get(number, []):
+                yield with_word(words, at, 2)
+        yield from broken(kind[0])
+    yield other
+    yield text([0xFF])
+    yield lines[0][:-1]
+
+
+def records(lines):
+    """Each refusal's number and words, and figures; the record's digits out of form."""
+    kinds = {}
+    for line, data in zip(lines[::2], lines[1::2]):
+        kinds.setdefault(words_of(line)[0], []).append((line, data))
+    for kind in kinds.values():
+        for line, data in picked(kind):
+            words = words_of(line)
+            for at in range(8):
+                yield with_word(words, at, changed(words[at])) + data
+            yield with_word(words, 0, (words[0] + 1) % 16) + data
+        line, data = next((pair for pair in kind if len(pair[1]) > 1), kind[0])
+        if len(data) > 1:
+            yield line + "g" + data[1:]
+        yield line + data[:-1] + "0"
+    yield line + data[:-1]
+
+
+def main(folder):
+    folder = Path(folder)
+    lines = lambda name: (folder / f"{name}.txt").read_text().splitlines(keepends=True)
+
+    def write(name, wrong):
+        wrong = list(wrong)
+        (folder / f"wrong_{name}.txt").write_text("".join(wrong))
+        print(f"wrong_{name}.txt: {len(wrong)} lines")
+
+    for function, inputs in [("log", 1), ("antilog", 2), ("power", 2), ("exp", 1), ("ln", 1), ("sqrt", 1)]:
+        write(f"rules_{function}", exact(lines(f"rules_{function}"), inputs))
+        true = lines(f"true_{function}")
+        write(f"true_{function}", log_ends(true) if function == "log" else ends(true, inputs))
+    parts = ["layers", "humid", "station", "altitudes", "inverse"]
+    for part, other in zip(parts, parts[1:] + parts[:1]):
+        write(f"source_{part}", source(lines(f"source_{part}"), lines(f"source_{other}")[0]))
+    write("records", records(lines("records")))
+    for name in ["published", "round_trips"]:
+        wrong = [line for kind in by_number(lines(name)).values() for line in ends(kind, 4)]
+        write(name, [line for line in wrong if line.endswith("\n") or line.endswith(" ")] + [wrong[-1]])
+
+
+main(sys.argv[1])
