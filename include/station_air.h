@@ -33,7 +33,7 @@ extern "C" {
 #endif
 
 /* Grows whenever an answer to some call can differ from before. */
-#define STATION_AIR_VERSION 1
+#define STATION_AIR_VERSION 2
 
 /* ---- several numbers, with a status ---- */
 

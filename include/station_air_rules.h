@@ -29,13 +29,13 @@ extern "C" {
 double station_air_power(double x, size_t number);
 
 /* Whether x has a log word: where it is finite and above 0. The word is the logarithm to the base 2
- * times 2^52, read off bit by bit as a whole number: whole 2^52 + part, or where *negative is true
- * -(whole 2^52 + part + 1), with part below 2^52. Where there is none, the three numbers keep what
+ * times 2^60, read off bit by bit as a whole number: whole 2^60 + part, or where *negative is true
+ * -(whole 2^60 + part + 1), with part below 2^60. Where there is none, the three numbers keep what
  * they held. The pointers are not NULL and do not overlap. */
 bool station_air_log_word(double x, bool *negative, uint32_t *whole, uint64_t *part);
 
-/* 2 to the power of the word's number / 2^52, rounded once, subnormals, 0 and infinity too. Any three
- * numbers may be passed; a part of 2^52 or more counts into the whole. */
+/* 2 to the power of the word's number / 2^60, rounded once, subnormals, 0 and infinity too. Any three
+ * numbers may be passed; a part of 2^60 or more counts into the whole. */
 double station_air_antilog(bool negative, uint32_t whole, uint64_t part);
 
 #ifdef __cplusplus

@@ -156,7 +156,7 @@ fn ln(calls: u64) -> Row {
     compare(
         "ln",
         calls,
-        inputs::positive(random),
+        inputs::logarithms(random),
         |turn| positive(turn, random),
         |x| number(exports::ln(*x)),
         |x| number(rules::ln(places(), *x)),

@@ -3,7 +3,7 @@
 use crate::exponents::Exponent;
 use crate::places::places;
 use crate::random::Random;
-use crate::rules::antilog;
+use crate::rules::{antilog, exp, ln_units};
 
 fn with_neighbours(xs: &[f64]) -> Vec<f64> {
     xs.iter()
@@ -77,7 +77,7 @@ fn corners() -> Vec<f64> {
     xs
 }
 
-/// What the log word, ln and the square root are tried on.
+/// What the log word is tried on, and the square root and ln among others.
 pub fn positive(random: &mut Random) -> Vec<f64> {
     let powers: Vec<f64> = (-1074..=1023).step_by(9).map(power_of_two).collect();
     let mut xs = outside();
@@ -88,6 +88,39 @@ pub fn positive(random: &mut Random) -> Vec<f64> {
     xs.extend((0..300).map(|_| random.between(0.25, 4.0)));
     xs.extend((0..100).map(|_| random.between(100.0, 2000.0)));
     xs
+}
+
+/// What ln is tried on.
+pub fn logarithms(random: &mut Random) -> Vec<f64> {
+    let mut xs = positive(random);
+    xs.extend(halfway());
+    xs
+}
+
+/// Doubles whose logarithm lies halfway between two doubles before it is rounded. It has one to eight places more than a
+/// double then; with more such doubles are rare.
+fn halfway() -> Vec<f64> {
+    let random = &mut Random(0);
+    let mut xs = Vec::new();
+    for more in 1..=8 {
+        let least = power_of_two(52 - places() as i32 + more);
+        for sign in [1.0, -1.0] {
+            // exp's answers alone are too regular, so their last bits are drawn
+            let draw = || {
+                let x = exp(places(), sign * random.between(least, 2.0 * least));
+                f64::from_bits(x.to_bits() ^ random.next() >> 48)
+            };
+            let draws = std::iter::repeat_with(draw);
+            xs.extend(draws.filter(|x| is_halfway(*x)).take(4));
+        }
+    }
+    xs
+}
+
+fn is_halfway(x: f64) -> bool {
+    let size = ln_units(places(), x).map_or(0, i128::unsigned_abs);
+    // the last place that a double keeps is the 53rd
+    size >> 53 != 0 && size.trailing_zeros() + 1 == 128 - size.leading_zeros() - 53
 }
 
 /// What the antilog is tried on: floor(P / 2^places) and the remainder.

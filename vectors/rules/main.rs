@@ -84,7 +84,7 @@ fn exp_list(random: &mut Random) -> String {
 }
 
 fn ln_list(random: &mut Random) -> String {
-    list(inputs::positive(random), |x| ln(places(), x))
+    list(inputs::logarithms(random), |x| ln(places(), x))
 }
 
 fn sqrt_list(random: &mut Random) -> String {

@@ -152,9 +152,13 @@ pub fn exp(places: u32, x: f64) -> f64 {
     }
 }
 
+/// What ln of a positive finite double is before it is rounded, in units of the last place.
+pub fn ln_units(places: u32, x: f64) -> Option<i128> {
+    log_word(places, x).map(|l| scaled(l, LN_2, 62))
+}
+
 pub fn ln(places: u32, x: f64) -> f64 {
-    if let Some(l) = log_word(places, x) {
-        let n = scaled(l, LN_2, 62);
+    if let Some(n) = ln_units(places, x) {
         let size = nearest(n.unsigned_abs(), -i64::from(places));
         if n < 0 {
             -size

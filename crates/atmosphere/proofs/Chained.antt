@@ -21,12 +21,12 @@ use Rattle.elementary.specs.Places.{places}
 unfoldable pub pressures : List Float
 pressures =
     decimal "101325" ∷
-    decimal "22632.0672770139" ∷
-    decimal "5474.890225463623" ∷
-    decimal "868.0190870921804" ∷
-    decimal "110.90637918254332" ∷
-    decimal "66.938920848723" ∷
-    decimal "3.956424338843445" ∷ []
+    decimal "22632.067277013903" ∷
+    decimal "5474.890225463624" ∷
+    decimal "868.0190870921797" ∷
+    decimal "110.90637918254323" ∷
+    decimal "66.93892084872294" ∷
+    decimal "3.9564243388434446" ∷ []
 
 unfoldable pub temperatureNumbers : List ℕ
 temperatureNumbers = 6 ∷ 27 ∷ 7 ∷ 8 ∷ 27 ∷ 9 ∷ 10 ∷ []
@@ -61,12 +61,12 @@ temperature-power (suc (suc (suc (suc (suc (suc (suc i))))))) b x h = absurd (om
 unfoldable pub ratios : List Float
 ratios =
     decimal "1" ∷
-    decimal "0.29707598350799785" ∷
-    decimal "0.07186521577637014" ∷
-    decimal "0.010795930520024151" ∷
+    decimal "0.29707598350799796" ∷
+    decimal "0.07186521577637019" ∷
+    decimal "0.01079593052002415" ∷
     decimal "0.0011653342395396547" ∷
     decimal "0.000703351935189044" ∷
-    decimal "5.241721994832109e-5" ∷ []
+    decimal "5.241721994832112e-5" ∷ []
 
 unfoldable pub ratioNumbers : List ℕ
 ratioNumbers = 27 ∷ 27 ∷ 18 ∷ 19 ∷ 27 ∷ 20 ∷ 21 ∷ []

@@ -39,12 +39,12 @@ const TROPOSPHERE_TOP_M: f64 = 11000.0;
 // The pressure (Pa) at each layer's base, chained from the layer below by that layer's formula.
 const CHAINED_PRESSURES: [f64; 7] = [
     101325.0,
-    22632.0672770139,
-    5474.890225463623,
-    868.0190870921804,
-    110.90637918254332,
-    66.938920848723,
-    3.956424338843445,
+    22632.067277013903,
+    5474.890225463624,
+    868.0190870921797,
+    110.90637918254323,
+    66.93892084872294,
+    3.9564243388434446,
 ];
 
 // The number in elementary's table of each layer's exponent, -lapse rate * R_AIR / G_ACCEL_MPS2. A lapse
@@ -65,12 +65,12 @@ const TROPOSPHERE_EXPONENT_RECIPROCAL: usize = 14;
 // the troposphere's power n, and above it chained from the layer below by that layer's formula.
 const CHAINED_RATIOS: [f64; 7] = [
     1.0,
-    0.29707598350799785,
-    0.07186521577637014,
-    0.010795930520024151,
+    0.29707598350799796,
+    0.07186521577637019,
+    0.01079593052002415,
     0.0011653342395396547,
     0.000703351935189044,
-    5.241721994832109e-5,
+    5.241721994832112e-5,
 ];
 
 // The number in elementary's table of the reciprocal of each layer's exponent, -G_ACCEL_MPS2 / (R_AIR *

@@ -3,7 +3,7 @@
 use mathlib.Core.Path.{_≡_}
 use mathlib.Core.Bool.{Bool, true, false}
 use mathlib.Core.List.{List, [], _∷_, map}
-use Prim.Native.Nat.{ℕ, _-_, _*_, _^_}
+use Prim.Native.Nat.{ℕ, _*_, _^_}
 use lib.IntN.{pos, negℤ}
 use lib.ListN.{replicate}
 use lib.Ieee.{Float, nan, le}
@@ -62,27 +62,26 @@ tableOf inverse =
     case (inverse nought FromLayer) (air nought (decimal "15") (decimal "1013.25")) ∷
     case (inverse nought (Given (decimal "15"))) (air nought (decimal "15") (decimal "1013.25")) ∷
     -- none given: 44,283 m accepted; 44,284 m refused 4, too cold and for no other reason
-    case (inverse (decimal "44283") FromLayer) (air (decimal "44283") (decimal "-273.1494422572178") (decimal "8.045414169227303e-15")) ∷
+    case (inverse (decimal "44283") FromLayer) (air (decimal "44283") (decimal "-273.1494422572178") (decimal "8.045414169227304e-15")) ∷
     case (inverse (decimal "44284") FromLayer) (refused 4 (decimal "44284" ∷ decimal "44284" ∷ [])) ∷
     case (isTooCold (resolve places (decimal "44284") FromLayer)) true ∷
     case (hasPressure (resolve places (decimal "44284") FromLayer)) true ∷
     -- with 15 °C: 54,852 m accepted; 54,853 m refused 4, for want of a pressure
-    case (inverse (decimal "54852") (Given (decimal "15"))) (air (decimal "44306.94668820678") (decimal "15") (decimal "8.359000857825756e-23")) ∷
+    case (inverse (decimal "54852") (Given (decimal "15"))) (air (decimal "44306.94668820678") (decimal "15") (decimal "8.359000857825759e-23")) ∷
     case (inverse (decimal "54853") (Given (decimal "15"))) (refused 4 (decimal "54853" ∷ decimal "44307.754442649435" ∷ [])) ∷
     case (isTooCold (resolve places (decimal "54853") (Given (decimal "15")))) false ∷
     case (hasPressure (resolve places (decimal "54853") (Given (decimal "15")))) false ∷
     -- -273.15 °C at 0 m: 3; the next double above, at 0 m: accepted, and returned unchanged
     case (inverse nought (Given absoluteZero)) (refused 3 (absoluteZero ∷ [])) ∷
-    case (inverse nought (Given aboveAbsoluteZero)) (air (decimal "8513.226494345718") aboveAbsoluteZero (decimal "330.1742781874154")) ∷
+    case (inverse nought (Given aboveAbsoluteZero)) (air (decimal "8513.226494345718") aboveAbsoluteZero (decimal "330.17427818741555")) ∷
     -- NaN altitude with NaN temperature: 1
     case (inverse nan (Given nan)) (refused 1 (nan ∷ [])) ∷
-    -- Log word: 1 gives 0; 8 gives 3 units; 0.5 gives -1 unit; a unit is 2^52. 1 + 2^-52 gives 1
+    -- Log word, with document 02's sixty places: 1 gives 0; 8 gives 3 * 2^60; 0.5 gives -2^60
     case (logWord places one) (pos 0) ∷
-    case (logWord places (decimal "8")) (pos (3 * 2 ^ places)) ∷
-    case (logWord places (decimal "0.5")) (negℤ (pos (2 ^ places))) ∷
-    case (logWord places (decimal "1.0000000000000002")) (pos 1) ∷
-    -- Antilog: P = 2^51, half a unit, ends with Y = 5A827999FCEF3242 hex
-    case (antilogRoot places (2 ^ (places - 1))) 0x5A827999FCEF3242 ∷
+    case (logWord places (decimal "8")) (pos (3 * 2 ^ 60)) ∷
+    case (logWord places (decimal "0.5")) (negℤ (pos (2 ^ 60))) ∷
+    -- Antilog: P = 2^59 ends with Y = 5A827999FCEF3242 hex
+    case (antilogRoot places (2 ^ 59)) 0x5A827999FCEF3242 ∷
     -- Power: 1 gives 1 for every q
     case (map (λ (q : Float). power places (ofDouble q) one) exponents) (replicate 27 one) ∷ []
 

@@ -1,15 +1,16 @@
-// Words as a list has them, k * 2^52 + f: k in two's complement, and f below 2^52.
+// Words as a list has them, k * 2^60 + f: k in two's complement, and f below 2^60.
+use elementary::word::ONES;
 use elementary::word::Word;
 
 pub enum Given {
     Word(Word),
-    // -2^63 * 2^52, which stands for no word
+    // -2^63 * 2^60, which stands for no word
     Undefined,
     OutOfRange,
 }
 
 pub(crate) fn word_of(k: u64, f: u64) -> Given {
-    if f > 0xf_ffff_ffff_ffff {
+    if f > ONES {
         Given::OutOfRange
     } else if k <= 0xffff_ffff {
         Given::Word(Word {
@@ -21,7 +22,7 @@ pub(crate) fn word_of(k: u64, f: u64) -> Given {
         Given::Word(Word {
             negative: true,
             whole: (0xffff_ffff_ffff_ffff - k) as u32,
-            part: 0xf_ffff_ffff_ffff - f,
+            part: ONES - f,
         })
     } else if k == 0x8000_0000_0000_0000 && f == 0 {
         Given::Undefined

@@ -20,15 +20,15 @@ nearest-is q a b r less same more = go (compare a b) (leb→le a b) (nleb→lt a
     go Ordering·eq le gt eq is = same (eq tt)
     go Ordering·gt le gt eq is = more (gt tt)
 
--- ---- y / u, by how far y is from the multiples of u below and above it
-pub closest-down : (y u : ℕ) → y % u < u - y % u → y / u ≡ closest y u
-closest-down y u h = nearest-is (y / u) (y % u * 2) u (y / u) (λ l. refl) (λ e. omega arith) (λ g. omega arith)
+-- ---- q + a / u, by how far it is from q and from the next number
+pub nearer-down : (q a u : ℕ) → a < u - a → q ≡ nearest q (compare (a * 2) u)
+nearer-down q a u h = nearest-is q (a * 2) u q (λ l. refl) (λ e. omega arith) (λ g. omega arith)
 
-pub closest-up : (y u : ℕ) → u - y % u < y % u → y / u + 1 ≡ closest y u
-closest-up y u h = nearest-is (y / u) (y % u * 2) u (y / u + 1) (λ l. omega arith) (λ e. omega arith) (λ g. omega arith)
+pub nearer-up : (q a u : ℕ) → u - a < a → q + 1 ≡ nearest q (compare (a * 2) u)
+nearer-up q a u h = nearest-is q (a * 2) u (q + 1) (λ l. omega arith) (λ e. omega arith) (λ g. omega arith)
 
-pub closest-even : (y u : ℕ) → y % u ≡ u - y % u → y % u < u → y / u + y / u % 2 ≡ closest y u
-closest-even y u h r = nearest-is (y / u) (y % u * 2) u (y / u + y / u % 2) (λ l. omega arith) (λ e. refl) (λ g. omega arith)
+pub nearer-even : (q a u : ℕ) → a ≡ u - a → a < u → q + q % 2 ≡ nearest q (compare (a * 2) u)
+nearer-even q a u h r = nearest-is q (a * 2) u (q + q % 2) (λ l. omega arith) (λ e. refl) (λ g. omega arith)
 
 -- ---- a fraction below 1
 proper : (y u r : ℕ) → y < u → r ≡ nearest 0 (compare (y * 2) u) → r ≡ closest y u

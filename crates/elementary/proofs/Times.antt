@@ -73,6 +73,9 @@ pub part-lt : (p : ℕ) (z : ℤ) → asWord p z .part < 2 ^ p
 part-lt p (pos a) = mod-lt a (pow-pos p)
 part-lt p (negsuc a) = mod-lt a (pow-pos p)
 
+pub word-short : (p : ℕ) {w : Word} (z : ℤ) → w ≡ asWord p z → w .part < 2 ^ p
+word-short p z e = subst (λ (v : Word). v .part < 2 ^ p) (sym e) (part-lt p z)
+
 -- a factor of d at most leaves a word no longer
 pub times-small : (p n : ℕ) (w : Word) (factor d : ℕ) → 0 < factor → factor ≤ d → w .whole < 2 ^ n → w .part < 2 ^ p → asWord p (floorDiv (wordValue p w *ℤ pos factor) d) .whole < 2 ^ n
 times-small p n w factor d F small whole-lt part-lt =

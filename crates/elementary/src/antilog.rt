@@ -13,7 +13,7 @@ use super::word::Word;
 use wide::roots::floor_root;
 use wide::words::Wide;
 
-// 2^62 times 2 to the power f / 2^52, from f's lowest bit to its highest. The radicand, y * 2^62 or
+// 2^62 times 2 to the power f / 2^60, from f's lowest bit to its highest. The radicand, y * 2^62 or
 // y * 2^63, has its upper word from y's upper bits.
 fn antilog_root(f: u64) -> u64
     requires { ⌜ f < 2 ^ places ⌝ }
@@ -34,7 +34,7 @@ fn antilog_root(f: u64) -> u64
     y
 }
 
-// 2 to the power w, w being in units of 2^-52.
+// 2 to the power w, w being in units of 2^-60.
 pub fn antilog(w: Word) -> f64
     ensures { λ r. ⌜ r ≡ antilog places (wordValue places w) ⌝ }
 {

@@ -23,7 +23,7 @@ const LOG2_E: u64 = 0x5c55_1d94_ae0b_f85d;
 // q * 2^64 / 2^(MOVED - k) is q * 2^k units of 2^-1074, counted in units of the last place
 const MOVED: u32 = 1138 - PLACES;
 
-// floor(x * 2^52), for an x of q * 2^k units of 2^-1074 with its sign, below 2^11 in size: the floor
+// floor(x * 2^60), for an x of q * 2^k units of 2^-1074 with its sign, below 2^11 in size: the floor
 // of q * 2^64 / 2^(MOVED - k). Where x is negative, its digits are those of the number one below.
 fn floor_word(negative: bool, q: u64, k: u32) -> Word
     requires { ⌜ Digits q k ⌝ }
@@ -43,7 +43,7 @@ fn floor_word(negative: bool, q: u64, k: u32) -> Word
     };
     Word {
         negative,
-        whole: (moved.lo / WHOLE) as u32,
+        whole: shifted_right(moved, PLACES).lo as u32,
         part: moved.lo % WHOLE,
     }
 }

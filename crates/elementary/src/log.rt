@@ -1,4 +1,4 @@
-// The log word: the logarithm to the base 2 of a positive finite double, in units of 2^-52, by
+// The log word: the logarithm to the base 2 of a positive finite double, in units of 2^-60, by
 // repeated squaring.
 ghost use mathlib.Core.Path.{_≡_};
 ghost use Prim.Native.Nat.{_+_, _*_, _/_, _^_, _≤_, _<_};
@@ -28,7 +28,7 @@ fn squared(m: u64) -> u64
     w.hi * 4 + w.lo / 0x4000_0000_0000_0000
 }
 
-// The 52 bits of the logarithm of m / 2^62, which lies from 1 up to 2. A square of 2 or more gives
+// The 60 bits of the logarithm of m / 2^62, which lies from 1 up to 2. A square of 2 or more gives
 // the bit 1 and is halved; it has its highest digit set, so that digit is the bit.
 fn log_bits(m: u64) -> u64
     requires { ⌜ (2 ^ 62 ≤ m) × (m < 2 ^ 63) ⌝ }

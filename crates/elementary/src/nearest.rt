@@ -2,14 +2,17 @@
 // double nearest to a whole number times a power of two.
 ghost use mathlib.Core.Path.{_≡_};
 ghost use mathlib.Core.Bool.{false};
-ghost use Prim.Native.Nat.{_*_, _^_, _≤_, _<_};
+ghost use Prim.Native.Nat.{_+_, _*_, _^_, _≤_, _<_, compare};
 ghost use lib.IntN.{pos};
-ghost use lib.Ieee.{binary64, round};
+ghost use lib.Ieee.{binary64, round, nearest};
 ghost use lib.Ieee.Nearest.{closest};
+ghost use Rattle.wide.specs.Value.{value};
 ghost use Rattle.elementary.specs.Nearest.{nearestScaled, nearestRatio};
 ghost use Rattle.elementary.specs.Normalised.{IsNormalised};
 ghost use Rattle.elementary.specs.Parts.{TakenApart};
 ghost use Rattle.elementary.specs.Power.{infinityOrZero};
+use wide::words::Wide;
+use wide::words::shifted_right;
 
 // A double by its kind, with its sign, which is true where it is negative.
 // `Finite(s, q, k)` is q * 2^(k - 1074), or -q * 2^(k - 1074) where s is true.
@@ -44,6 +47,22 @@ pub(crate) fn take_apart(x: f64) -> Parts
     Parts::Finite(negative, 0x10_0000_0000_0000 + fraction, (field - 1) as u32)
 }
 
+// The whole number nearest to quotient + above / unit, a tie to the even one.
+fn nearer(quotient: u64, above: u64, unit: u64) -> u64
+    requires { ⌜ (above < unit) × (quotient + above < 2 ^ 64) ⌝ }
+    ensures { λ r. ⌜ r ≡ nearest quotient (compare (above * 2) unit) ⌝ }
+{
+    // how far it is to the next whole number
+    let below = unit - above;
+    if above < below {
+        return quotient;
+    }
+    if above > below {
+        return quotient + 1;
+    }
+    quotient + quotient % 2
+}
+
 // y / 2^d to the nearest whole number, a tie to the even one.
 fn rounded(y: u64, d: u64) -> u64
     ensures { λ r. ⌜ r ≡ closest y (2 ^ d) ⌝ }
@@ -58,17 +77,7 @@ fn rounded(y: u64, d: u64) -> u64
         return 0;
     }
     let unit = 1u64 << d;
-    let quotient = y / unit;
-    // how far y is above a multiple of `unit`, and below the next
-    let above = y % unit;
-    let below = unit - above;
-    if above < below {
-        return quotient;
-    }
-    if above > below {
-        return quotient + 1;
-    }
-    quotient + quotient % 2
+    nearer(y / unit, y % unit, unit)
 }
 
 // m * 2^1085 as `digits` * 2^`places`, with 64 digits.
@@ -125,6 +134,23 @@ pub fn nearest_quotient(m: u64, k: u64) -> f64
         return normal(n.digits, n.places - k);
     }
     f64::from_bits(rounded(n.digits, 11 + (k - n.places)))
+}
+
+// The double nearest to n / 2^k. Where n has more than 64 digits, 53 are kept and the other `dropped`
+// ones lie in the low word.
+pub(crate) fn nearest_wide_quotient(n: Wide, k: u64) -> f64
+    requires { ⌜ (n .hi < 2 ^ 52) × (k ≤ 1085) ⌝ }
+    ensures { λ r. ⌜ r ≡ nearestRatio (pos (value n)) (2 ^ k) ⌝ }
+{
+    let hi = n.hi;
+    let lo = n.lo;
+    if hi == 0 {
+        return nearest_quotient(lo, k);
+    }
+    let dropped = 75 - u64::leading_zeros(hi);
+    let unit = 1u64 << dropped;
+    let kept = nearer(shifted_right(n, dropped).lo, lo % unit, unit);
+    f64::from_bits((1074 + dropped as u64 - k) * 0x10_0000_0000_0000 + kept)
 }
 
 // The double nearest to m * 2^e.

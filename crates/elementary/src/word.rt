@@ -1,4 +1,4 @@
-// A whole number in units of 2^-52, as logarithms are: digits above and below the point travel
+// A whole number in units of 2^-60, as logarithms are: digits above and below the point travel
 // apart, since together they can pass 64 bits.
 ghost use mathlib.Core.Path.{_≡_};
 ghost use Prim.Native.Nat.{_^_, _≤_, _<_};
@@ -12,13 +12,13 @@ use wide::words::shifted_right;
 use wide::words::sum;
 
 // the number of places, as specs/Places has it; a whole in units of the last place, and one unit less
-pub const PLACES: u32 = 52;
+pub const PLACES: u32 = 60;
 
 pub const WHOLE: u64 = 1 << PLACES;
 
 pub const ONES: u64 = WHOLE - 1;
 
-// a = `whole` * 2^52 + `part` stands for a, and where `negative` for -(a + 1).
+// a = `whole` * 2^60 + `part` stands for a, and where `negative` for -(a + 1).
 pub struct Word {
     pub negative: bool,
     pub whole: u32,

@@ -13,6 +13,7 @@ use lib.Ieee.Bits.{is-true, is-false}
 use Rattle.elementary.specs.Whole.{floorDiv, floorMod, digits}
 use Rattle.elementary.specs.Nearest.{nearestScaled, nearestRatio}
 use Rattle.elementary.specs.Antilog.{antilogRoot, antilog}
+use Rattle.elementary.specs.Places.{places}
 use Rattle.elementary.proofs.antilog.antilog.Statement.{statement}
 use Rattle.elementary.proofs.antilog.antilog.Tie as tie
 
@@ -28,11 +29,11 @@ small-scaled Y k h =
 large-scaled : (Y k : ℕ) → 62 ≤ k → nearestScaled Y (pos (k - 62)) ≡ nearestScaled Y (pos k -ℤ pos 62)
 large-scaled Y k h = ap (λ (t : Bool). nearestScaled Y (cond t (negsuc (62 - suc k)) (pos (k - 62)))) (sym (is-false (ltb k 62) (le→nltb k 62 h)))
 
--- ---- the digits of whole * 2^52 + part, above and below the point
-above : (whole part : ℕ) → whole + part / 2 ^ 52 ≡ (whole * 2 ^ 52 + part) / 2 ^ 52
+-- ---- the digits of whole * 2^places + part, above and below the point
+above : (whole part : ℕ) → whole + part / 2 ^ places ≡ (whole * 2 ^ places + part) / 2 ^ places
 above whole part = omega arith
 
-below : (whole part : ℕ) → part % 2 ^ 52 ≡ (whole * 2 ^ 52 + part) % 2 ^ 52
+below : (whole part : ℕ) → part % 2 ^ places ≡ (whole * 2 ^ places + part) % 2 ^ places
 below whole part = omega arith
 
 -- ---- the antilog of a word, by its sign and size
@@ -40,41 +41,41 @@ antilog-is : (p : ℕ) (P : ℤ) → nearestScaled (antilogRoot p (floorMod P (2
 unfolding antilog
 antilog-is p P = refl
 
-negative-word : (whole part Y : ℕ) → Y ≡ antilogRoot 52 (0xf_ffff_ffff_ffff - part % 2 ^ 52) → nearestRatio (pos Y) (2 ^ (whole + part / 2 ^ 52 + 63)) ≡ antilog 52 (negsuc (whole * 2 ^ 52 + part))
+negative-word : (whole part Y : ℕ) → Y ≡ antilogRoot places ((2 ^ places - 1) - part % 2 ^ places) → nearestRatio (pos Y) (2 ^ (whole + part / 2 ^ places + 63)) ≡ antilog places (negsuc (whole * 2 ^ places + part))
 negative-word whole part Y e =
-    quotient-scaled Y (suc (whole + part / 2 ^ 52 + 61)) (omega arith)
-    ∙ ap₂ (λ (y k : ℕ). nearestScaled y (negsuc k -ℤ pos 62)) (e ∙ ap (antilogRoot 52) (omega arith)) (above whole part)
-    ∙ antilog-is 52 (negsuc (whole * 2 ^ 52 + part))
+    quotient-scaled Y (suc (whole + part / 2 ^ places + 61)) (omega arith)
+    ∙ ap₂ (λ (y k : ℕ). nearestScaled y (negsuc k -ℤ pos 62)) (e ∙ ap (antilogRoot places) (omega arith)) (above whole part)
+    ∙ antilog-is places (negsuc (whole * 2 ^ places + part))
 
-small-word : (whole part Y : ℕ) → whole + part / 2 ^ 52 < 62 → Y ≡ antilogRoot 52 (part % 2 ^ 52) → nearestRatio (pos Y) (2 ^ (62 - (whole + part / 2 ^ 52))) ≡ antilog 52 (pos (whole * 2 ^ 52 + part))
+small-word : (whole part Y : ℕ) → whole + part / 2 ^ places < 62 → Y ≡ antilogRoot places (part % 2 ^ places) → nearestRatio (pos Y) (2 ^ (62 - (whole + part / 2 ^ places))) ≡ antilog places (pos (whole * 2 ^ places + part))
 small-word whole part Y h e =
-    small-scaled Y (whole + part / 2 ^ 52) h
-    ∙ ap₂ (λ (y k : ℕ). nearestScaled y (pos k -ℤ pos 62)) (e ∙ ap (antilogRoot 52) (below whole part)) (above whole part)
-    ∙ antilog-is 52 (pos (whole * 2 ^ 52 + part))
+    small-scaled Y (whole + part / 2 ^ places) h
+    ∙ ap₂ (λ (y k : ℕ). nearestScaled y (pos k -ℤ pos 62)) (e ∙ ap (antilogRoot places) (below whole part)) (above whole part)
+    ∙ antilog-is places (pos (whole * 2 ^ places + part))
 
-large-word : (whole part Y : ℕ) → 62 ≤ whole + part / 2 ^ 52 → Y ≡ antilogRoot 52 (part % 2 ^ 52) → nearestScaled Y (pos (whole + part / 2 ^ 52 - 62)) ≡ antilog 52 (pos (whole * 2 ^ 52 + part))
+large-word : (whole part Y : ℕ) → 62 ≤ whole + part / 2 ^ places → Y ≡ antilogRoot places (part % 2 ^ places) → nearestScaled Y (pos (whole + part / 2 ^ places - 62)) ≡ antilog places (pos (whole * 2 ^ places + part))
 large-word whole part Y h e =
-    large-scaled Y (whole + part / 2 ^ 52) h
-    ∙ ap₂ (λ (y k : ℕ). nearestScaled y (pos k -ℤ pos 62)) (e ∙ ap (antilogRoot 52) (below whole part)) (above whole part)
-    ∙ antilog-is 52 (pos (whole * 2 ^ 52 + part))
+    large-scaled Y (whole + part / 2 ^ places) h
+    ∙ ap₂ (λ (y k : ℕ). nearestScaled y (pos k -ℤ pos 62)) (e ∙ ap (antilogRoot places) (below whole part)) (above whole part)
+    ∙ antilog-is places (pos (whole * 2 ^ places + part))
 
-of-sign : (a : ℕ) {s b : Bool} → s ≡ b → antilog 52 (cond b (negsuc a) (pos a)) ≡ antilog 52 (cond s (negsuc a) (pos a))
-of-sign a e = ap (λ (t : Bool). antilog 52 (cond t (negsuc a) (pos a))) (sym e)
+of-sign : (a : ℕ) {s b : Bool} → s ≡ b → antilog places (cond b (negsuc a) (pos a)) ≡ antilog places (cond s (negsuc a) (pos a))
+of-sign a e = ap (λ (t : Bool). antilog places (cond t (negsuc a) (pos a))) (sym e)
 
 returns : tie.Need-returns
 returns c =
     let w = c .before .before .before .before .before .before .args .w in
-    c .nearest-quotient .ensures ∙ negative-word (w .whole) (w .part) _ (c .before .antilog-root .ensures) ∙ of-sign (digits 52 w) (c .before .before .if1 .taken)
+    c .nearest-quotient .ensures ∙ negative-word (w .whole) (w .part) _ (c .before .antilog-root .ensures) ∙ of-sign (digits places w) (c .before .before .if1 .taken)
 
 returns-2 : tie.Need-returns-2
 returns-2 c =
     let w = c .before .before .before .before .before .before .before .args .w in
-    c .nearest-quotient2 .ensures ∙ small-word (w .whole) (w .part) _ (c .before .before .if2 .taken) (c .before .antilog-root2 .ensures) ∙ of-sign (digits 52 w) (c .before .before .before .if1 .left)
+    c .nearest-quotient2 .ensures ∙ small-word (w .whole) (w .part) _ (c .before .before .if2 .taken) (c .before .antilog-root2 .ensures) ∙ of-sign (digits places w) (c .before .before .before .if1 .left)
 
 returns-3 : tie.Need-returns-3
 returns-3 c =
     let w = c .before .before .before .before .before .before .before .args .w in
-    c .nearest-product .ensures ∙ large-word (w .whole) (w .part) _ (c .before .before .if2 .left) (c .before .antilog-root3 .ensures) ∙ of-sign (digits 52 w) (c .before .before .before .if1 .left)
+    c .nearest-product .ensures ∙ large-word (w .whole) (w .part) _ (c .before .before .if2 .left) (c .before .antilog-root3 .ensures) ∙ of-sign (digits places w) (c .before .before .before .if1 .left)
 
 pub antilog-spec : {M : Type 1} → statement M
 antilog-spec =

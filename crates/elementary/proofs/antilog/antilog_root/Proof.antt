@@ -9,6 +9,7 @@ use borrow.Author.Needs.{needs}
 use lib.Pow.{pow-pos, pow-add, shr-shr, field, mod-mod-pow}
 use Rattle.wide.specs.Root.{root}
 use Rattle.elementary.specs.Antilog.{antilogRoot}
+use Rattle.elementary.specs.Places.{places}
 use Rattle.elementary.proofs.antilog.antilog_root.Statement.{statement}
 use Rattle.elementary.proofs.antilog.antilog_root.Tie as tie
 
@@ -21,7 +22,7 @@ radicand y bit h =
     ap (λ (n : ℕ). n * 2 ^ 64 + (y * 2 ^ (62 + bit)) % 2 ^ 64) upper ∙ div-add-mod' (y * 2 ^ (62 + bit)) (2 ^ 64)
 
 record Taken (f y rest place : ℕ) : Type 0 where
-  within : place ≤ 52
+  within : place ≤ places
   bits : rest ≡ f / 2 ^ place
   root-so-far : y ≡ antilogRoot place (f % 2 ^ place)
 
@@ -38,7 +39,7 @@ one-bit f place =
     ap₂ (λ (g t : ℕ). root (antilogRoot place g * 2 ^ (62 + t))) lower top
 
 -- the same of what the loop's body computes
-turn : (f y rest place r : ℕ) → place < 52 → Taken f y rest place → r ≡ root (y / 2 ^ (2 - rest % 2) * 2 ^ 64 + (y * 2 ^ (62 + rest % 2)) % 2 ^ 64) → Taken f r (rest / 2) (place + 1)
+turn : (f y rest place r : ℕ) → place < places → Taken f y rest place → r ≡ root (y / 2 ^ (2 - rest % 2) * 2 ^ 64 + (y * 2 ^ (62 + rest % 2)) % 2 ^ 64) → Taken f r (rest / 2) (place + 1)
 turn f y rest place r below taken made =
     record {
       within = omega arith;
@@ -46,16 +47,16 @@ turn f y rest place r below taken made =
       root-so-far = made ∙ ap root (radicand y (rest % 2) (omega arith)) ∙ ap₂ (λ (a b : ℕ). root (a * 2 ^ (62 + b % 2))) (taken .root-so-far) (taken .bits) ∙ one-bit f place ∙ ap (λ (n : ℕ). antilogRoot n (f % 2 ^ n)) (sym (add-one place));
     }
 
-all-bits : (f y rest place : ℕ) → f < 2 ^ 52 → 52 ≤ place → Taken f y rest place → y ≡ antilogRoot 52 f
+all-bits : (f y rest place : ℕ) → f < 2 ^ places → places ≤ place → Taken f y rest place → y ≡ antilogRoot places f
 all-bits f y rest place short end taken =
-    let last : place ≡ 52 = omega (arith, taken .within) in
-    taken .root-so-far ∙ ap (λ (n : ℕ). antilogRoot n (f % 2 ^ n)) last ∙ ap (antilogRoot 52) (mod-eq-of-lt short)
+    let last : place ≡ places = omega (arith, taken .within) in
+    taken .root-so-far ∙ ap (λ (n : ℕ). antilogRoot n (f % 2 ^ n)) last ∙ ap (antilogRoot places) (mod-eq-of-lt short)
 
 abbrev Inv-loop : tie.InvT-loop
 Inv-loop f y₀ rest₀ place₀ y rest place = Taken f y rest place
 
 abbrev μ-loop : tie.MeasureT-loop
-μ-loop f y₀ rest₀ place₀ y rest place = 52 - place
+μ-loop f y₀ rest₀ place₀ y rest place = places - place
 
 pub antilog-root-spec : {M : Type 1} → statement M
 antilog-root-spec =

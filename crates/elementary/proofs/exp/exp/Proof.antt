@@ -16,10 +16,11 @@ use Rattle.elementary.specs.Parts.{TakenApart, Digits}
 use Rattle.elementary.specs.Power.{infinityOrZero}
 use Rattle.elementary.specs.Antilog.{antilog}
 use Rattle.elementary.specs.Exp.{log2e, expTop, expBottom, expWithin, exp}
+use Rattle.elementary.specs.Places.{places}
 use Rattle.elementary.proofs.Integers.{pos-le, opposites}
 use Rattle.elementary.proofs.Order.{le-of-count}
 use Rattle.elementary.proofs.Parts.{told, finite-of-parts, units-of-parts, parts-fit}
-use Rattle.elementary.proofs.Times.{word-value, part-lt}
+use Rattle.elementary.proofs.Times.{word-value, word-short}
 use Rattle.elementary.proofs.exp.exp.Statement.{statement}
 use Rattle.elementary.proofs.exp.exp.Tie as tie
 
@@ -45,29 +46,29 @@ module _ {x : Float} {s : Bool} {q k : ℕ} (apart : TakenApart x (Finite s q k)
   unfolding isNan
   number = ap isNan (sym (sym (finite-of-parts s q k (apart .within .positive) .2) ∙ apart .same))
 
-  at-top : le expTop x ≡ true → inf false ≡ exp 52 x
-  at-top e = ap (λ (t : Bool). cond t (inf false) (cond (le x expBottom) (fin false 0 (pos 0)) (expWithin 52 x))) (sym e) ∙ exp-number 52 x number
+  at-top : le expTop x ≡ true → inf false ≡ exp places x
+  at-top e = ap (λ (t : Bool). cond t (inf false) (cond (le x expBottom) (fin false 0 (pos 0)) (expWithin places x))) (sym e) ∙ exp-number places x number
 
-  at-bottom : le expTop x ≡ false → le x expBottom ≡ true → fin false 0 (pos 0) ≡ exp 52 x
-  at-bottom e d = ap₂ (λ (t u : Bool). cond t (inf false) (cond u (fin false 0 (pos 0)) (expWithin 52 x))) (sym e) (sym d) ∙ exp-number 52 x number
+  at-bottom : le expTop x ≡ false → le x expBottom ≡ true → fin false 0 (pos 0) ≡ exp places x
+  at-bottom e d = ap₂ (λ (t u : Bool). cond t (inf false) (cond u (fin false 0 (pos 0)) (expWithin places x))) (sym e) (sym d) ∙ exp-number places x number
 
-  between : le expTop x ≡ false → le x expBottom ≡ false → antilog 52 (floorDiv (floorDiv (signed s (q * 2 ^ k * 2 ^ 52)) (2 ^ 1074) *ℤ pos log2e) (2 ^ 62)) ≡ exp 52 x
+  between : le expTop x ≡ false → le x expBottom ≡ false → antilog places (floorDiv (floorDiv (signed s (q * 2 ^ k * 2 ^ places)) (2 ^ 1074) *ℤ pos log2e) (2 ^ 62)) ≡ exp places x
   between e d =
       let f = finite-of-parts s q k (apart .within .positive) .2 in
-      ap (λ (n : ℕ). antilog 52 (floorDiv (floorDiv (signed s (n * 2 ^ 52)) (2 ^ 1074) *ℤ pos log2e) (2 ^ 62))) (sym (units-of-parts s q k) ∙ ap unitsOf f)
-      ∙ ap (expWithin 52) (sym f ∙ apart .same)
-      ∙ ap₂ (λ (t u : Bool). cond t (inf false) (cond u (fin false 0 (pos 0)) (expWithin 52 x))) (sym e) (sym d)
-      ∙ exp-number 52 x number
+      ap (λ (n : ℕ). antilog places (floorDiv (floorDiv (signed s (n * 2 ^ places)) (2 ^ 1074) *ℤ pos log2e) (2 ^ 62))) (sym (units-of-parts s q k) ∙ ap unitsOf f)
+      ∙ ap (expWithin places) (sym f ∙ apart .same)
+      ∙ ap₂ (λ (t u : Bool). cond t (inf false) (cond u (fin false 0 (pos 0)) (expWithin places x))) (sym e) (sym d)
+      ∙ exp-number places x number
 
   bounded : le expTop x ≡ false → le x expBottom ≡ false → q * 2 ^ k < 2 ^ 1085
   bounded e d = within-bounds s q k (apart .within) (ap (le expTop) (apart .same) ∙ e) (ap (λ (y : Float). le y expBottom) (apart .same) ∙ d)
 
-exp-infinite : (s : Bool) → infinityOrZero s ≡ exp 52 (inf s)
+exp-infinite : (s : Bool) → infinityOrZero s ≡ exp places (inf s)
 unfolding exp
 exp-infinite true = refl
 exp-infinite false = refl
 
-exp-zero : (s : Bool) → ofBits binary64 0x3ff0000000000000 ≡ exp 52 (fin s 0 (pos 0))
+exp-zero : (s : Bool) → ofBits binary64 0x3ff0000000000000 ≡ exp places (fin s 0 (pos 0))
 unfolding exp
 exp-zero true = refl
 exp-zero false = refl
@@ -79,12 +80,12 @@ floor-word-requires c κs =
     let apart = told (at .before .before .take-apart .ensures) (at .negative2 .given .1) in
     (apart .within, bounded apart (c .before .if1 .left) (c .if2 .left))
 
--- floor(x * 2^52), and floor of its product with 1 / ln 2
+-- floor(x * 2^places), and floor of its product with 1 / ln 2
 abbrev floored : tie.After-floor-word → ℤ
-floored c = let a = c .before .before .before .before .negative2 .given .0 in floorDiv (signed (a .0) (a .1 .0 * 2 ^ (a .1 .1 .0) * 2 ^ 52)) (2 ^ 1074)
+floored c = let a = c .before .before .before .before .negative2 .given .0 in floorDiv (signed (a .0) (a .1 .0 * 2 ^ (a .1 .1 .0) * 2 ^ places)) (2 ^ 1074)
 
 times-requires : tie.Need-times-requires
-times-requires c κs = (lt-of-lt-of-le (c .floor-word .ensures .1) (lit≤ tt), subst (λ (w : Word). w .part < 2 ^ 52) (sym (c .floor-word .ensures .0)) (part-lt 52 (floored c)), lit< tt, lit≤ tt, lit≤ tt)
+times-requires c κs = (lt-of-lt-of-le (c .floor-word .ensures .1) (lit≤ tt), word-short places (floored c) (c .floor-word .ensures .0), lit< tt, lit≤ tt, lit≤ tt)
 
 returns : tie.Need-returns
 returns c =
@@ -98,22 +99,22 @@ returns-2 c =
 
 returns-3 : tie.Need-returns-3
 unfolding exp
-returns-3 c = let e = told (c .before .before .take-apart .ensures) (c .enum-told .given .1) .same in sym e ∙ ap (exp 52) e
+returns-3 c = let e = told (c .before .before .take-apart .ensures) (c .enum-told .given .1) .same in sym e ∙ ap (exp places) e
 
 returns-4 : tie.Need-returns-4
-returns-4 c = let at = c .before .before in c .infinity-or-zero .ensures ∙ exp-infinite _ ∙ ap (exp 52) (told (at .before .before .take-apart .ensures) (at .negative .given .1) .same)
+returns-4 c = let at = c .before .before in c .infinity-or-zero .ensures ∙ exp-infinite _ ∙ ap (exp places) (told (at .before .before .take-apart .ensures) (at .negative .given .1) .same)
 
 returns-5 : tie.Need-returns-5
-returns-5 c = exp-zero _ ∙ ap (exp 52) (told (c .before .before .take-apart .ensures) (c .enum-told2 .given .1) .same)
+returns-5 c = exp-zero _ ∙ ap (exp places) (told (c .before .before .take-apart .ensures) (c .enum-told2 .given .1) .same)
 
 returns-6 : tie.Need-returns-6
 returns-6 c =
     let at-floor = c .before .before in
     let at = at-floor .before .before .before .before in
     c .antilog .ensures
-    ∙ ap (λ (w : Word). antilog 52 (wordValue 52 w)) (c .before .times .ensures)
-    ∙ ap (antilog 52) (word-value 52 (floorDiv (wordValue 52 (at-floor .floor-word .result) *ℤ pos log2e) (2 ^ 62)))
-    ∙ ap (λ (z : ℤ). antilog 52 (floorDiv (z *ℤ pos log2e) (2 ^ 62))) (ap (wordValue 52) (at-floor .floor-word .ensures .0) ∙ word-value 52 (floored at-floor))
+    ∙ ap (λ (w : Word). antilog places (wordValue places w)) (c .before .times .ensures)
+    ∙ ap (antilog places) (word-value places (floorDiv (wordValue places (at-floor .floor-word .result) *ℤ pos log2e) (2 ^ 62)))
+    ∙ ap (λ (z : ℤ). antilog places (floorDiv (z *ℤ pos log2e) (2 ^ 62))) (ap (wordValue places) (at-floor .floor-word .ensures .0) ∙ word-value places (floored at-floor))
     ∙ between (told (at .before .before .take-apart .ensures) (at .negative2 .given .1)) (at-floor .before .before .if1 .left) (at-floor .before .if2 .left)
 
 pub exp-spec : {M : Type 1} → statement M

@@ -7,6 +7,7 @@ use lib.Ieee.{Float, nan, inf, ofBits, nanBits, div, odd}
 use Rattle.elementary.specs.declared.nearest.Parts.the-variants.{Infinite, Finite}
 use Rattle.elementary.specs.Parts.{TakenApart}
 use Rattle.elementary.specs.Ln.{lnPositive, ln}
+use Rattle.elementary.specs.Places.{places}
 use Rattle.elementary.proofs.Parts.{told, signed-parts, finite-of-parts}
 use Rattle.elementary.proofs.ln.ln.Statement.{statement}
 use Rattle.elementary.proofs.ln.ln.Tie as tie
@@ -14,31 +15,31 @@ use Rattle.elementary.proofs.ln.ln.Tie as tie
 infinite-ln : {x : Float} {s b : Bool} → TakenApart x (Infinite s) → s ≡ b → inf b ≡ x
 infinite-ln apart e = ap inf (sym e) ∙ apart .same
 
-negative-ln : {x : Float} {s : Bool} {q k : ℕ} → TakenApart x (Finite s q k) → s ≡ true → nan ≡ ln 52 x
+negative-ln : {x : Float} {s : Bool} {q k : ℕ} → TakenApart x (Finite s q k) → s ≡ true → nan ≡ ln places x
 unfolding ln
-negative-ln {x} {s} {q} {k} apart e = ap (ln 52) (sym (finite-of-parts true q k (apart .within .positive) .2) ∙ signed-parts apart e)
+negative-ln {x} {s} {q} {k} apart e = ap (ln places) (sym (finite-of-parts true q k (apart .within .positive) .2) ∙ signed-parts apart e)
 
-finite-ln : {x : Float} {s : Bool} {q k : ℕ} → TakenApart x (Finite s q k) → s ≡ false → lnPositive 52 (odd 53 false q k 1074) ≡ ln 52 x
+finite-ln : {x : Float} {s : Bool} {q k : ℕ} → TakenApart x (Finite s q k) → s ≡ false → lnPositive places (odd 53 false q k 1074) ≡ ln places x
 unfolding ln
 finite-ln {x} {s} {q} {k} apart e =
     let f = finite-of-parts false q k (apart .within .positive) .2 in
-    ap (lnPositive 52) f ∙ ap (ln 52) (sym f ∙ signed-parts apart e)
+    ap (lnPositive places) f ∙ ap (ln places) (sym f ∙ signed-parts apart e)
 
 returns : tie.Need-returns
 unfolding ln
-returns c = let e = told (c .before .before .take-apart .ensures) (c .enum-told .given .1) .same in sym e ∙ ap (ln 52) e
+returns c = let e = told (c .before .before .take-apart .ensures) (c .enum-told .given .1) .same in sym e ∙ ap (ln places) e
 
 returns-2 : tie.Need-returns-2
 unfolding ln div ofBits
-returns-2 c = let at = c .before .before in ap (ln 52) (infinite-ln (told (at .before .before .take-apart .ensures) (at .negative .given .1)) (c .if1 .taken))
+returns-2 c = let at = c .before .before in ap (ln places) (infinite-ln (told (at .before .before .take-apart .ensures) (at .negative .given .1)) (c .if1 .taken))
 
 returns-3 : tie.Need-returns-3
 unfolding ln
-returns-3 c = let at = c .before .before in let e = infinite-ln (told (at .before .before .take-apart .ensures) (at .negative .given .1)) (c .if1 .left) in sym e ∙ ap (ln 52) e
+returns-3 c = let at = c .before .before in let e = infinite-ln (told (at .before .before .take-apart .ensures) (at .negative .given .1)) (c .if1 .left) in sym e ∙ ap (ln places) e
 
 returns-4 : tie.Need-returns-4
 unfolding ln ofBits
-returns-4 c = ap (ln 52) (told (c .before .before .take-apart .ensures) (c .enum-told2 .given .1) .same)
+returns-4 c = ap (ln places) (told (c .before .before .take-apart .ensures) (c .enum-told2 .given .1) .same)
 
 returns-5 : tie.Need-returns-5
 unfolding div ofBits

@@ -6,6 +6,7 @@ use native.Mathlib.Nat.{le-refl, le-trans, le-of-eq, zero-add, add-zero, mul-one
 use native.Mathlib.Omega.{arith}
 use lib.Pow.{pow-pos}
 use Rattle.elementary.specs.Log.{squared, bitOf, nextOf, logBits}
+use Rattle.elementary.specs.Places.{places}
 use Rattle.elementary.proofs.Range.{Mantissa, bit-cases, bit-le, squared-lt, next-mantissa}
 use Rattle.elementary.proofs.log.log_bits.Statement.{statement}
 use Rattle.elementary.proofs.log.log_bits.Tie as tie
@@ -19,11 +20,11 @@ highest-digit Q h =
 
 record Found (m mantissa bits left : ℕ) : Type 0 where
   is-mantissa : Mantissa mantissa
-  short : (bits + 1) * 2 ^ left ≤ 2 ^ 52
-  followed : bits * 2 ^ left + logBits left mantissa ≡ logBits 52 m
+  short : (bits + 1) * 2 ^ left ≤ 2 ^ places
+  followed : bits * 2 ^ left + logBits left mantissa ≡ logBits places m
 
-few : (m mantissa bits left : ℕ) → Found m mantissa bits left → bits < 2 ^ 52
-few m mantissa bits left found = let h : bits + 1 ≤ 2 ^ 52 = le-trans (le-mul-of-pos-right (bits + 1) (pow-pos left)) (found .short) in omega arith
+few : (m mantissa bits left : ℕ) → Found m mantissa bits left → bits < 2 ^ places
+few m mantissa bits left found = let h : bits + 1 ≤ 2 ^ places = le-trans (le-mul-of-pos-right (bits + 1) (pow-pos left)) (found .short) in omega arith
 
 double : (b t x : ℕ) → (b * 2 + t) * x ≡ b * (2 * x) + t * x
 double b t x = add-mul (b * 2) t x ∙ ap (λ (y : ℕ). y + t * x) (mul-assoc b 2 x)
@@ -50,7 +51,7 @@ no-places : (M : ℕ) → logBits zero M ≡ 0
 unfolding logBits
 no-places M = refl
 
-all-places : (m mantissa bits left : ℕ) → left ≤ 0 → Found m mantissa bits left → bits ≡ logBits 52 m
+all-places : (m mantissa bits left : ℕ) → left ≤ 0 → Found m mantissa bits left → bits ≡ logBits places m
 all-places m mantissa bits zero none found = sym (ap (λ (x : ℕ). bits * 1 + x) (no-places mantissa) ∙ add-zero (bits * 1) ∙ mul-one bits) ∙ found .followed
 all-places m mantissa bits (suc left) none found = absurd (not-suc-le-zero none)
 
@@ -61,7 +62,7 @@ abbrev μ-loop : tie.MeasureT-loop
 μ-loop m mantissa₀ bits₀ left₀ mantissa bits left = left
 
 loop-holds : tie.Need-loop-holds Inv-loop μ-loop
-loop-holds c = record { is-mantissa = record { low = c .pre .0; high = c .pre .1 }; short = le-refl (2 ^ 52); followed = zero-add (logBits 52 (c .args .m)) }
+loop-holds c = record { is-mantissa = record { low = c .pre .0; high = c .pre .1 }; short = le-refl (2 ^ places); followed = zero-add (logBits places (c .args .m)) }
 
 squared-requires : tie.Need-squared-requires Inv-loop μ-loop
 squared-requires c κs = c .before .loop .inv .is-mantissa .high

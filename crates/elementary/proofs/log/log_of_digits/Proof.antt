@@ -7,6 +7,7 @@ use borrow.Author.Needs.{needs}
 use lib.Count.{leadingZeros}
 use mathlib.Core.Bool.{true, false}
 use Rattle.elementary.specs.Log.{logBits, mantissaOf}
+use Rattle.elementary.specs.Places.{places}
 use Rattle.elementary.proofs.Range.{logBits-lt}
 use Rattle.elementary.proofs.Times.{same-word}
 use Rattle.elementary.proofs.LogDigits.{Leading, leading, moved-up, moved-mantissa, units-mantissa, units-above, units-below}
@@ -40,13 +41,13 @@ add-highest c = search needs
 sub-t12 : tie.Need-sub-t12
 sub-t12 c = search needs
 
-bits-lt : (c : tie.After-log-bits) → c .log-bits .result < 2 ^ 52
-bits-lt c = subst (λ (x : ℕ). x < 2 ^ 52) (sym (c .log-bits .ensures)) (logBits-lt 52 _)
+bits-lt : (c : tie.After-log-bits) → c .log-bits .result < 2 ^ places
+bits-lt c = subst (λ (x : ℕ). x < 2 ^ places) (sym (c .log-bits .ensures)) (logBits-lt places _)
 
-bits-are : (c : tie.After-log-bits) → logBits 52 (mantissaOf (c .before .args .q * 2 ^ c .before .args .k)) ≡ c .log-bits .result
+bits-are : (c : tie.After-log-bits) → logBits places (mantissaOf (c .before .args .q * 2 ^ c .before .args .k)) ≡ c .log-bits .result
 bits-are c =
     let l = found (c .before) in
-    ap (logBits 52) (units-mantissa _ (l .highest) (c .before .args .k) (l .low) (l .high) (omega arith) ∙ sym (moved-up _ _ l)) ∙ sym (c .log-bits .ensures)
+    ap (logBits places) (units-mantissa _ (l .highest) (c .before .args .k) (l .low) (l .high) (omega arith) ∙ sym (moved-up _ _ l)) ∙ sym (c .log-bits .ensures)
 
 sub-t13 : tie.Need-sub-t13
 sub-t13 c = omega (arith, bits-lt (c .before))
@@ -55,13 +56,13 @@ returns : tie.Need-returns
 returns c =
     let at = c .before .before in
     let l = found at in
-    (same-word false (omega arith) refl ∙ units-above (at .args .q) (l .highest) (at .args .k) (l .low) (l .high) 52 (c .before .log-bits .result) (bits-lt (c .before)) (bits-are (c .before)) (omega arith), omega (arith, at .pre .exponent))
+    (same-word false (omega arith) refl ∙ units-above (at .args .q) (l .highest) (at .args .k) (l .low) (l .high) places (c .before .log-bits .result) (bits-lt (c .before)) (bits-are (c .before)) (omega arith), omega (arith, at .pre .exponent))
 
 returns-2 : tie.Need-returns-2
 returns-2 c =
     let at = c .before .before in
     let l = found at in
-    (same-word true (omega arith) (omega arith) ∙ units-below (at .args .q) (l .highest) (at .args .k) (l .low) (l .high) 52 (c .before .log-bits .result) (bits-lt (c .before)) (bits-are (c .before)) (omega arith), omega arith)
+    (same-word true (omega arith) (omega arith) ∙ units-below (at .args .q) (l .highest) (at .args .k) (l .low) (l .high) places (c .before .log-bits .result) (bits-lt (c .before)) (bits-are (c .before)) (omega arith), omega arith)
 
 pub log-of-digits-spec : {M : Type 1} → statement M
 log-of-digits-spec =

@@ -10,21 +10,22 @@ use Rattle.elementary.specs.Whole.{asWord}
 use Rattle.elementary.specs.Nearest.{unitsOf}
 use Rattle.elementary.specs.Parts.{TakenApart}
 use Rattle.elementary.specs.Log.{wordOfUnits, logarithm}
+use Rattle.elementary.specs.Places.{places}
 use Rattle.elementary.proofs.Parts.{told, signed-parts, finite-of-parts, units-of-parts}
 use Rattle.elementary.proofs.log.log_word.Statement.{statement}
 use Rattle.elementary.proofs.log.log_word.Tie as tie
 
-negative-undefined : {x : Float} {s : Bool} {q k : ℕ} → TakenApart x (Finite s q k) → s ≡ true → Undefined ≡ logarithm 52 x
+negative-undefined : {x : Float} {s : Bool} {q k : ℕ} → TakenApart x (Finite s q k) → s ≡ true → Undefined ≡ logarithm places x
 unfolding logarithm
 negative-undefined {x} {s} {q} {k} apart e =
-    ap (logarithm 52) (sym (finite-of-parts true q k (apart .within .positive) .2) ∙ signed-parts apart e)
+    ap (logarithm places) (sym (finite-of-parts true q k (apart .within .positive) .2) ∙ signed-parts apart e)
 
-positive-defined : {x : Float} {s : Bool} {q k : ℕ} → TakenApart x (Finite s q k) → s ≡ false → Defined (asWord 52 (wordOfUnits 52 (q * 2 ^ k))) ≡ logarithm 52 x
+positive-defined : {x : Float} {s : Bool} {q k : ℕ} → TakenApart x (Finite s q k) → s ≡ false → Defined (asWord places (wordOfUnits places (q * 2 ^ k))) ≡ logarithm places x
 unfolding logarithm
 positive-defined {x} {s} {q} {k} apart e =
     let f = finite-of-parts false q k (apart .within .positive) .2 in
-    ap (λ (n : ℕ). Defined (asWord 52 (wordOfUnits 52 n))) (sym (units-of-parts false q k) ∙ ap unitsOf f)
-    ∙ ap (logarithm 52) (sym f ∙ signed-parts apart e)
+    ap (λ (n : ℕ). Defined (asWord places (wordOfUnits places n))) (sym (units-of-parts false q k) ∙ ap unitsOf f)
+    ∙ ap (logarithm places) (sym f ∙ signed-parts apart e)
 
 log-of-digits-requires : tie.Need-log-of-digits-requires
 log-of-digits-requires c κs = told (c .before .before .before .before .take-apart .ensures) (c .before .before .negative .given .1) .within
@@ -41,15 +42,15 @@ returns-2 c =
 
 returns-3 : tie.Need-returns-3
 unfolding logarithm
-returns-3 c = ap (logarithm 52) (told (c .before .before .take-apart .ensures) (c .enum-told .given .1) .same)
+returns-3 c = ap (logarithm places) (told (c .before .before .take-apart .ensures) (c .enum-told .given .1) .same)
 
 returns-4 : tie.Need-returns-4
 unfolding logarithm
-returns-4 c = ap (logarithm 52) (told (c .before .before .take-apart .ensures) (c .enum-told2 .given .1) .same)
+returns-4 c = ap (logarithm places) (told (c .before .before .take-apart .ensures) (c .enum-told2 .given .1) .same)
 
 returns-5 : tie.Need-returns-5
 unfolding logarithm
-returns-5 c = ap (logarithm 52) (told (c .before .before .take-apart .ensures) (c .enum-told3 .given .1) .same)
+returns-5 c = ap (logarithm places) (told (c .before .before .take-apart .ensures) (c .enum-told3 .given .1) .same)
 
 pub log-word-spec : {M : Type 1} → statement M
 log-word-spec =

@@ -5,6 +5,7 @@ use borrow.Author.Needs.{needs}
 use lib.Ieee.{Float, nan, ofBits, neg, div, odd}
 use Rattle.elementary.specs.Exponents.{exponentAt, isThree, isFour}
 use Rattle.elementary.specs.Power.{positivePower, power}
+use Rattle.elementary.specs.Places.{places}
 use Rattle.elementary.proofs.Exponents.{is-three, not-three, is-four, not-four}
 use Rattle.elementary.proofs.PowerCases.{finite-positive, finite-negative}
 use Rattle.elementary.proofs.power.finite_power.Statement.{statement}
@@ -12,16 +13,16 @@ use Rattle.elementary.proofs.power.finite_power.Tie as tie
 
 -- the power of the base's size, and what the rule makes of it for a negative base
 abbrev size-power : tie.Start → Float
-size-power c = positivePower 52 (exponentAt (c .args .number)) (odd 53 false (c .args .q) (c .args .k) 1074)
+size-power c = positivePower places (exponentAt (c .args .number)) (odd 53 false (c .args .q) (c .args .k) 1074)
 
 abbrev by-exponent : tie.Start → Bool → Bool → Float
 by-exponent c three four = cond three (neg (size-power c)) (cond four (size-power c) nan)
 
-negative-base : (c : tie.Start) (three four : Bool) → isThree (exponentAt (c .args .number)) ≡ three → isFour (exponentAt (c .args .number)) ≡ four → c .args .negative ≡ true → by-exponent c three four ≡ power 52 (exponentAt (c .args .number)) (odd 53 (c .args .negative) (c .args .q) (c .args .k) 1074)
+negative-base : (c : tie.Start) (three four : Bool) → isThree (exponentAt (c .args .number)) ≡ three → isFour (exponentAt (c .args .number)) ≡ four → c .args .negative ≡ true → by-exponent c three four ≡ power places (exponentAt (c .args .number)) (odd 53 (c .args .negative) (c .args .q) (c .args .k) 1074)
 negative-base c three four t f e =
     ap₂ (by-exponent c) (sym t) (sym f)
-    ∙ finite-negative 52 (exponentAt (c .args .number)) (c .args .q) (c .args .k) (c .pre .0 .positive)
-    ∙ ap (λ (s : Bool). power 52 (exponentAt (c .args .number)) (odd 53 s (c .args .q) (c .args .k) 1074)) (sym e)
+    ∙ finite-negative places (exponentAt (c .args .number)) (c .args .q) (c .args .k) (c .pre .0 .positive)
+    ∙ ap (λ (s : Bool). power places (exponentAt (c .args .number)) (odd 53 s (c .args .q) (c .args .k) 1074)) (sym e)
 
 returns : tie.Need-returns
 returns c =
@@ -45,8 +46,8 @@ returns-4 c =
     let start = c .before .before in
     let e = exponentAt (start .args .number) in
     c .positive-power3 .ensures
-    ∙ finite-positive 52 e (start .args .q) (start .args .k) (start .pre .0 .positive)
-    ∙ ap (λ (s : Bool). power 52 e (odd 53 s (start .args .q) (start .args .k) 1074)) (sym (c .before .if1 .left))
+    ∙ finite-positive places e (start .args .q) (start .args .k) (start .pre .0 .positive)
+    ∙ ap (λ (s : Bool). power places e (odd 53 s (start .args .q) (start .args .k) 1074)) (sym (c .before .if1 .left))
 
 pub finite-power-spec : {M : Type 1} → statement M
 finite-power-spec = tie.close (tie.spec (λ c κs. search needs) returns (λ c κs. search needs) returns-2 returns-3 (λ c κs. search needs) returns-4)

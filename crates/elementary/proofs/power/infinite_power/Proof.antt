@@ -5,6 +5,7 @@ use borrow.Author.Needs.{needs}
 use lib.Ieee.{inf, neg}
 use Rattle.elementary.specs.Exponents.{exponentAt}
 use Rattle.elementary.specs.Power.{infinityOrZero, power}
+use Rattle.elementary.specs.Places.{places}
 use Rattle.elementary.proofs.Exponents.{is-three, not-three}
 use Rattle.elementary.proofs.PowerCases.{infinite-three, infinite-other, infinite-positive}
 use Rattle.elementary.proofs.power.infinite_power.Statement.{statement}
@@ -15,19 +16,19 @@ unfolding neg
 returns c =
     let start = c .before .before .before in
     let e = exponentAt (start .args .number) in
-    ap neg (c .infinity-or-zero .ensures) ∙ infinite-three 52 e (is-three (start .args .number) (start .pre) (c .before .if2 .taken)) ∙ ap (λ (s : Bool). power 52 e (inf s)) (sym (c .before .before .if1 .taken))
+    ap neg (c .infinity-or-zero .ensures) ∙ infinite-three places e (is-three (start .args .number) (start .pre) (c .before .if2 .taken)) ∙ ap (λ (s : Bool). power places e (inf s)) (sym (c .before .before .if1 .taken))
 
 returns-2 : tie.Need-returns-2
 returns-2 c =
     let start = c .before .before .before .before in
     let e = exponentAt (start .args .number) in
-    c .infinity-or-zero2 .ensures ∙ ap infinityOrZero (c .before .is-negative .ensures) ∙ infinite-other 52 e (not-three (start .args .number) (start .pre) (c .before .before .if2 .left)) ∙ ap (λ (s : Bool). power 52 e (inf s)) (sym (c .before .before .before .if1 .taken))
+    c .infinity-or-zero2 .ensures ∙ ap infinityOrZero (c .before .is-negative .ensures) ∙ infinite-other places e (not-three (start .args .number) (start .pre) (c .before .before .if2 .left)) ∙ ap (λ (s : Bool). power places e (inf s)) (sym (c .before .before .before .if1 .taken))
 
 returns-3 : tie.Need-returns-3
 returns-3 c =
     let start = c .before .before .before in
     let e = exponentAt (start .args .number) in
-    c .infinity-or-zero3 .ensures ∙ ap infinityOrZero (c .before .is-negative2 .ensures) ∙ infinite-positive 52 e ∙ ap (λ (s : Bool). power 52 e (inf s)) (sym (c .before .before .if1 .left))
+    c .infinity-or-zero3 .ensures ∙ ap infinityOrZero (c .before .is-negative2 .ensures) ∙ infinite-positive places e ∙ ap (λ (s : Bool). power places e (inf s)) (sym (c .before .before .if1 .left))
 
 pub infinite-power-spec : {M : Type 1} → statement M
 infinite-power-spec =

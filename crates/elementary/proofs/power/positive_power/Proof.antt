@@ -12,35 +12,33 @@ use Rattle.elementary.specs.Whole.{signed, floorDiv, wordValue, asWord}
 use Rattle.elementary.specs.Log.{wordOfUnits}
 use Rattle.elementary.specs.Antilog.{antilog}
 use Rattle.elementary.specs.Exponents.{exponentAt}
+use Rattle.elementary.specs.Places.{places}
 use Rattle.elementary.proofs.Exponents.{magnitude-pos}
 use Rattle.elementary.proofs.Parts.{units-of-parts}
-use Rattle.elementary.proofs.Times.{word-value, part-lt, opposite-small, times-sign}
+use Rattle.elementary.proofs.Times.{word-value, word-short, opposite-small, times-sign}
 use Rattle.elementary.proofs.power.positive_power.Statement.{statement}
 use Rattle.elementary.proofs.power.positive_power.Tie as tie
 
 -- the log word, and the same with the exponent's sign
 abbrev log : tie.Start → ℤ
-log c = wordOfUnits 52 (c .args .q * 2 ^ c .args .k)
-
-short : {w : Word} (z : ℤ) → w ≡ asWord 52 z → w .part < 2 ^ 52
-short z e = subst (λ (v : Word). v .part < 2 ^ 52) (sym e) (part-lt 52 z)
+log c = wordOfUnits places (c .args .q * 2 ^ c .args .k)
 
 opposite-requires : tie.Need-opposite-requires
-opposite-requires c κs = let l = c .before .before .log-of-digits in (lt-of-lt-of-le (l .ensures .1) (lit≤ tt), short (log (c .before .before .before)) (l .ensures .0))
+opposite-requires c κs = let l = c .before .before .log-of-digits in (lt-of-lt-of-le (l .ensures .1) (lit≤ tt), word-short places (log (c .before .before .before)) (l .ensures .0))
 
 record Signed (w : Word) (s : Bool) (z : ℤ) : Type 0 where
-  is : w ≡ asWord 52 (cond s (negℤ z) z)
+  is : w ≡ asWord places (cond s (negℤ z) z)
   small : w .whole < 2 ^ 12
 
 signed-word : (c : tie.Joined1) → Signed (c .if1 .word) (exponentAt (c .before .before .before .args .number) .negative) (log (c .before .before .before))
 signed-word c =
     let l = c .before .before .log-of-digits in
     let z = log (c .before .before .before) in
-    let sign : Bool → Word = λ s. asWord 52 (cond s (negℤ z) z) in
+    let sign : Bool → Word = λ s. asWord places (cond s (negℤ z) z) in
     ⊎-elim
     (λ w. record {
-      is = w .2 ∙ w .1 .ensures ∙ ap (λ (a : ℤ). asWord 52 (negℤ a)) (ap (wordValue 52) (l .ensures .0) ∙ word-value 52 z) ∙ ap sign (sym (w .0 .taken) ∙ c .before .is-negative .ensures);
-      small = subst (λ (v : Word). v .whole < 2 ^ 12) (sym (w .2 ∙ w .1 .ensures)) (lt-of-le-of-lt (opposite-small 52 11 (l .result) (l .ensures .1) (short z (l .ensures .0))) (lit< {m = 2 ^ 11} tt));
+      is = w .2 ∙ w .1 .ensures ∙ ap (λ (a : ℤ). asWord places (negℤ a)) (ap (wordValue places) (l .ensures .0) ∙ word-value places z) ∙ ap sign (sym (w .0 .taken) ∙ c .before .is-negative .ensures);
+      small = subst (λ (v : Word). v .whole < 2 ^ 12) (sym (w .2 ∙ w .1 .ensures)) (lt-of-le-of-lt (opposite-small places 11 (l .result) (l .ensures .1) (word-short places z (l .ensures .0))) (lit< {m = 2 ^ 11} tt));
     })
     (λ w. record {
       is = w .1 ∙ l .ensures .0 ∙ ap sign (sym (w .0 .left) ∙ c .before .is-negative .ensures);
@@ -55,7 +53,7 @@ times-requires : tie.Need-times-requires
 times-requires c κs =
     let start = c .before .before .before .before in
     let w = signed-word (c .before) in
-    (w .small, short (signed-log start) (w .is), subst (λ (n : ℕ). 0 < n) (sym (c .magnitude .ensures)) (magnitude-pos (start .args .number) (start .pre .1)), lit≤ tt, lit≤ tt)
+    (w .small, word-short places (signed-log start) (w .is), subst (λ (n : ℕ). 0 < n) (sym (c .magnitude .ensures)) (magnitude-pos (start .args .number) (start .pre .1)), lit≤ tt, lit≤ tt)
 
 returns : tie.Need-returns
 returns c =
@@ -64,11 +62,11 @@ returns c =
     let q = exponentAt (start .args .number) in
     let w = signed-word (at .before) in
     c .antilog .ensures
-    ∙ ap (λ (v : Word). antilog 52 (wordValue 52 v)) (c .before .times .ensures)
-    ∙ ap (antilog 52) (word-value 52 (floorDiv (wordValue 52 (at .before .if1 .word) *ℤ pos (at .magnitude .result)) (2 ^ 58)))
-    ∙ ap₂ (λ (z : ℤ) (n : ℕ). antilog 52 (floorDiv (z *ℤ pos n) (2 ^ 58))) (ap (wordValue 52) (w .is) ∙ word-value 52 (signed-log start)) (at .magnitude .ensures)
-    ∙ ap (λ (z : ℤ). antilog 52 (floorDiv z (2 ^ 58))) (times-sign (q .negative) (log start) (q .magnitude))
-    ∙ ap (λ (n : ℕ). antilog 52 (floorDiv (wordOfUnits 52 n *ℤ signed (q .negative) (q .magnitude)) (2 ^ 58))) (sym (units-of-parts false (start .args .q) (start .args .k)))
+    ∙ ap (λ (v : Word). antilog places (wordValue places v)) (c .before .times .ensures)
+    ∙ ap (antilog places) (word-value places (floorDiv (wordValue places (at .before .if1 .word) *ℤ pos (at .magnitude .result)) (2 ^ 58)))
+    ∙ ap₂ (λ (z : ℤ) (n : ℕ). antilog places (floorDiv (z *ℤ pos n) (2 ^ 58))) (ap (wordValue places) (w .is) ∙ word-value places (signed-log start)) (at .magnitude .ensures)
+    ∙ ap (λ (z : ℤ). antilog places (floorDiv z (2 ^ 58))) (times-sign (q .negative) (log start) (q .magnitude))
+    ∙ ap (λ (n : ℕ). antilog places (floorDiv (wordOfUnits places n *ℤ signed (q .negative) (q .magnitude)) (2 ^ 58))) (sym (units-of-parts false (start .args .q) (start .args .k)))
 
 pub positive-power-spec : {M : Type 1} → statement M
 positive-power-spec =

@@ -6,6 +6,7 @@ use lib.IntN.{pos, negℤ}
 use native.Mathlib.Omega.{arith}
 use borrow.Author.Needs.{needs}
 use Rattle.elementary.specs.Whole.{asWord}
+use Rattle.elementary.specs.Places.{places}
 use Rattle.elementary.proofs.Times.{same-word, opposite-positive}
 use Rattle.elementary.proofs.word.opposite.Statement.{statement}
 use Rattle.elementary.proofs.word.opposite.Tie as tie
@@ -34,18 +35,18 @@ returns-3 : tie.Need-returns-3
 returns-3 c =
     simp (c .before .if1 .left)
     (same-word true (omega arith) (omega arith)
-    ∙ opposite-positive 52 (c .before .before .args .w .whole * 2 ^ 52 + c .before .before .args .w .part) (omega arith))
+    ∙ opposite-positive places (c .before .before .args .w .whole * 2 ^ places + c .before .before .args .w .part) (omega arith))
 
 returns-4 : tie.Need-returns-4
 returns-4 c =
     simp (c .before .before .if1 .left)
     (same-word true (omega arith) (omega arith)
-    ∙ opposite-positive 52 (c .before .before .before .args .w .whole * 2 ^ 52 + c .before .before .before .args .w .part) (omega arith))
+    ∙ opposite-positive places (c .before .before .before .args .w .whole * 2 ^ places + c .before .before .before .args .w .part) (omega arith))
 
 returns-5 : tie.Need-returns-5
 returns-5 c =
-    let zero-digits : c .before .before .before .args .w .whole * 2 ^ 52 + c .before .before .before .args .w .part ≡ 0 = omega arith in
-    simp (c .before .before .if1 .left) (ap (λ (a : ℕ). asWord 52 (negℤ (pos a))) (sym zero-digits))
+    let zero-digits : c .before .before .before .args .w .whole * 2 ^ places + c .before .before .before .args .w .part ≡ 0 = omega arith in
+    simp (c .before .before .if1 .left) (ap (λ (a : ℕ). asWord places (negℤ (pos a))) (sym zero-digits))
 
 pub opposite-spec : {M : Type 1} → statement M
 opposite-spec =

@@ -5,8 +5,10 @@ use mathlib.Core.Logic.{⊎-elim}
 use Prim.Native.Nat.{ℕ, _+_, _*_, _/_, _%_, _^_, _<_}
 use native.Mathlib.Omega.{arith}
 use borrow.Author.Needs.{needs}
+use lib.Dec.{lit≤}
 use lib.Pow.{pow-pos, pow-add}
 use Rattle.elementary.specs.Whole.{digits}
+use Rattle.elementary.specs.Places.{places}
 use Rattle.elementary.proofs.Times.{remaining, extraOf, above-point, below-point, times-word, same-word}
 use Rattle.elementary.proofs.Carried.{one-moved, Quotients, quotients}
 use Rattle.elementary.proofs.word.times.Statement.{statement}
@@ -17,14 +19,14 @@ extra-is c =
     let extra : Bool → ℕ = λ s. extraOf s (c .before .args .factor) in
     ⊎-elim (λ w. w .1 ∙ sym (ap extra (w .0 .taken))) (λ w. w .1 ∙ sym (ap extra (w .0 .left))) (c .if1 .came)
 
-extra-lt : (c : tie.Joined1) → c .if1 .extra < 2 ^ 64
-extra-lt c = ⊎-elim (λ w. omega (arith, c .before .fits .factor)) (λ w. omega arith) (c .if1 .came)
+extra-lt : (c : tie.Joined1) → c .if1 .extra < c .before .args .factor
+extra-lt c = ⊎-elim (λ w. omega (arith, c .before .pre .2)) (λ w. omega (arith, c .before .pre .2)) (c .if1 .came)
 
 -- on the way to the place after the last call
 abbrev joined : tie.After-shifted-right3 → tie.Joined1
 joined c = c .before .before .before .before .before .before .before .before .before .before
 
-made : (c : tie.After-shifted-right3) → let a = joined c .before .args in Quotients (a .w .whole) (a .w .part) (a .factor) (joined c .if1 .extra) (a .shift) (c .before .before .before .before .before .shifted-right .result .lo) (c .before .shifted-right2 .result .lo) (c .shifted-right3 .result .lo)
+made : (c : tie.After-shifted-right3) → let a = joined c .before .args in Quotients places (a .w .whole) (a .w .part) (a .factor) (joined c .if1 .extra) (a .shift) (c .before .before .before .before .before .shifted-right .result .lo) (c .before .shifted-right2 .result .lo) (c .shifted-right3 .result .lo)
 made c =
     let at-sum2 = c .before .before in
     let at-left = at-sum2 .before in
@@ -33,13 +35,15 @@ made c =
     let at-product2 = at-sum .before in
     let at-product = at-product2 .before in
     let pre = joined c .before .pre in
-    quotients _ _ _ _ _ (pre .0) (pre .1) (joined c .before .fits .factor .fits) (extra-lt (joined c)) (pre .3) (pre .4)
+    quotients places _ _ _ _ _ (lit≤ tt) (pre .0) (pre .1) (joined c .before .fits .factor .fits) (extra-lt (joined c)) (pre .3) (pre .4)
     (at-product .product .result) (at-product2 .product2 .result) (at-sum .sum .result .word) (at-right .shifted-right .result) (at-left .shifted-left .result) (at-sum2 .sum2 .result .word) (c .before .shifted-right2 .result) (c .shifted-right3 .result)
     (at-sum .sum .result .carry) (at-sum2 .sum2 .result .carry)
     (at-product .product .ensures) (at-product2 .product2 .ensures) (at-sum .sum .ensures) (at-right .shifted-right .ensures) (at-left .shifted-left .ensures) (at-sum2 .sum2 .ensures) (c .before .shifted-right2 .ensures) (c .shifted-right3 .ensures)
 
 rem-rest : tie.Need-rem-rest
-rem-rest c = subst (λ (n : ℕ). 0 < n) (sym (one-moved _ (c .before .before .before .before .before .before .before .pre .4))) (pow-pos _)
+rem-rest c =
+    let start = c .before .before .before .before .before .before .before in
+    subst (λ (n : ℕ). 0 < n) (sym (one-moved (start .args .shift) (omega (arith, start .pre .4)))) (pow-pos (start .args .shift))
 
 add-t18 : tie.Need-add-t18
 add-t18 c = omega (arith, made (c .before .before))
@@ -55,10 +59,10 @@ returns c =
     let d = 2 ^ a .shift in
     let q = made at in
     same-word (a .w .negative)
-    (ap₂ (λ (x y : ℕ). x + y) (q .quotient-is) (q .high-is ∙ ap (λ (n : ℕ). remaining 52 (a .w .whole) (a .w .part) (a .factor) (joined at .if1 .extra) d / n) (pow-add 2 (a .shift) 52)) ∙ sym (above-point 52 (a .w .whole) (a .w .part) (a .factor) (joined at .if1 .extra) d (pow-pos (a .shift))))
-    (ap (λ (n : ℕ). n % 2 ^ 52) (q .low-is) ∙ sym (below-point 52 (a .w .whole) (a .w .part) (a .factor) (joined at .if1 .extra) d (pow-pos (a .shift))))
-    ∙ ap (λ (x : ℕ). record { negative = a .w .negative; whole = (digits 52 (a .w) * a .factor + x) / d / 2 ^ 52; part = (digits 52 (a .w) * a .factor + x) / d % 2 ^ 52 }) (extra-is (joined at))
-    ∙ sym (times-word 52 (a .w) (a .factor) d (start .pre .2) (pow-pos (a .shift)))
+    (ap₂ (λ (x y : ℕ). x + y) (q .quotient-is) (q .high-is ∙ ap (λ (n : ℕ). remaining places (a .w .whole) (a .w .part) (a .factor) (joined at .if1 .extra) d / n) (pow-add 2 (a .shift) places)) ∙ sym (above-point places (a .w .whole) (a .w .part) (a .factor) (joined at .if1 .extra) d (pow-pos (a .shift))))
+    (q .low-is ∙ sym (below-point places (a .w .whole) (a .w .part) (a .factor) (joined at .if1 .extra) d (pow-pos (a .shift))))
+    ∙ ap (λ (x : ℕ). record { negative = a .w .negative; whole = (digits places (a .w) * a .factor + x) / d / 2 ^ places; part = (digits places (a .w) * a .factor + x) / d % 2 ^ places }) (extra-is (joined at))
+    ∙ sym (times-word places (a .w) (a .factor) d (start .pre .2) (pow-pos (a .shift)))
 
 pub times-spec : {M : Type 1} → statement M
 times-spec =
