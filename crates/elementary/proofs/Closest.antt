@@ -12,7 +12,7 @@ use lib.Ieee.Fits.{nearest-le}
 use lib.Ieee.Nearest.{closest, nearest-ge}
 
 -- ---- `nearest` chooses as a and b compare
-nearest-is : (q a b r : ℕ) → (a < b → r ≡ q) → (a ≡ b → r ≡ q + q % 2) → (b < a → r ≡ suc q) → r ≡ nearest q (compare a b)
+pub nearest-is : (q a b r : ℕ) → (a < b → r ≡ q) → (a ≡ b → r ≡ q + q % 2) → (b < a → r ≡ suc q) → r ≡ nearest q (compare a b)
 nearest-is q a b r less same more = go (compare a b) (leb→le a b) (nleb→lt a b) (eqb→eq a b) (λ (e : a ≡ b). subst (λ (x : ℕ). T (eqb a x)) e (eqb-refl a))
   where
     go : (o : Ordering) → (T (isLe o) → a ≤ b) → (T (not (isLe o)) → b < a) → (T (isEq o) → a ≡ b) → (a ≡ b → T (isEq o)) → r ≡ nearest q o

@@ -25,7 +25,7 @@ minus-above a b h = ap (λ (t : Bool). cond t (pos (a - b)) (negsuc (b - suc a))
 pub minus-below : (a b : ℕ) → a < b → minus a b ≡ negsuc (b - suc a)
 minus-below a b h = ap (λ (t : Bool). cond t (pos (a - b)) (negsuc (b - suc a))) (is-false (leb b a) (lt→nleb b a h))
 
-by-sign : (P : ℤ → Type 0) (a b : ℕ) → (b ≤ a → P (pos (a - b))) → (a < b → P (negsuc (b - suc a))) → P (minus a b)
+pub by-sign : (P : ℤ → Type 0) (a b : ℕ) → (b ≤ a → P (pos (a - b))) → (a < b → P (negsuc (b - suc a))) → P (minus a b)
 by-sign P a b above below = go (decLe b a)
   where
     go : Dec (b ≤ a) → P (minus a b)
@@ -46,7 +46,7 @@ minus-same a b c d e =
     (λ h. ap negsuc (omega arith) ∙ sym (minus-below c d (omega arith)))
 
 -- ---- times a factor
-opposite : (n : ℕ) → negℤ (pos n) ≡ minus 0 n
+pub opposite : (n : ℕ) → negℤ (pos n) ≡ minus 0 n
 opposite zero = sym (minus-above 0 0 (omega arith))
 opposite (suc n) = ap negsuc (omega arith) ∙ sym (minus-below 0 (suc n) (omega arith))
 

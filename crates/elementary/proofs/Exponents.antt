@@ -13,11 +13,11 @@ use lib.Ieee.Fits.{and-l, and-r}
 use Rattle.elementary.specs.Exponents.{exponents, exponentAt, isThree, isFour}
 
 -- ---- a test at every number below n
-abbrev every : ℕ → (ℕ → Bool) → Bool
+abbrev pub every : ℕ → (ℕ → Bool) → Bool
 every zero test = true
 every (suc n) test = test n && every n test
 
-at : (n : ℕ) (test : ℕ → Bool) → T (every n test) → (i : ℕ) → i < n → T (test i)
+pub at : (n : ℕ) (test : ℕ → Bool) → T (every n test) → (i : ℕ) → i < n → T (test i)
 at zero test t i h = absurd (not-suc-le-zero h)
 at (suc n) test t i h =
     elim (eq-or-lt-of-le (le-of-suc-le-suc h)) [

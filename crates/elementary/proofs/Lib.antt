@@ -3,6 +3,14 @@ pub mod Powers
 pub mod Range
 pub mod Monotone
 pub mod Distance
+pub mod HowNear
+pub mod RoundedNear
+pub mod RootsNear
+pub mod PowerNear
+pub mod EulerNear
+pub mod ExpNear
+pub mod LnNear
+pub mod FunctionsNear
 pub mod Integers
 pub mod Order
 pub mod Rounding

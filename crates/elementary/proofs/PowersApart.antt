@@ -34,7 +34,7 @@ words-apart n D X Y b c some apart below above =
     (mul-lt-mul-of-pos-right above (one-le-pow K n some))))
 
 -- ---- the antilogs: 2^62 times 2 to the power a / 2 ^ p is at least the scaled root, and less than that of the root plus 4
-root-below : (p a : ℕ) → scaledRoot p a ^ 2 ^ p ≤ 2 ^ (62 * 2 ^ p + a)
+pub root-below : (p a : ℕ) → scaledRoot p a ^ 2 ^ p ≤ 2 ^ (62 * 2 ^ p + a)
 root-below p a =
     let K : ℕ = 2 ^ p in
     let whole : 62 * K + a % K + a / K * K ≡ 62 * K + a = omega (arith, div-add-mod' a K) in
@@ -42,7 +42,7 @@ root-below p a =
     (le-trans (mul-le-mul-right (2 ^ (a / K * K)) (antilogRoot-below p (a % K) (mod-lt a (pow-pos p))))
     (le-of-eq (sym (pow-add 2 (62 * K + a % K) (a / K * K)) ∙ ap (λ (x : ℕ). 2 ^ x) whole)))
 
-root-above : (p a : ℕ) → 2 ^ (62 * 2 ^ p + a) < ((antilogRoot p (a % 2 ^ p) + 4) * 2 ^ (a / 2 ^ p)) ^ 2 ^ p
+pub root-above : (p a : ℕ) → 2 ^ (62 * 2 ^ p + a) < ((antilogRoot p (a % 2 ^ p) + 4) * 2 ^ (a / 2 ^ p)) ^ 2 ^ p
 root-above p a =
     let K : ℕ = 2 ^ p in
     let whole : 62 * K + a % K + a / K * K ≡ 62 * K + a = omega (arith, div-add-mod' a K) in

@@ -14,3 +14,5 @@ pub mod Power
 pub mod Exp
 pub mod Ln
 pub mod Sqrt
+pub mod HowNear
+pub mod FunctionsNear
