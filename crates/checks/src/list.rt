@@ -19,6 +19,8 @@ use exports::rules::station_air_antilog;
 use exports::rules::station_air_log_word;
 use exports::rules::station_air_power;
 use record::bits::double;
+use wide::quick::both_roots;
+use wide::words::Wide;
 
 // What a list is of, and whether a line has the answer or the two ends between which it lies.
 pub enum List {
@@ -29,7 +31,7 @@ pub enum List {
     Records,
 }
 
-// A function of `elementary`, or a figure that the line names.
+// A function of `elementary`, a figure that the line names, or both of `wide`'s roots.
 pub enum Function {
     Log,
     Antilog,
@@ -38,6 +40,7 @@ pub enum Function {
     Ln,
     Sqrt,
     Figure,
+    Root,
 }
 
 // What came of a list: its lines, those that differ, and the number of the first that does.
@@ -115,7 +118,7 @@ fn words(function: Function, exact: bool) -> usize
 {
     match function {
         Function::Log => if exact { 3 } else { 5 },
-        Function::Antilog | Function::Power => if exact { 3 } else { 4 },
+        Function::Antilog | Function::Power | Function::Root => if exact { 3 } else { 4 },
         Function::Exp | Function::Ln | Function::Sqrt => if exact { 2 } else { 3 },
         Function::Figure => 6,
     }
@@ -155,6 +158,13 @@ fn agrees(line: &[u8; 153], function: Function, exact: bool) -> bool {
         Function::Ln => double_agrees(station_air_ln(double(first)), exact, second, third),
         Function::Sqrt => double_agrees(station_air_sqrt(double(first)), exact, second, third),
         Function::Figure => figure_agrees(line),
+        Function::Root => roots_agree(
+            Wide {
+                hi: first,
+                lo: second,
+            },
+            third,
+        ),
     }
 }
 
@@ -164,6 +174,11 @@ fn double_agrees(answer: f64, exact: bool, low: u64, high: u64) -> bool {
     } else {
         between(answer, low, high)
     }
+}
+
+fn roots_agree(n: Wide, root: u64) -> bool {
+    let roots = both_roots(n);
+    roots.first == root && roots.quick == root
 }
 
 fn log_agrees(x: f64, low: Given, high: Given) -> bool {

@@ -23,6 +23,7 @@ fn main() {
     replay(b"rules_exp.txt", List::Exact(Function::Exp));
     replay(b"rules_ln.txt", List::Exact(Function::Ln));
     replay(b"rules_sqrt.txt", List::Exact(Function::Sqrt));
+    replay(b"roots.txt", List::Exact(Function::Root));
     replay(b"true_log.txt", List::Ends(Function::Log));
     replay(b"true_antilog.txt", List::Ends(Function::Antilog));
     replay(b"true_power.txt", List::Ends(Function::Power));

@@ -10,24 +10,32 @@ use super::word::ONES;
 use super::word::PLACES;
 use super::word::WHOLE;
 use super::word::Word;
-use wide::roots::floor_root;
+use wide::quick::quick_root;
+use wide::reciprocal_table::reciprocal_table;
+use wide::root_table::root_table;
 use wide::words::Wide;
 
 // 2^62 times 2 to the power f / 2^60, from f's lowest bit to its highest. The radicand, y * 2^62 or
-// y * 2^63, has its upper word from y's upper bits.
+// y * 2^63, has its upper word from y's upper bits, and from 125 to 126 bits.
 fn antilog_root(f: u64) -> u64
     requires { ⌜ f < 2 ^ places ⌝ }
     ensures { λ r. ⌜ r ≡ antilogRoot places f ⌝ }
 {
+    let roots = root_table();
+    let reciprocals = reciprocal_table();
     let mut y = 0x4000_0000_0000_0000u64;
     let mut rest = f;
     let mut place = 0u32;
     while place < PLACES {
         let bit = rest % 2;
-        y = floor_root(Wide {
-            hi: y >> (2 - bit),
-            lo: y << (62 + bit),
-        });
+        y = quick_root(
+            Wide {
+                hi: y >> (2 - bit),
+                lo: y << (62 + bit),
+            },
+            &roots,
+            &reciprocals,
+        );
         rest = rest / 2;
         place += 1;
     }

@@ -1,2 +1,3 @@
 -- The laws of the definitions of `wide`.
 pub mod Root
+pub mod Entry

@@ -1,4 +1,4 @@
 -- What the proofs of `roots` use: lemmas on plain numbers.
-mod Newton
-mod Halves
-mod Places
+pub mod Newton
+pub mod Halves
+pub mod Places

@@ -1,3 +1,3 @@
--- What the proofs of more than one function of `words` use: lemmas on plain numbers.
+-- What the proofs of `words` use: lemmas on plain numbers.
 mod Carries
-mod Shifts
+pub mod Shifts

@@ -1,6 +1,6 @@
 // The floor of the square root of a number of two words.
 ghost use mathlib.Core.Path.{_≡_};
-ghost use Prim.Native.Nat.{suc, _+_, _*_, _^_, _≤_, _<_};
+ghost use Prim.Native.Nat.{suc, _+_, _*_, _%_, _^_, _≤_, _<_};
 ghost use Rattle.wide.specs.Root.{root};
 ghost use Rattle.wide.specs.Value.{value};
 use super::words::Wide;
@@ -38,14 +38,12 @@ fn word_root(n: u64) -> u64
 // a number is taken as a top word and two digits to this base
 const BASE: u64 = 0x8000_0000;
 
-// The floor of the root of a number of 125 or 126 bits, by Zimmermann's Karatsuba square root: the top
-// word's root is the upper half of the answer, and one division gives the lower half or one more.
-fn normal_root(hi: u64, lo: u64) -> u64
-    requires { ⌜ (2 ^ 60 ≤ hi) × (hi < 2 ^ 62) ⌝ }
-    ensures { λ r. ⌜ r ≡ root (hi * 2 ^ 64 + lo) ⌝ }
+// The floor of the root of top * 2^62 and lo's lower 62 bits, from the root s of top, by Zimmermann's Karatsuba square root: s is
+// the upper half of the answer, and one division gives the lower half or one more.
+pub(crate) fn with_lower_half(top: u64, s: u64, lo: u64) -> u64
+    requires { ⌜ (2 ^ 62 ≤ top) × (s ≡ root top) ⌝ }
+    ensures { λ r. ⌜ r ≡ root (top * 2 ^ 62 + lo % 2 ^ 62) ⌝ }
 {
-    let top = hi * 4 + lo / BASE / BASE;
-    let s = word_root(top);
     let t = (top - s * s) * BASE + lo / BASE % BASE;
     let q = t / (2 * s);
     let u = t % (2 * s);
@@ -56,6 +54,15 @@ fn normal_root(hi: u64, lo: u64) -> u64
     } else {
         r - 1
     }
+}
+
+// The floor of the root of a number of 125 or 126 bits.
+fn normal_root(hi: u64, lo: u64) -> u64
+    requires { ⌜ (2 ^ 60 ≤ hi) × (hi < 2 ^ 62) ⌝ }
+    ensures { λ r. ⌜ r ≡ root (hi * 2 ^ 64 + lo) ⌝ }
+{
+    let top = hi * 4 + lo / BASE / BASE;
+    with_lower_half(top, word_root(top), lo)
 }
 
 // The floor of the root of a number of 65 to 126 bits: the number times a power of 4 has 125 or 126 bits.

@@ -4,7 +4,6 @@ ghost use Prim.Native.Nat.{_+_, _*_, _/_, _%_, _^_};
 ghost use Rattle.wide.specs.Value.{value};
 ghost use lib.Dec.{leb};
 use std::num::wrapping_add_u64;
-use std::num::wrapping_sub_u64;
 
 pub struct Wide {
     pub hi: u64,
@@ -34,7 +33,7 @@ pub fn product(a: u64, b: u64) -> Wide
     }
 }
 
-// A number modulo 2^128, and how often 2^128 was carried out of it, or borrowed for it.
+// A number modulo 2^128, and how often 2^128 was carried out of it.
 pub struct Carried {
     pub carry: u64,
     pub word: Wide,
@@ -50,20 +49,6 @@ pub fn sum(a: Wide, b: Wide) -> Carried
     let hi = wrapping_add_u64(part, b.hi);
     Carried {
         carry: (part < carry) as u64 + (hi < b.hi) as u64,
-        word: Wide { hi, lo },
-    }
-}
-
-// The difference of two numbers, with the borrow as its carry.
-pub fn difference(a: Wide, b: Wide) -> Carried
-    ensures { λ r. ⌜ value (r .word) + value b ≡ value a + r .carry * 2 ^ 128 ⌝ }
-{
-    let lo = wrapping_sub_u64(a.lo, b.lo);
-    let borrow = (a.lo < b.lo) as u64;
-    let part = wrapping_sub_u64(a.hi, b.hi);
-    let hi = wrapping_sub_u64(part, borrow);
-    Carried {
-        carry: (part < borrow) as u64 + (a.hi < b.hi) as u64,
         word: Wide { hi, lo },
     }
 }

@@ -9,7 +9,7 @@ use Rattle.wide.proofs.Root.{IsRoot}
 
 -- ---- the root of a number that is the square of x but for a little: w more and d less
 
-next-square : (x : ℕ) → suc x * suc x ≡ suc (x * x + 2 * x)
+pub next-square : (x : ℕ) → suc x * suc x ≡ suc (x * x + 2 * x)
 next-square x = omega (arith, mul-suc (suc x) x, suc-mul x x)
 
 pub left-over : (n x : ℕ) → IsRoot n x → n - x * x ≤ 2 * x

@@ -1,5 +1,4 @@
--- The sum of two numbers of two words each, from sums of words modulo 2 ^ 64 and the tests that tell their carries. A difference is
--- such a sum too: of the result and what was taken away. Assumes nothing.
+-- The sum of two numbers of two words each, from sums of words modulo 2 ^ 64 and the tests that tell their carries. Assumes nothing.
 use mathlib.Core.Path.{_≡_, refl, ap}
 use mathlib.Core.Bool.{Bool, true, false}
 use Prim.Native.Nat.{ℕ, _+_, _*_, _%_, _^_, _≤_, _<_}

@@ -53,10 +53,10 @@ all-bits f y rest place short end taken =
     taken .root-so-far ∙ ap (λ (n : ℕ). antilogRoot n (f % 2 ^ n)) last ∙ ap (antilogRoot places) (mod-eq-of-lt short)
 
 abbrev Inv-loop : tie.InvT-loop
-Inv-loop f y₀ rest₀ place₀ y rest place = Taken f y rest place
+Inv-loop f roots reciprocals y₀ rest₀ place₀ y rest place = Taken f y rest place
 
 abbrev μ-loop : tie.MeasureT-loop
-μ-loop f y₀ rest₀ place₀ y rest place = places - place
+μ-loop f roots reciprocals y₀ rest₀ place₀ y rest place = places - place
 
 pub antilog-root-spec : {M : Type 1} → statement M
 antilog-root-spec =
@@ -64,7 +64,9 @@ antilog-root-spec =
     (tie.spec
     Inv-loop
     μ-loop
-    (λ c. record { within = omega arith; bits = sym (div-one (c .args .f)); root-so-far = no-bits (c .args .f) })
+    (λ c κs. search needs)
+    (λ c κs. search needs)
+    (λ c. record { within = omega arith; bits = sym (div-one _); root-so-far = no-bits _ })
     (λ c. omega arith)
     (λ c. omega arith)
     (λ c. omega arith)
@@ -72,5 +74,5 @@ antilog-root-spec =
     (λ c κs. search needs)
     (λ c. omega arith)
     (λ c. omega arith)
-    (λ c. turn _ _ _ _ (c .floor-root .result) (c .before .loop-test .taken) (c .before .before .loop .inv) (c .floor-root .ensures))
-    (λ c. all-bits _ _ _ _ (c .before .before .pre) (c .loop-test .left) (c .before .loop .inv)))
+    (λ c. turn _ _ _ _ (c .quick-root .result) (c .before .before .before .loop-test .taken) (c .before .before .before .before .loop .inv) (c .quick-root .ensures))
+    (λ c. all-bits _ _ _ _ (c .before .before .before .before .pre) (c .loop-test .left) (c .before .loop .inv)))
