@@ -1,46 +1,71 @@
--- Laws of the choice of layer by a value that falls with height: the layer is one of those searched, and it and the height in it depend on nothing but
--- the values at their bases and their powers. Assumes nothing.
-use mathlib.Core.Path.{_≡_, refl, ap, ap₂, _∙_}
+-- Laws of the first layer that passes a test: it is one of those searched, it depends on nothing but the test there, and of a test that a higher layer passes
+-- too it tells every answer. The height in it depends on nothing but the values at the layers' bases and their powers. Assumes nothing.
+use mathlib.Core.Path.{_≡_, refl, sym, ap, ap₂, subst, _∙_}
 use mathlib.Core.Bool.{Bool, true, false, cond}
-use Prim.Native.Nat.{ℕ, zero, suc, _+_, _≤_}
+use Prim.Native.Nat.{ℕ, zero, suc, _+_, _≤_, _<_}
 use native.Mathlib.Nat.{le-refl}
 use native.Mathlib.Omega.{arith}
+use borrow.Author.Tests.{le-leb, lt-leb}
+use lib.Dec.{leb}
 use lib.Ieee.{Float, le}
-use Rattle.atmosphere.specs.Altitudes.{layerFrom, heightIn, heightFrom}
+use Rattle.atmosphere.specs.Altitudes.{firstFrom, heightIn, heightFrom}
 
 -- at most the last
-pub layer-from-le : (v : ℕ → Float) (n i : ℕ) (x : Float) → layerFrom v n i x ≤ n + i
-unfolding layerFrom
-layer-from-le v zero i x = omega arith
-layer-from-le v (suc n) i x = either (le (v (suc i)) x) (layer-from-le v n (suc i) x)
+pub first-le : (b : ℕ → Bool) (n i : ℕ) → firstFrom b n i ≤ n + i
+unfolding firstFrom
+first-le b zero i = omega arith
+first-le b (suc n) i = either (b i) (first-le b n (suc i))
   where
-    either : (t : Bool) → layerFrom v n (suc i) x ≤ n + suc i → cond t i (layerFrom v n (suc i) x) ≤ suc n + i
+    either : (t : Bool) → firstFrom b n (suc i) ≤ n + suc i → cond t i (firstFrom b n (suc i)) ≤ suc n + i
     either true h = omega arith
     either false h = omega arith
 
 -- at least the first
-layer-from-ge : (v : ℕ → Float) (n i : ℕ) (x : Float) → i ≤ layerFrom v n i x
-unfolding layerFrom
-layer-from-ge v zero i x = le-refl i
-layer-from-ge v (suc n) i x = either (le (v (suc i)) x) (layer-from-ge v n (suc i) x)
+first-ge : (b : ℕ → Bool) (n i : ℕ) → i ≤ firstFrom b n i
+unfolding firstFrom
+first-ge b zero i = le-refl i
+first-ge b (suc n) i = either (b i) (first-ge b n (suc i))
   where
-    either : (t : Bool) → suc i ≤ layerFrom v n (suc i) x → i ≤ cond t i (layerFrom v n (suc i) x)
+    either : (t : Bool) → suc i ≤ firstFrom b n (suc i) → i ≤ cond t i (firstFrom b n (suc i))
     either true h = le-refl i
     either false h = omega arith
 
--- two families of values that agree at the bases
-layer-from-same : (v w : ℕ → Float) (n i : ℕ) (x : Float) → ((j : ℕ) → i ≤ j → j ≤ n + i → v j ≡ w j) → layerFrom v n i x ≡ layerFrom w n i x
-unfolding layerFrom
-layer-from-same v w zero i x same = refl
-layer-from-same v w (suc n) i x same =
-    ap₂ (λ (y : Float) (j : ℕ). cond (le y x) i j) (same (suc i) (omega arith) (omega arith)) (layer-from-same v w n (suc i) x (λ j l h. same j (omega arith) (omega arith)))
+-- two tests that agree where they are asked
+first-same : (a b : ℕ → Bool) (n i : ℕ) → ((j : ℕ) → i ≤ j → j < n + i → a j ≡ b j) → firstFrom a n i ≡ firstFrom b n i
+unfolding firstFrom
+first-same a b zero i same = refl
+first-same a b (suc n) i same =
+    ap₂ (λ (t : Bool) (j : ℕ). cond t i j) (same i (le-refl i) (omega arith)) (first-same a b n (suc i) (λ j l h. same j (omega arith) (omega arith)))
 
--- and two families of powers that give the same heights
+-- ---- a test that the next layer passes too, up to layer m
+module _ (b : ℕ → Bool) (m : ℕ) (next : (j : ℕ) → suc j < m → b j ≡ true → b (suc j) ≡ true) where
+  stays : (i k : ℕ) → k + i < m → b i ≡ true → b (k + i) ≡ true
+  stays i zero h e = subst (λ (j : ℕ). b j ≡ true) (omega arith) e
+  stays i (suc k) h e = subst (λ (j : ℕ). b j ≡ true) (omega arith) (next (k + i) (omega arith) (stays i k (omega arith) e))
+
+  -- a layer passes exactly if the first one that does is at most it
+  pub told-by-first : (n i k : ℕ) → n + i ≤ m → k < n → b (k + i) ≡ leb (firstFrom b n i) (k + i)
+  unfolding firstFrom
+  told-by-first zero i k l h = absurd (omega arith)
+  told-by-first (suc n) i k l h = either (b i) k refl h (λ j g. told-by-first n (suc i) j (omega arith) g)
+    where
+      either : (t : Bool) (k : ℕ) → b i ≡ t → k < suc n → ((j : ℕ) → j < n → b (j + suc i) ≡ leb (firstFrom b n (suc i)) (j + suc i)) → b (k + i) ≡ leb (cond t i (firstFrom b n (suc i))) (k + i)
+      either true k e h above = stays i k (omega arith) e ∙ sym (le-leb i (k + i) (omega arith))
+      either false zero e h above =
+          let same : 0 + i ≡ i = omega arith in
+          subst (λ (j : ℕ). b j ≡ leb (firstFrom b n (suc i)) j) (sym same) (e ∙ sym (lt-leb (firstFrom b n (suc i)) i (first-ge b n (suc i))))
+      either false (suc k) e h above =
+          let same : k + suc i ≡ suc k + i = omega arith in
+          subst (λ (j : ℕ). b j ≡ leb (firstFrom b n (suc i)) j) same (above k (omega arith))
+
+-- ---- two families of values that agree at the bases, and two families of powers that give the same heights
 pub height-from-same : (places : ℕ) (f g : ℕ → Float → Float) (v w : ℕ → Float) (n i : ℕ) (x : Float) → ((j : ℕ) → i ≤ j → j ≤ n + i → v j ≡ w j) → ((j : ℕ) (b : Float) → i ≤ j → j ≤ n + i → heightIn places (f j) j b x ≡ heightIn places (g j) j b x) → heightFrom places f v n i x ≡ heightFrom places g w n i x
 height-from-same places f g v w n i x same powers =
-    let j = layerFrom v n i x in
-    let low = layer-from-ge v n i x in
-    let high = layer-from-le v n i x in
+    let test : (ℕ → Float) → ℕ → Bool = λ u j. le (u (suc j)) x in
+    let j = firstFrom (test v) n i in
+    let low = first-ge (test v) n i in
+    let high = first-le (test v) n i in
     powers j (v j) low high
     ∙ ap (λ (b : Float). heightIn places (g j) j b x) (same j low high)
-    ∙ ap (λ (k : ℕ). heightIn places (g k) k (w k) x) (layer-from-same v w n i x same)
+    ∙ ap (λ (k : ℕ). heightIn places (g k) k (w k) x)
+    (first-same (test v) (test w) n i (λ k l h. ap (λ (y : Float). le y x) (same (suc k) (omega arith) (omega arith))))

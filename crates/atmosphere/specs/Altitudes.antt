@@ -3,7 +3,7 @@
 -- sections, which were not at hand. Constants and rounding order are those of src/atmosphere.rs; places is the number of places of exp, ln and power.
 -- Definitions only.
 use Prim.Native.Nat.{ℕ, zero, suc}
-use mathlib.Core.Bool.{_&&_, _||_, cond}
+use mathlib.Core.Bool.{Bool, _&&_, _||_, cond}
 use lib.Ieee.{Float, neg, le, isNan}
 use Rattle.elementary.specs.Decimals.{decimal, nought, one, hundred}
 use Rattle.elementary.specs.Operators.{_⊕_, _⊖_, _⊗_, _⊘_}
@@ -58,11 +58,14 @@ abbrev pub across : ℕ → Float → ℕ → Float
 across places q i =
     cond (isothermal i) (exp places (neg (thickness i) ⊘ scaleHeight i)) (power places (ofDouble q) (one ⊕ gradient i ⊗ thickness i ⊘ baseTemperature i))
 
--- The first of the layers i, i + 1, .., i + n at whose top the value, which falls with height, is at most x. The last of them has no top, and has what
--- is left, NaN too.
-unfoldable pub layerFrom : (ℕ → Float) → ℕ → ℕ → Float → ℕ
-layerFrom value zero i x = i
-layerFrom value (suc n) i x = cond (le (value (suc i)) x) i (layerFrom value n (suc i) x)
+-- the first of the layers i, i + 1, .., i + n that passes the test; the last of them has what is left
+unfoldable pub firstFrom : (ℕ → Bool) → ℕ → ℕ → ℕ
+firstFrom test zero i = i
+firstFrom test (suc n) i = cond (test i) i (firstFrom test n (suc i))
+
+-- the first at whose top the value, which falls with height, is at most x; NaN is left to the last
+abbrev pub layerFrom : (ℕ → Float) → ℕ → ℕ → Float → ℕ
+layerFrom value n i x = firstFrom (λ (j : ℕ). le (value (suc j)) x) n i
 
 -- The height in layer i of the value x, where it is b at the base: H_b + scale height ln (b / x) without a gradient. With one it is
 -- H_b + (T - T_b) / β at the temperature T = T_b (x / b)^q, of which `raised` is the power.

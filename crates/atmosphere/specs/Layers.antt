@@ -1,12 +1,14 @@
 -- The ICAO standard atmosphere, by ICAO Doc 7488, Manual of the ICAO Standard Atmosphere: geopotential height, the layers, and temperature and
 -- pressure in a layer. The manual's sections and tables are cited by what they hold, since their numbers were not at hand. Constants and rounding order
 -- are those of src/atmosphere.rs; p is the number of places of exp and power. Definitions only.
-use Prim.Native.Nat.{ℕ, zero, suc}
+use mathlib.Core.Path.{_≡_}
+use Prim.Native.Nat.{ℕ, suc, _<_}
 use Prim.Native.String.{String}
-use mathlib.Core.Bool.{Bool, cond}
+use mathlib.Core.Bool.{Bool, _&&_, cond}
 use mathlib.Core.List.{List, [], _∷_}
 use lib.ListN.{getD}
-use lib.Ieee.{Float, nan, neg, lt, le}
+use lib.Dec.{T}
+use lib.Ieee.{Float, nan, neg, lt, le, isNan}
 use Rattle.elementary.specs.Decimals.{decimal}
 use Rattle.elementary.specs.Operators.{_⊕_, _⊖_, _⊗_, _⊘_}
 use Rattle.elementary.specs.Exponents.{ofDouble, g₀, Rd, pressureExponent}
@@ -64,15 +66,36 @@ basePressure i = getD (getD layers i []) 2 nan
 abbrev pub gradient : ℕ → Float
 gradient i = getD (getD layers i []) 3 nan
 
--- the highest of the layers 1 to i whose base is at most H, and layer 0 where there is none
-unfoldable pub highestUpTo : ℕ → Float → ℕ
-highestUpTo zero H = 0
-highestUpTo (suc i) H = cond (le (baseHeight (suc i)) H) (suc i) (highestUpTo i H)
+-- ---- the layer of a geopotential height H, in m
+-- from a to below b
+abbrev fromTo : String → String → Float → Bool
+fromTo a b H = le (decimal a) H && lt H (decimal b)
 
--- the layer of the geopotential height H: a height equal to a base takes that layer, and NaN takes layer 0
+-- case by case in the table's order, from the ground up; NaN takes layer 0
 unfoldable pub layerAt : Float → ℕ
-layerAt H = highestUpTo 6 H
+layerAt H =
+    cond (isNan H) 0
+    (cond (lt H (decimal "11000")) 0
+    (cond (fromTo "11000" "20000" H) 1
+    (cond (fromTo "20000" "32000" H) 2
+    (cond (fromTo "32000" "47000" H) 3
+    (cond (fromTo "47000" "51000" H) 4
+    (cond (fromTo "51000" "71000" H) 5
+    -- 71000 and above
+    6))))))
 
+-- The range of layer i: from its base to below the next layer's. The lowest has every height below, and the highest every height above.
+pub record Range (i : ℕ) (H : Float) : Type 0 where
+  pub layer : i < 7
+  pub from : 0 < i → T (le (baseHeight i) H)
+  pub below : i < 6 → T (lt H (baseHeight (suc i)))
+
+-- H lies in the range of layer i, and in no other
+pub record OnlyRange (i : ℕ) (H : Float) : Type 0 where
+  pub here : Range i H
+  pub alone : (j : ℕ) → Range j H → j ≡ i
+
+-- ---- temperature
 -- in layer i at d = H - H_b above its base: T = T_b + β (H - H_b)
 abbrev pub layerTemperature : ℕ → Float → Float
 layerTemperature i d = baseTemperature i ⊕ gradient i ⊗ d
@@ -104,4 +127,5 @@ layerAir p i H =
     record { «temperature_k» = T; «pressure_pa» = layerPressure p i d T }
 
 unfoldable pub standardAir : ℕ → Float → StandardAir
+unfolding layers layerAt standardHeight layerPressure isNan
 standardAir p altitude = let H = standardHeight altitude in layerAir p (layerAt H) H

@@ -9,12 +9,12 @@ use Rattle.elementary.specs.Exponents.{exponents}
 use Rattle.elementary.specs.Power.{power, powerAt}
 use Rattle.humid_air.specs.Doubles.{absDouble, isFinite}
 use Rattle.atmosphere.specs.declared.station.Reading.the-variants.{FromLayer}
-use Rattle.atmosphere.specs.Layers.{layers, highestUpTo, layerAt, layerPressure, standardHeight, standardAir}
+use Rattle.atmosphere.specs.Layers.{standardAir}
 use Rattle.density_altitude.specs.Inverse.{station}
 use Rattle.checks.specs.Cases.{Hold, table, isAccepted, RejectsRefusalAlways}
 
 pub cases-hold : Hold table
-unfolding ofBits neg add sub mul div lt le wordOfUnits antilogRoot exponents power powerAt absDouble isFinite layers highestUpTo layerAt layerPressure standardHeight standardAir station
+unfolding ofBits neg add sub mul div lt le wordOfUnits antilogRoot exponents power powerAt absDouble isFinite standardAir station
 cases-hold = (refl, (refl, (refl, (refl, (refl, (refl, (refl, (refl, (refl, (refl, (refl, (refl, (refl, (refl, (refl, (refl, (refl, (refl, (refl, (refl, (refl, (refl, (refl, (refl, tt))))))))))))))))))))))))
 
 -- the case of 0 m with no temperature is accepted

@@ -8,7 +8,7 @@ use Rattle.humid_air.specs.Doubles.{absDouble, isFinite}
 use Rattle.humid_air.specs.Saturation.{saturationPressure}
 use Rattle.humid_air.specs.MoistAir.{moleFraction, compressibilityFactor, airDensity}
 use Rattle.humid_air.specs.Sound.{soundSpeed}
-use Rattle.atmosphere.specs.Layers.{layers, highestUpTo, layerAt, layerPressure, standardHeight, standardAir}
+use Rattle.atmosphere.specs.Layers.{standardAir}
 use Rattle.atmosphere.specs.Station.{atmosphere}
 use Rattle.atmosphere.specs.Altitudes.{pressureAltitude, densityMatchedAltitude, seaLevelDensity}
 use Rattle.record.specs.Bytes.{wordAt}
@@ -20,5 +20,5 @@ use Rattle.text.specs.Text.{hexDigits, stationLine, airLine, refusalLine
 use Rattle.text.specs.Samples.{Samples}
 
 pub samples : Samples
-unfolding ofBits toBits le isNan isFinite absDouble powerAt exp sqrt layers highestUpTo layerAt layerPressure standardHeight standardAir saturationPressure moleFraction compressibilityFactor airDensity soundSpeed atmosphere pressureAltitude densityMatchedAltitude seaLevelDensity wordAt field headRows rowsFrom readingsFrom ordinary figuresWith judged judge hexDigits stationLine airLine refusalLine
+unfolding ofBits toBits le isNan isFinite absDouble powerAt exp sqrt standardAir saturationPressure moleFraction compressibilityFactor airDensity soundSpeed atmosphere pressureAltitude densityMatchedAltitude seaLevelDensity wordAt field headRows rowsFrom readingsFrom ordinary figuresWith judged judge hexDigits stationLine airLine refusalLine
 samples = record { unknown-tag = refl; empty = refl; sea-level = refl; hot = refl }

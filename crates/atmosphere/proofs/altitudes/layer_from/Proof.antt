@@ -6,13 +6,13 @@ use Prim.Native.Nat.{ℕ, suc, _+_, _-_, _<_}
 use native.Mathlib.Omega.{arith}
 use lib.ListN.{getD}
 use lib.Ieee.{Float, nan, le}
-use Rattle.atmosphere.specs.Altitudes.{layerFrom}
+use Rattle.atmosphere.specs.Altitudes.{firstFrom, layerFrom}
 use Rattle.atmosphere.proofs.altitudes.layer_from.Statement.{statement}
 use Rattle.atmosphere.proofs.altitudes.layer_from.Tie as tie
 
 -- from layer i on, by the test of layer i
 by-test : (v : ℕ → Float) (i : ℕ) (x : Float) (t : Bool) → i < 6 → le (v (i + 1)) x ≡ t → layerFrom v (6 - i) i x ≡ cond t i (layerFrom v (6 - (i + 1)) (i + 1) x)
-unfolding layerFrom
+unfolding firstFrom
 by-test v i x t h e =
     let next : i + 1 ≡ suc i = omega arith in
     let left : 6 - i ≡ suc (6 - (i + 1)) = omega arith in
@@ -38,7 +38,7 @@ loop-again c =
     (omega arith, at .loop .inv .1 ∙ by-test (λ (i : ℕ). getD (at .before .args .t1) i nan) (at .loop .number) (at .before .args .value) false (omega arith) (c .if1 .left))
 
 returns-2 : tie.Need-returns-2 Inv-loop μ-loop
-unfolding layerFrom
+unfolding firstFrom
 returns-2 c =
     let at = c .before in
     let last : at .loop .number ≡ 6 = omega (arith, at .loop .inv .0) in

@@ -1,16 +1,16 @@
 -- `atmosphere::altitudes::standard_altitude_above_tropopause_m` meets its contract, by the tables of proofs/Chained. Assumes nothing.
 use mathlib.Core.Path.{ap, _∙_}
-use Prim.Native.Nat.{ℕ, _<_}
+use Prim.Native.Nat.{ℕ, suc, _<_}
 use native.Mathlib.Omega.{arith}
 use lib.ListN.{getD}
-use lib.Ieee.{Float, nan}
+use lib.Ieee.{Float, nan, le}
 use Rattle.elementary.specs.Decimals.{one}
 use Rattle.elementary.specs.Operators.{_⊘_}
 use Rattle.elementary.specs.Exponents.{ofDouble, densityExponent}
 use Rattle.elementary.specs.Power.{power, powerAt}
 use Rattle.atmosphere.specs.Layers.{gradient}
 use Rattle.atmosphere.specs.Altitudes.{heightIn, chainedRatio, heightOfRatio}
-use Rattle.atmosphere.proofs.LayerFrom.{layer-from-le, height-from-same}
+use Rattle.atmosphere.proofs.LayerFrom.{first-le, height-from-same}
 use Rattle.atmosphere.proofs.Chained.{ratios, ratioNumbers, ratio-at, ratio-power}
 use Rattle.atmosphere.proofs.altitudes.standard_altitude_above_tropopause_m.Statement.{statement}
 use Rattle.atmosphere.proofs.altitudes.standard_altitude_above_tropopause_m.Tie as tie
@@ -18,7 +18,7 @@ use Rattle.elementary.specs.Places.{places}
 
 in-table : (c : tie.After-layer-from) → c .layer-from .result < 7
 unfolding ratios
-in-table c = omega (arith, c .layer-from .ensures, layer-from-le (λ (i : ℕ). getD ratios i nan) 5 1 (c .before .args .ratio))
+in-table c = omega (arith, c .layer-from .ensures, first-le (λ (i : ℕ). le (getD ratios (suc i) nan) (c .before .args .ratio)) 5 1)
 
 returns : tie.Need-returns
 unfolding ratios ratioNumbers heightOfRatio

@@ -1,14 +1,14 @@
 -- `atmosphere::altitudes::standard_pressure_altitude_m` meets its contract, by the tables of proofs/Chained. Assumes nothing.
 use mathlib.Core.Path.{ap, _∙_}
-use Prim.Native.Nat.{ℕ, _<_}
+use Prim.Native.Nat.{ℕ, suc, _<_}
 use native.Mathlib.Omega.{arith}
 use lib.ListN.{getD}
-use lib.Ieee.{Float, nan}
+use lib.Ieee.{Float, nan, le}
 use Rattle.elementary.specs.Exponents.{ofDouble, temperatureExponent}
 use Rattle.elementary.specs.Power.{power, powerAt}
 use Rattle.atmosphere.specs.Layers.{gradient}
 use Rattle.atmosphere.specs.Altitudes.{heightIn, chainedPressure, heightOfPressure}
-use Rattle.atmosphere.proofs.LayerFrom.{layer-from-le, height-from-same}
+use Rattle.atmosphere.proofs.LayerFrom.{first-le, height-from-same}
 use Rattle.atmosphere.proofs.Chained.{pressures, temperatureNumbers, pressure-at, temperature-power}
 use Rattle.atmosphere.proofs.altitudes.standard_pressure_altitude_m.Statement.{statement}
 use Rattle.atmosphere.proofs.altitudes.standard_pressure_altitude_m.Tie as tie
@@ -16,7 +16,7 @@ use Rattle.elementary.specs.Places.{places}
 
 in-table : (c : tie.After-layer-from) → c .layer-from .result < 7
 unfolding pressures
-in-table c = omega (arith, c .layer-from .ensures, layer-from-le (λ (i : ℕ). getD pressures i nan) 6 0 (c .before .args .pressure-pa))
+in-table c = omega (arith, c .layer-from .ensures, first-le (λ (i : ℕ). le (getD pressures (suc i) nan) (c .before .args .pressure-pa)) 6 0)
 
 returns : tie.Need-returns
 unfolding pressures temperatureNumbers heightOfPressure
