@@ -30,6 +30,7 @@ mod record_forms;
 mod record_values;
 mod records;
 mod rule_calls;
+mod warmth;
 
 #[path = "../../vectors/rules/exponents.rs"]
 mod exponents;
@@ -65,8 +66,9 @@ use std::io;
 use std::path::Path;
 use std::process::ExitCode;
 
-const USE: &str = "oracle lists FOLDER, oracle answers, or oracle distance [POINTS]; driver compare CALLS RECORDS, or driver bench";
+const USE: &str = "oracle lists FOLDER, oracle answers, oracle distance [POINTS], or oracle warmth [CASES]; driver compare CALLS RECORDS, or driver bench";
 const POINTS: u64 = 100_000;
+const CASES: u64 = 1_000_000;
 
 fn main() -> ExitCode {
     let arguments: Vec<String> = std::env::args().skip(1).collect();
@@ -92,6 +94,8 @@ fn main() -> ExitCode {
         },
         ["distance"] => distance::measure(POINTS),
         ["distance", points] => distance::measure(points.parse().expect(USE)),
+        ["warmth"] => warmth::measure(CASES),
+        ["warmth", cases] => warmth::measure(cases.parse().expect(USE)),
         #[cfg(library)]
         ["compare", calls, records] => {
             compare::compare(calls.parse().expect(USE), records.parse().expect(USE))

@@ -1,22 +1,25 @@
--- The altitudes' order: the National Weather Service's altitude never rises with the pressure, and the FAA's never falls with the temperature.
--- Assumes nothing.
+-- The altitudes' order: the National Weather Service's altitude never rises with the pressure, and the FAA's density altitude never falls with a finite
+-- temperature, which makes it a number. Assumes nothing.
 use mathlib.Core.Path.{refl, subst, subst₂}
-use mathlib.Core.Bool.{false}
-use Prim.Native.Nat.{ℕ}
-use lib.IntN.{pos, negsuc}
+use mathlib.Core.Bool.{Bool, true, false}
+use Prim.Native.Nat.{ℕ, _*_}
+use lib.IntN.{ℤ, pos, negsuc}
 use lib.Dec.{T}
-use lib.Ieee.{Float, nan, inf, fin, binary64, ofBits, add, sub, mul, div, neg, fits, le}
+use lib.Signed.{≤ℤ-refl}
+use lib.Ieee.{Float, nan, inf, fin, binary64, up, down, ofBits, add, sub, mul, div, neg, fits, le}
+use lib.Ieee.Bits.{ofBits-fits}
 use lib.Ieee.Fits.{neg-fits, sub-fits, mul-fits, div-fits}
-use Rattle.elementary.specs.Decimals.{one}
+use Rattle.elementary.specs.Decimals.{nought, one}
 use Rattle.elementary.specs.Operators.{_⊕_, _⊖_, _⊗_, _⊘_}
 use Rattle.elementary.specs.Exponents.{ofDouble, nwsExponent}
 use Rattle.elementary.specs.Power.{power}
-use Rattle.elementary.proofs.Order.{number}
+use Rattle.elementary.proofs.Order.{number, le-of-signed, numbers-of-le}
 use Rattle.elementary.proofs.Rises.{Rises, FallsFromZero, power-rises, power-fits}
-use Rattle.elementary.proofs.Sums.{add-comm-double, sum-keeps, sub-falls}
-use Rattle.elementary.proofs.Products.{mul-by-rises, div-rises}
+use Rattle.elementary.proofs.Sums.{add-comm-double, add-to-rises, sum-keeps, sub-falls}
+use Rattle.elementary.proofs.Products.{mul-rises, mul-by-rises, div-rises}
+use Rattle.humid_air.specs.Doubles.{isFinite}
 use Rattle.atmosphere.specs.Station.{standardPressure}
-use Rattle.atmosphere.specs.Altitudes.{nwsAltitude, standardFahrenheit, feetPerDegree, faaDensityAltitude}
+use Rattle.atmosphere.specs.Altitudes.{nwsAltitude, thousand, fahrenheitPerThousandFeet, standardFahrenheit, feetPerDegree, faaDensityAltitude}
 
 -- ---- of pressures from zero up
 pub nws-falls : (p : ℕ) → FallsFromZero (nwsAltitude p)
@@ -29,6 +32,17 @@ nws-falls p x y f g z h =
     let powers : T (le (power p q a) (power p q b)) = power-rises p q refl a b (div-fits binary64 x standardPressure) (div-fits binary64 y standardPressure) low (div-rises 4052 (negsuc 1) x y f g h) in
     mul-by-rises 2497376594742476 (negsuc 33) (one ⊖ power p q b) (one ⊖ power p q a) (sub-fits binary64 one (power p q b)) (sub-fits binary64 one (power p q a))
     (sub-falls false 1 (pos 0) tt (power p q a) (power p q b) (power-fits p q a) (power-fits p q b) powers)
+
+-- ---- the standard temperature, of altitudes
+abbrev pub Falls : (Float → Float) → Type 0
+Falls f = (x y : Float) → T (fits binary64 x) → T (fits binary64 y) → T (le x y) → T (le (f y) (f x))
+
+pub standard-falls : Falls standardFahrenheit
+unfolding ofBits fits
+standard-falls h k f g l =
+    let per-foot : Float → Float = λ x. x ⊘ thousand ⊗ fahrenheitPerThousandFeet in
+    sub-falls false 59 (pos 0) tt (per-foot h) (per-foot k) (mul-fits binary64 _ _) (mul-fits binary64 _ _)
+    (mul-rises 8038925334856334 (negsuc 50) _ _ (div-fits binary64 _ _) (div-fits binary64 _ _) (div-rises 124 (pos 3) h k f g l))
 
 -- ---- of temperatures, where the altitudes are numbers
 of-sum : (x c : Float) → T (number (x ⊕ c)) → T (number x)
@@ -50,7 +64,7 @@ feet-rises : Rises (λ x. feetPerDegree ⊗ x)
 unfolding ofBits mul div
 feet-rises = mul-by-rises 4691249611844266 (negsuc 45)
 
-pub faa-rises : (places : ℕ) (p t u : Float) → T (fits binary64 t) → T (fits binary64 u) → T (le t u) → T (number (faaDensityAltitude places p t)) → T (number (faaDensityAltitude places p u))
+faa-rises : (places : ℕ) (p t u : Float) → T (fits binary64 t) → T (fits binary64 u) → T (le t u) → T (number (faaDensityAltitude places p t)) → T (number (faaDensityAltitude places p u))
     → T (le (faaDensityAltitude places p t) (faaDensityAltitude places p u))
 unfolding sub
 faa-rises places p t u f g h v w =
@@ -63,3 +77,39 @@ faa-rises places p t u f g h v w =
     let below : T (le (t ⊖ s) (u ⊖ s)) = sum-keeps t u (neg s) f g (neg-fits binary64 s (standard-fits a)) h (of-product (t ⊖ s) (of-sum x a v')) (of-product (u ⊖ s) (of-sum y a w')) in
     subst₂ (λ (z r : Float). T (le z r)) (add-comm-double x a) (add-comm-double y a)
     (sum-keeps x y a (mul-fits binary64 feetPerDegree (t ⊖ s)) (mul-fits binary64 feetPerDegree (u ⊖ s)) (mul-fits binary64 _ _) (feet-rises (t ⊖ s) (u ⊖ s) (sub-fits binary64 t s) (sub-fits binary64 u s) below) v' w')
+
+-- ---- of finite temperatures, at a pressure from zero up
+pub le-self : (x : Float) → T (number x) → T (le x x)
+unfolding le
+le-self nan u = u
+le-self (inf true) u = tt
+le-self (inf false) u = tt
+le-self (fin s m e) u = le-of-signed s s (m * up e * down e) (m * up e * down e) (≤ℤ-refl _)
+
+-- at an altitude that is a number, an infinite one too, the figure is a number
+numbered : (a : Float) → T (fits binary64 a) → (s : Bool) (m : ℕ) (e : ℤ) → T (fits binary64 (fin s m e)) → T (number a) → T (number (a ⊕ feetPerDegree ⊗ (fin s m e ⊖ standardFahrenheit a)))
+unfolding ofBits add sub mul div neg
+numbered nan g s m e f u = u
+numbered (inf true) g s m e f u = tt
+numbered (inf false) g s m e f u = tt
+numbered (fin r n d) g s m e f u =
+    let a : Float = fin r n d in
+    let t : Float = fin s m e in
+    let standard = standardFahrenheit a in
+    let x : Float = feetPerDegree ⊗ (t ⊖ standard) in
+    let level = standard-falls a a g g (le-self a tt) in
+    let excess = sub-falls s m e f standard standard (standard-fits a) (standard-fits a) level in
+    let feet = feet-rises (t ⊖ standard) (t ⊖ standard) (sub-fits binary64 t standard) (sub-fits binary64 t standard) excess in
+    let held = mul-fits binary64 feetPerDegree (t ⊖ standard) in
+    numbers-of-le (a ⊕ x) (a ⊕ x) (add-to-rises r n d g x x held held feet) .0
+
+faa-number : (places : ℕ) (p t : Float) → T (fits binary64 p) → T (fits binary64 t) → T (le nought p) → T (isFinite t) → T (number (faaDensityAltitude places p t))
+unfolding isFinite ofBits
+faa-number places p nan f g z u = absurd u
+faa-number places p (inf s) f g z u = absurd u
+faa-number places p (fin s m e) f g z u =
+    numbered (nwsAltitude places p) (mul-fits binary64 _ _) s m e g (numbers-of-le _ _ (nws-falls places nought p (ofBits-fits binary64 0) f (le-self nought tt) z) .0)
+
+pub faa-never-falls : (places : ℕ) (p t u : Float) → T (fits binary64 p) → T (fits binary64 t) → T (fits binary64 u) → T (le nought p) → T (isFinite t) → T (isFinite u) → T (le t u)
+    → T (le (faaDensityAltitude places p t) (faaDensityAltitude places p u))
+faa-never-falls places p t u f g h z v w l = faa-rises places p t u g h l (faa-number places p t f g z v) (faa-number places p u f h z w)

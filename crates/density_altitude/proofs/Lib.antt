@@ -1,7 +1,9 @@
 -- The laws of the definitions, a file for each idea.
 pub mod Figures
 pub mod Accepted
+pub mod Heights
 pub mod Between
+pub mod Warmer
 pub mod PressuresApart
 pub mod Spread
 pub mod Demand

@@ -1,11 +1,16 @@
--- Demand 3 rejects what specs/Rejected lists: where its hypotheses hold, what it promises is computed to be false. Assumes nothing.
+-- Demand 3 and request K8 reject what specs/Rejected lists: where its hypotheses hold, what it promises is computed to be false. Assumes nothing.
+use mathlib.Core.Path.{refl}
 use lib.Signed.{leZ-yes}
-use lib.Ieee.{Float, ofBits, lt, le}
+use lib.Ieee.{Float, ofBits, neg, add, sub, mul, div, lt, le}
+use Rattle.elementary.specs.Power.{power}
+use Rattle.humid_air.specs.Doubles.{isFinite}
 use Rattle.atmosphere.specs.declared.station.Reading.{Reading}
 use Rattle.density_altitude.specs.declared.inverse.Station.{Station}
 use Rattle.refusal.specs.Outcomes.{Outcome}
-use Rattle.density_altitude.specs.Order.{Strictly}
-use Rattle.density_altitude.specs.Rejected.{RejectedAtTheEdges, Rejected}
+use Rattle.density_altitude.specs.Inverse.{station}
+use Rattle.density_altitude.specs.Order.{Accepted, Strictly}
+use Rattle.density_altitude.specs.Warmer.{WarmerMeansLower, InBetween}
+use Rattle.density_altitude.specs.Rejected.{RejectedAtTheEdges, Rejected, FalseWarmed, RejectedByWarmth}
 
 -- an inverse that nowhere is strict: at each edge the promise says that it is
 never-strict : (inverse : Float → Reading → Outcome Station) → ((t : Reading) (d₁ d₂ : Float) → Strictly (inverse d₁ t) (inverse d₂ t) → ⊥) → RejectedAtTheEdges inverse
@@ -32,4 +37,25 @@ rejected =
       pressure-rises-from = λ h. h .upper .pressures;
       temperature-rises-to = λ h. h .lower .temperatures tt;
       temperature-rises-from = λ h. h .upper .temperatures tt;
+    }
+
+-- answers of which `InBetween` is false, and of which the outer two are accepted
+never-between : (a₁ a a₂ : Outcome Station) → Accepted a₁ → Accepted a₂ → (InBetween a₁ a a₂ → ⊥) → FalseWarmed a₁ a a₂
+unfolding ofBits le
+never-between a₁ a a₂ u₁ u₂ wrong = (λ h. wrong (h tt tt u₁ u₂), λ h. wrong (h tt tt u₁ u₂))
+
+pub rejected-by-warmth : RejectedByWarmth
+unfolding ofBits neg add sub mul div lt le isFinite power station
+rejected-by-warmth =
+    record {
+      refused-between = never-between _ _ _ tt tt (λ b. b .accepted);
+      altitude-rises-to = never-between _ _ _ tt tt (λ b. b .colder .altitudes);
+      altitude-rises-from = never-between _ _ _ tt tt (λ b. b .warmer .altitudes);
+      pressure-falls-to = never-between _ _ _ tt tt (λ b. b .colder .pressures);
+      pressure-falls-from = never-between _ _ _ tt tt (λ b. b .warmer .pressures);
+      faa-falls = λ h. h tt tt tt tt tt;
+      faa-falls-at-one-temperature = λ h. h tt tt tt tt tt;
+      altitude-stays = refl;
+      pressure-stays = refl;
+      faa-stays = refl;
     }

@@ -8,23 +8,22 @@ use lib.IntN.{pos, negsuc}
 use lib.Dec.{T, lit≤}
 use lib.Ieee.{Float, nan, inf, fin, binary64, ofBits, add, sub, mul, div, fits, lt, le}
 use lib.Ieee.Bits.{ofBits-fits}
-use lib.Ieee.Fits.{add-fits, sub-fits, mul-fits, div-fits}
+use lib.Ieee.Fits.{mul-fits}
 use lib.Ieee.Positive.{above-of-le}
 use lib.Ieee.Scale.{finite}
 use Rattle.elementary.specs.Decimals.{decimal, one}
 use Rattle.elementary.specs.Operators.{_⊖_, _⊗_, _⊘_}
 use Rattle.elementary.specs.Nearest.{unitsOf}
 use Rattle.elementary.proofs.CommonDenominator.{above, beneath}
-use Rattle.elementary.proofs.Rises.{Rises}
-use Rattle.elementary.proofs.Sums.{add-rises, sub-rises, sub-falls}
-use Rattle.elementary.proofs.Products.{mul-rises, mul-by-rises, div-rises}
+use Rattle.elementary.proofs.Sums.{sub-falls}
 use Rattle.elementary.proofs.Counts.{over, under, Small, le-of-sides, small-between, below-large, above-large, gap-of-counts}
 use Rattle.elementary.proofs.Near.{Step, step-pos}
 use Rattle.elementary.proofs.Apart.{Apart, apart-lt, apart-weaker, sub-apart, sub-from-apart, mul-apart, div-apart}
 use Rattle.atmosphere.specs.declared.station.Reading.{Reading}
 use Rattle.atmosphere.specs.declared.station.Reading.the-variants.{Given, FromLayer}
-use Rattle.atmosphere.specs.Altitudes.{foot, nwsFeet, seaLevelFahrenheit}
-use Rattle.density_altitude.specs.Inverse.{fahrenheit, correction, pressureAltitudeFeet, nwsBase}
+use Rattle.atmosphere.specs.Altitudes.{foot, nwsFeet}
+use Rattle.density_altitude.specs.Inverse.{correction, pressureAltitudeFeet, nwsBase}
+use Rattle.density_altitude.proofs.Figures.{correction-rises}
 use Rattle.density_altitude.specs.Order.{Temperate, InRange, OneMetreApart}
 
 -- ---- the step: 2 ^ -37, in units of 2 ^ -1074, which is that of the doubles below 2 ^ 16
@@ -57,17 +56,6 @@ in-range-small : (d : Float) → T (fits binary64 d) → InRange d → Small (wh
 in-range-small d f r = small-between (decimal "-500") d (decimal "3000") f lowest-small highest-small (r .bottom) (r .top)
 
 -- ---- the correction for the temperature, which rises with it: -6,600 ft at -40 °C, and 4,200 ft at 50 °C
-correction-rises : Rises correction
-unfolding ofBits mul div fits
-correction-rises t u f g h =
-    let n : Float = decimal "9" in
-    let d : Float = decimal "5" in
-    let ice : Float = decimal "32" in
-    mul-by-rises 4691249611844266 (negsuc 45) (fahrenheit t ⊖ seaLevelFahrenheit) (fahrenheit u ⊖ seaLevelFahrenheit) (sub-fits binary64 _ _) (sub-fits binary64 _ _)
-    (sub-rises false 59 (pos 0) tt (fahrenheit t) (fahrenheit u) (add-fits binary64 (t ⊗ n ⊘ d) ice) (add-fits binary64 (u ⊗ n ⊘ d) ice)
-    (add-rises false 1 (pos 5) tt (t ⊗ n ⊘ d) (u ⊗ n ⊘ d) (div-fits binary64 (t ⊗ n) d) (div-fits binary64 (u ⊗ n) d)
-    (div-rises 4 (pos 0) (t ⊗ n) (u ⊗ n) (mul-fits binary64 t n) (mul-fits binary64 u n) (mul-rises 8 (pos 0) t u f g h))))
-
 coldest-small : Small (whole 6601) (correction (decimal "-40"))
 unfolding U ofBits add sub mul div fits
 coldest-small = record { is-finite = tt; double = tt; size = lit≤ tt }

@@ -86,9 +86,9 @@ pub record Demand₃ (t : Reading) (d₁ d₂ : Float) (a₁ a a₂ : Outcome St
   pub upper : InOrder t a a₂
   pub strictly : InRange d₁ → InRange d₂ → OneMetreApart d₁ d₂ → Temperate t → Strictly a₁ a₂
 
--- ---- what follows for two density altitudes at least 1 m apart, by the numbers of the demand: where both are accepted, the higher one has the greater
--- altitude and the lower pressure
-abbrev pub Thinner : Reading → Float → Float → Outcome Station → Outcome Station → Type 0
-Thinner t d₁ d₂ a₁ a₂ =
-    T (le (decimal "-500") d₁) → T (le d₁ d₂) → T (le d₂ (decimal "3000")) → OneMetreApart d₁ d₂ → Temperate t → Accepted a₁ → Accepted a₂
-    → T (lt (altitude a₁) (altitude a₂)) × T (lt (pressure a₂) (pressure a₁))
+-- ---- what follows for two density altitudes: where both are accepted, the figures are in order, and, by the numbers of the demand, from -500 to 3,000 m and
+-- at least 1 m apart the higher one has the greater altitude and the lower pressure
+pub record TwoInOrder (t : Reading) (d₁ d₂ : Float) (a₁ a₂ : Outcome Station) : Type 0 where
+  pub never : T (le d₁ d₂) → Accepted a₁ → Accepted a₂ → InOrder t a₁ a₂
+  pub strictly : T (le (decimal "-500") d₁) → T (le d₁ d₂) → T (le d₂ (decimal "3000")) → OneMetreApart d₁ d₂ → Temperate t → Accepted a₁ → Accepted a₂
+      → T (lt (altitude a₁) (altitude a₂)) × T (lt (pressure a₂) (pressure a₁))

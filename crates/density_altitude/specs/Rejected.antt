@@ -1,14 +1,21 @@
--- What demand 3 rejects, document 01's part c: wrong inverses at the very edges of the promise, and answers that break one part of it. A narrower range of
--- heights or temperatures, a greater distance, a weaker relation or a part left out would let one of them pass. Definitions only.
+-- What demand 3 and request K8 reject. Of demand 3, document 01's part c: wrong inverses at the very edges of the promise, and answers that break one part
+-- of it. A narrower range of heights or temperatures, a greater distance, a weaker relation or a part left out would let one of them pass. Of K8: answers
+-- that break one part, and that nothing strict can be promised. Definitions only.
+use mathlib.Core.Path.{_≡_}
 use mathlib.Core.List.{[], _∷_}
+use Prim.Native.String.{String}
 use lib.Ieee.{Float}
+use Rattle.elementary.specs.Places.{places}
 use Rattle.elementary.specs.Decimals.{decimal}
 use Rattle.elementary.specs.Operators.{_⊖_}
 use Rattle.atmosphere.specs.declared.station.Reading.{Reading}
 use Rattle.atmosphere.specs.declared.station.Reading.the-variants.{Given, FromLayer}
 use Rattle.density_altitude.specs.declared.inverse.Station.{Station}
 use Rattle.refusal.specs.Outcomes.{Outcome, accepted, refused}
-use Rattle.density_altitude.specs.Order.{Demand₃}
+use Rattle.atmosphere.specs.Altitudes.{faaDensityAltitude}
+use Rattle.density_altitude.specs.Inverse.{station}
+use Rattle.density_altitude.specs.Order.{altitude, pressure, Demand₃}
+use Rattle.density_altitude.specs.Warmer.{WarmerMeansLower, FaaNeverFalls}
 
 -- an answer's altitude in m, temperature in °C and pressure in hPa
 abbrev pub air : Float → Float → Float → Outcome Station
@@ -37,7 +44,23 @@ pub record RejectedAtTheEdges (inverse : Float → Reading → Outcome Station) 
   pub low-none-given : FalseAt inverse FromLayer (decimal "-500") (decimal "-499")
   pub high-none-given : FalseAt inverse FromLayer (decimal "2999") (decimal "3000")
 
--- ---- wrong answers in between, at one density altitude where nothing has to be strict, and with none given
+-- ---- answers at 0 m, 15 °C and 1000 hPa, and with one of the three figures greater
+abbrev plain : Outcome Station
+plain = air (decimal "0") (decimal "15") (decimal "1000")
+
+abbrev higher : Outcome Station
+higher = air (decimal "1") (decimal "15") (decimal "1000")
+
+abbrev hotter : Outcome Station
+hotter = air (decimal "0") (decimal "16") (decimal "1000")
+
+abbrev denser : Outcome Station
+denser = air (decimal "0") (decimal "15") (decimal "1001")
+
+abbrev noAir : Outcome Station
+noAir = refused 4 (decimal "0" ∷ decimal "0" ∷ [])
+
+-- three answers that demand 3 is false of, at one density altitude, where nothing has to be strict, and with none given
 abbrev FalseOf : Outcome Station → Outcome Station → Outcome Station → Type 0
 FalseOf a₁ a a₂ = Demand₃ FromLayer (decimal "0") (decimal "0") a₁ a a₂ → ⊥
 
@@ -45,10 +68,40 @@ pub record Rejected : Type 0 where
   pub echoes : RejectedAtTheEdges echo
   pub one-for-all : RejectedAtTheEdges oneAir
   pub heights-left : RejectedAtTheEdges heightLeft
-  pub refused-between : FalseOf (air (decimal "0") (decimal "15") (decimal "1000")) (refused 4 (decimal "0" ∷ decimal "0" ∷ [])) (air (decimal "0") (decimal "15") (decimal "1000"))
-  pub altitude-falls-to : FalseOf (air (decimal "1") (decimal "15") (decimal "1000")) (air (decimal "0") (decimal "15") (decimal "1000")) (air (decimal "1") (decimal "15") (decimal "1000"))
-  pub altitude-falls-from : FalseOf (air (decimal "0") (decimal "15") (decimal "1000")) (air (decimal "1") (decimal "15") (decimal "1000")) (air (decimal "0") (decimal "15") (decimal "1000"))
-  pub pressure-rises-to : FalseOf (air (decimal "0") (decimal "15") (decimal "1000")) (air (decimal "0") (decimal "15") (decimal "1001")) (air (decimal "0") (decimal "15") (decimal "1000"))
-  pub pressure-rises-from : FalseOf (air (decimal "0") (decimal "15") (decimal "1001")) (air (decimal "0") (decimal "15") (decimal "1000")) (air (decimal "0") (decimal "15") (decimal "1001"))
-  pub temperature-rises-to : FalseOf (air (decimal "0") (decimal "15") (decimal "1000")) (air (decimal "0") (decimal "16") (decimal "1000")) (air (decimal "0") (decimal "15") (decimal "1000"))
-  pub temperature-rises-from : FalseOf (air (decimal "0") (decimal "16") (decimal "1000")) (air (decimal "0") (decimal "15") (decimal "1000")) (air (decimal "0") (decimal "16") (decimal "1000"))
+  pub refused-between : FalseOf plain noAir plain
+  pub altitude-falls-to : FalseOf higher plain higher
+  pub altitude-falls-from : FalseOf plain higher plain
+  pub pressure-rises-to : FalseOf plain denser plain
+  pub pressure-rises-from : FalseOf denser plain denser
+  pub temperature-rises-to : FalseOf plain hotter plain
+  pub temperature-rises-from : FalseOf hotter plain hotter
+
+-- ---- request K8
+-- three answers that it is false of, at one temperature and from the least double to the greatest
+abbrev least : Float
+least = decimal "-1.7976931348623157e308"
+
+abbrev greatest : Float
+greatest = decimal "1.7976931348623157e308"
+
+abbrev pub FalseWarmed : Outcome Station → Outcome Station → Outcome Station → Type 0
+FalseWarmed a₁ a a₂ = (WarmerMeansLower (decimal "0") (decimal "0") (decimal "0") a₁ a a₂ → ⊥) × (WarmerMeansLower least (decimal "0") greatest a₁ a a₂ → ⊥)
+
+-- nothing strict: from 0 °C to the least double above it no figure at 0 m moves, nor does the FAA's at 1013.25 hPa from 0 °F
+abbrev warmed : String → Outcome Station
+warmed t = station places (decimal "0") (Given (decimal t))
+
+abbrev faa : String → Float
+faa t = faaDensityAltitude places (decimal "1013.25") (decimal t)
+
+pub record RejectedByWarmth : Type 0 where
+  pub refused-between : FalseWarmed plain noAir plain
+  pub altitude-rises-to : FalseWarmed plain higher plain
+  pub altitude-rises-from : FalseWarmed higher plain higher
+  pub pressure-falls-to : FalseWarmed denser plain denser
+  pub pressure-falls-from : FalseWarmed plain denser plain
+  pub faa-falls : FaaNeverFalls (decimal "0") least greatest (decimal "1") (decimal "0") → ⊥
+  pub faa-falls-at-one-temperature : FaaNeverFalls greatest (decimal "0") (decimal "0") (decimal "1") (decimal "0") → ⊥
+  pub altitude-stays : altitude (warmed "5e-324") ≡ altitude (warmed "0")
+  pub pressure-stays : pressure (warmed "5e-324") ≡ pressure (warmed "0")
+  pub faa-stays : faa "5e-324" ≡ faa "0"

@@ -76,6 +76,7 @@ fn station_at(pressure_alt_ft: f64, temperature_c: f64) -> Station
     }
 }
 
+// Whether x is finite and above a bound.
 fn is_finite_above(x: f64, bound: f64) -> bool
     ensures { λ r. ⌜ r ≡ isFiniteAbove bound x ⌝ }
 {

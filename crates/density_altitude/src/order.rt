@@ -3,7 +3,7 @@ ghost use mathlib.Core.Path.{_≡_};
 ghost use lib.Dec.{T};
 ghost use lib.Ieee.{le};
 ghost use Rattle.density_altitude.specs.Inverse.{outcome, station};
-ghost use Rattle.density_altitude.specs.Order.{Accepted, Demand₃, Thinner};
+ghost use Rattle.density_altitude.specs.Order.{Accepted, Demand₃, TwoInOrder};
 ghost use Rattle.elementary.specs.Places.{places};
 use super::inverse::Answer;
 use super::inverse::station_for_density_altitude;
@@ -40,8 +40,7 @@ pub struct Pair {
     pub high: Answer,
 }
 
-// The stations with two density altitudes, for one given temperature or for none: the higher one has the
-// thinner air.
+// The stations with two density altitudes, for one given temperature or for none.
 pub fn two_stations_for_density_altitudes(
     low_m: f64,
     high_m: f64,
@@ -49,7 +48,7 @@ pub fn two_stations_for_density_altitudes(
 ) -> Pair
     ensures { λ r. ⌜ (outcome (r .low) ≡ station places «low_m» «explicit_temperature_c»)
         × ((outcome (r .high) ≡ station places «high_m» «explicit_temperature_c»)
-        × Thinner «explicit_temperature_c» «low_m» «high_m» (outcome (r .low)) (outcome (r .high))) ⌝ }
+        × TwoInOrder «explicit_temperature_c» «low_m» «high_m» (outcome (r .low)) (outcome (r .high))) ⌝ }
 {
     let stations = stations_for_density_altitudes(low_m, low_m, high_m, explicit_temperature_c);
     let low = stations.low;
