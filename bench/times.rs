@@ -246,7 +246,7 @@ fn record_row(name: &str, records: &[impl AsRef<[u8]>]) {
 fn fields(r: &Readings, tags: &[u8]) -> Vec<u8> {
     let value = |tag: u8| match tag {
         2 => r.temperature,
-        3 | 4 => r.pressure,
+        3 | 4 | 7 => r.pressure,
         5 => r.humidity,
         _ => r.altitude,
     };
@@ -274,7 +274,7 @@ fn records(random: &mut Random) {
 }
 
 /// In dry air, so that the fields cost what there is to read, and then records that are refused for what
-/// follows their fields: no answer hangs on a byte after the 77th.
+/// follows their fields: no answer hangs on a byte after the 88th.
 fn lengths(random: &mut Random) {
     let dry = dry(&readings(random));
     for tags in [&[1][..], &[1, 2], &[1, 2, 3], &[1, 2, 3, 5]] {

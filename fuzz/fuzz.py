@@ -17,7 +17,7 @@ SECONDS = 5
 WORD = "[0-9A-F]{16}"
 ANSWER = re.compile(f"station(?: {WORD}){{3}}\nair(?: {WORD}){{4}}\n|refused (?:[1-9]|1[0-5])\n".encode())
 
-VALUES = [0.0, -0.0, 15.0, 15.05, 1013.25, 1013.0, 100.0, 1586.0, -273.15, 1e308, 5e-324, float("inf"), float("nan")]
+VALUES = [0.0, -0.0, 5.0, 15.0, 15.05, 1013.25, 1013.1, 100.0, 1586.0, -273.15, 1e308, 5e-324, float("inf"), float("nan")]
 
 
 def value(random):
@@ -25,7 +25,7 @@ def value(random):
 
 
 def field(random):
-    tag = random.randrange(1, 7) if random.random() < 0.95 else random.randrange(256)
+    tag = random.randrange(1, 8) if random.random() < 0.95 else random.randrange(256)
     length = 8 if random.random() < 0.95 else random.randrange(65536)
     data = pack(">d", value(random)) if random.random() < 0.9 else random.randbytes(8)
     return bytes([tag]) + length.to_bytes(2, "big") + data
@@ -33,7 +33,7 @@ def field(random):
 
 def record(random):
     """Fields, then some bytes changed, dropped or added."""
-    data = bytearray(b"".join(field(random) for _ in range(random.randrange(8))))
+    data = bytearray(b"".join(field(random) for _ in range(random.randrange(9))))
     for _ in range(random.choice([0, 0, 1, 2, 8])):
         at = random.randrange(len(data) + 1)
         data[at : at + random.randrange(2)] = random.randbytes(random.randrange(3))

@@ -33,7 +33,7 @@ extern "C" {
 #endif
 
 /* Grows whenever an answer to some call can differ from before. */
-#define STATION_AIR_VERSION 2
+#define STATION_AIR_VERSION 3
 
 /* ---- several numbers, with a status ---- */
 
@@ -60,13 +60,14 @@ enum station_air_status {
     /* a field's length is not 8 */
     STATION_AIR_WRONG_LENGTH = 7,
     STATION_AIR_REPEATED_TAG = 8,
-    /* 03 with 04, or 06 with 01, 03, 04 or 05 */
+    /* two of 03, 04 and 07, or 06 with 01, 03, 04, 05 or 07 */
     STATION_AIR_CLASH = 9,
     /* neither 01 nor 06 */
     STATION_AIR_NO_ALTITUDE = 10,
-    /* altitude, station pressure, QNH or humidity is not finite; places[STATION_AIR_VALUE] is it */
+    /* altitude, station pressure, QNH, humidity or measured station pressure is not finite;
+     * places[STATION_AIR_VALUE] is it */
     STATION_AIR_NOT_FINITE = 11,
-    /* station pressure or QNH is at most 0; places[STATION_AIR_VALUE] is it */
+    /* station pressure, QNH or measured station pressure is at most 0; places[STATION_AIR_VALUE] is it */
     STATION_AIR_PRESSURE_NOT_POSITIVE = 12,
     /* the humidity is below 0 or above 100; places[STATION_AIR_VALUE] is it */
     STATION_AIR_HUMIDITY_OUT_OF_RANGE = 13,

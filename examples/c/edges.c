@@ -34,7 +34,7 @@ static void clear(double *places, size_t length) {
 
 int main(void) {
     static const uint8_t sea_level[11] = {1, 0, 8};
-    static const uint8_t unknown_tag[3] = {7, 0, 8};
+    static const uint8_t unknown_tag[3] = {8, 0, 8};
     enum { ROOM = STATION_AIR_JUDGE_PLACES + 1 };
     double places[ROOM];
 

@@ -1,10 +1,10 @@
-//! Document 01's "Corners in src/atmosphere.rs", held against a build of the source, and its examples of
-//! records, held against the reader.
+//! Document 01's "Corners in src/atmosphere.rs", held against a build of the source, and the examples of records
+//! in documents 01 and 02, held against the reader.
 
 use crate::function::{named, Function};
 use crate::random::Random;
 use crate::record_fields::record;
-use crate::record_values::HOT_HUMID_AIR;
+use crate::record_values::{AS_MEASURED, AS_STATION_PRESSURE, HOT_HUMID_AIR};
 use crate::records::number;
 use crate::ruled::record::read;
 use crate::ruled::{resolve_station_conditions_with_pressure_mode, PressureReferenceMode};
@@ -67,7 +67,8 @@ pub fn hold(functions: &[Function]) {
 }
 
 pub fn hold_reader() {
-    assert_eq!(number(&[0x07, 0x00, 0x08]), 6);
+    assert_eq!(number(&[0x07, 0x00, 0x08]), 5);
+    assert_eq!(number(&[0x08, 0x00, 0x08]), 6);
     assert_eq!(number(&[]), 10);
     assert_eq!(number(&record(&HOT_HUMID_AIR)), 15);
 
@@ -83,7 +84,17 @@ pub fn hold_reader() {
     // with 06 the same station
     let by_density_altitude = read(&record(&[(6, 0.0)])).expect("figures");
     assert_eq!(by_density_altitude[..3], figures[..3]);
+    hold_measured();
     hold_shown_pair();
+}
+
+/// Where the default band replaces a station pressure, a measured one is shown as it came.
+fn hold_measured() {
+    let shown = |fields| read(&record(fields)).expect("figures");
+    let standard = shown(&[(1, 5.0)]);
+    assert_eq!(shown(&AS_STATION_PRESSURE), standard);
+    assert_ne!(standard[2], 1013.1);
+    assert_eq!(shown(&AS_MEASURED)[..3], [5.0, standard[1], 1013.1]);
 }
 
 /// With altitude, temperature and pressure or QNH a record shows the pair that the source resolves from them.

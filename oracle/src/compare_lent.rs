@@ -60,7 +60,7 @@ pub fn row() -> Row {
         record(&[(6, 0.0)]),
         record(&[(6, 1e5)]),
         record(&[(1, f64::NAN)]),
-        vec![7, 0, 8],
+        vec![8, 0, 8],
         vec![],
     ] {
         check("judge", 7, &|lent| exports::judge(&bytes, lent));

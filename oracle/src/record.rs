@@ -1,5 +1,6 @@
-//! Document 01's mast record, read as its section says. It is built twice, as a child of the stock source and
-//! of the one with our rules, whose station functions it takes. The stock one is only timed.
+//! The mast record, read as document 01's section and document 02's request K3 say. It is built twice, as a
+//! child of the stock source and of the one with our rules, whose station functions it takes. The stock one is
+//! only timed.
 
 use super::station::refusal;
 use super::*;
@@ -14,6 +15,13 @@ const PRESSURE: u8 = 0x03;
 const QNH: u8 = 0x04;
 const HUMIDITY: u8 = 0x05;
 const DENSITY_ALTITUDE: u8 = 0x06;
+const MEASURED_PRESSURE: u8 = 0x07;
+
+/// A record has one of them at most.
+const PRESSURES: [u8; 3] = [PRESSURE, QNH, MEASURED_PRESSURE];
+
+/// What stands with no density altitude.
+const NOT_WITH_DENSITY_ALTITUDE: [u8; 5] = [ALTITUDE, PRESSURE, QNH, HUMIDITY, MEASURED_PRESSURE];
 
 /// Altitude, temperature, pressure, density, sound speed, pressure altitude, matched altitude.
 pub type Figures = [f64; 7];
@@ -55,7 +63,7 @@ fn fields(mut rest: &[u8]) -> Result<Fields, Refusal> {
         let Some((&[tag, high, low], after_header)) = rest.split_first_chunk() else {
             return refused(5, &[]);
         };
-        if !(ALTITUDE..=DENSITY_ALTITUDE).contains(&tag) {
+        if !(ALTITUDE..=MEASURED_PRESSURE).contains(&tag) {
             return refused(6, &[]);
         }
         if u16::from_be_bytes([high, low]) != 8 {
@@ -75,10 +83,10 @@ fn fields(mut rest: &[u8]) -> Result<Fields, Refusal> {
 /// Which tags may stand together, and which must be there: 9 and 10.
 fn check_tags(fields: &Fields) -> Result<(), Refusal> {
     let has = |tag: u8| fields.contains_key(&tag);
-    if has(PRESSURE) && has(QNH) {
+    if PRESSURES.into_iter().filter(|tag| has(*tag)).count() > 1 {
         return refused(9, &[]);
     }
-    if has(DENSITY_ALTITUDE) && [ALTITUDE, PRESSURE, QNH, HUMIDITY].into_iter().any(has) {
+    if has(DENSITY_ALTITUDE) && NOT_WITH_DENSITY_ALTITUDE.into_iter().any(has) {
         return refused(9, &[]);
     }
     if !has(ALTITUDE) && !has(DENSITY_ALTITUDE) {
@@ -115,10 +123,11 @@ fn figures_by_altitude(fields: &Fields) -> Result<Figures, Refusal> {
     let resolved_temperature = fields
         .get(&TEMPERATURE)
         .and_then(|t| resolve_station_temperature(*t, altitude));
-    let resolved_pressure = match (fields.get(&PRESSURE), fields.get(&QNH)) {
-        (Some(pressure), _) => resolve_station_pressure(*pressure, altitude),
-        (None, Some(qnh)) => Some(reduce_qnh_to_station_pressure(*qnh, altitude)),
-        (None, None) => None,
+    let resolved_pressure = match PRESSURES.map(|tag| fields.get(&tag)) {
+        [Some(pressure), _, _] => resolve_station_pressure(*pressure, altitude),
+        [_, Some(qnh), _] => Some(reduce_qnh_to_station_pressure(*qnh, altitude)),
+        // a reading is a reading, whatever the altitude
+        [_, _, measured] => measured.copied(),
     };
 
     let (standard_kelvin, standard_pascals) = calculate_icao_standard_atmosphere(altitude);
@@ -136,8 +145,8 @@ fn check_value(tag: u8, value: f64) -> Result<(), Refusal> {
     let number = match tag {
         TEMPERATURE if !value.is_finite() => 2,
         TEMPERATURE if value <= -273.15 => 3,
-        ALTITUDE | PRESSURE | QNH | HUMIDITY if !value.is_finite() => 11,
-        PRESSURE | QNH if value <= 0.0 => 12,
+        ALTITUDE | PRESSURE | QNH | HUMIDITY | MEASURED_PRESSURE if !value.is_finite() => 11,
+        PRESSURE | QNH | MEASURED_PRESSURE if value <= 0.0 => 12,
         HUMIDITY if value < 0.0 || value > 100.0 => 13,
         _ => return Ok(()),
     };

@@ -20,11 +20,17 @@ const fn change(fixed: &'static [Field], tag: u8, ends: [f64; 2], numbers: [u64;
     }
 }
 
-pub const CHANGES: [Change; 45] = [
+pub const CHANGES: [Change; 47] = [
     // More vapour than air: by pressure, temperature, humidity, altitude and QNH.
     change(
         &[(1, 0.0), (2, 50.0), (5, 100.0)],
         3,
+        [1.0, 1000.0],
+        [14, 0],
+    ),
+    change(
+        &[(1, 5.0), (2, 50.0), (5, 100.0)],
+        7,
         [1.0, 1000.0],
         [14, 0],
     ),
@@ -58,6 +64,7 @@ pub const CHANGES: [Change; 45] = [
     change(&[(1, 0.0), (2, 370.0), (5, 100.0)], 3, [1e5, 1e6], [14, 15]),
     // No figures for dense air.
     change(&[(1, 0.0)], 3, [1000.0, 1e200], [0, 15]),
+    change(&[(1, 5.0)], 7, [1000.0, 1e200], [0, 15]),
     change(&[(1, 0.0), (2, -200.0)], 3, [1000.0, 1e200], [0, 15]),
     change(&[(1, 0.0), (2, 1e6)], 3, [1.0, 1e10], [0, 15]),
     change(&[(1, 0.0), (2, 1e6)], 3, [1e10, 1e100], [15, 0]),

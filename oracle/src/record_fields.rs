@@ -5,22 +5,26 @@ use crate::function::Input::Given;
 use crate::quantity::Quantity;
 use crate::random::Random;
 
-pub const TAGS: [u8; 6] = [1, 2, 3, 4, 5, 6];
+pub const TAGS: [u8; 7] = [1, 2, 3, 4, 5, 6, 7];
 
 /// The sets of tags that are neither 9 nor 10.
-pub const READINGS: [&[u8]; 14] = [
+pub const READINGS: [&[u8]; 18] = [
     &[1],
     &[1, 2],
     &[1, 3],
     &[1, 4],
     &[1, 5],
+    &[1, 7],
     &[1, 2, 3],
     &[1, 2, 4],
     &[1, 2, 5],
+    &[1, 2, 7],
     &[1, 3, 5],
     &[1, 4, 5],
+    &[1, 5, 7],
     &[1, 2, 3, 5],
     &[1, 2, 4, 5],
+    &[1, 2, 5, 7],
     &[6],
     &[2, 6],
 ];
@@ -38,10 +42,10 @@ pub fn quantity(tag: u8) -> Quantity {
     match tag {
         1 => Quantity::Altitude,
         2 => Quantity::Celsius,
-        3 | 4 => Quantity::Hectopascals,
+        3 | 4 | 7 => Quantity::Hectopascals,
         5 => Quantity::Percent,
         6 => Quantity::DensityAltitude,
-        _ => unreachable!("a tag of document 01"),
+        _ => unreachable!("a tag of the record"),
     }
 }
 

@@ -6,11 +6,11 @@ use crate::record_fields::{
     drawn, orders, record, reversed, sets_of_tags, shuffled, READINGS, TAGS,
 };
 
-const UNKNOWN_TAGS: [u8; 4] = [0, 7, 0x80, 0xff];
+const UNKNOWN_TAGS: [u8; 4] = [0, 8, 0x80, 0xff];
 const WRONG_LENGTHS: [u16; 6] = [0, 7, 9, 0x0108, 0x0800, 0xffff];
 const RANDOM: usize = 150;
 const NEARLY_FIELDS: usize = 250;
-const CHANGED: usize = 600;
+const CHANGED: usize = 500;
 
 pub fn all(random: &mut Random) -> Vec<Vec<u8>> {
     let mut all = sets(random);
@@ -43,10 +43,16 @@ fn sets(random: &mut Random) -> Vec<Vec<u8>> {
     all
 }
 
-/// Every order of the largest readings and of all six tags, which clash.
+/// Every order of the largest readings and of five tags that clash.
 fn all_orders(random: &mut Random) -> Vec<Vec<u8>> {
     let mut all = Vec::new();
-    for tags in [&[1, 2, 3, 5][..], &[1, 2, 4, 5], &[2, 6], &TAGS] {
+    for tags in [
+        &[1, 2, 3, 5][..],
+        &[1, 2, 4, 5],
+        &[1, 2, 5, 7],
+        &[2, 6],
+        &[1, 3, 4, 6, 7],
+    ] {
         let fields = drawn(tags, usual, random);
         all.extend(orders(&fields).iter().map(|fields| record(fields)));
     }
@@ -74,13 +80,14 @@ fn repeats(random: &mut Random) -> Vec<Vec<u8>> {
 
 /// Every cut of some records, from the first byte to the whole.
 fn cuts(random: &mut Random) -> Vec<Vec<u8>> {
-    let whole: [&[u8]; 6] = [
+    let whole: [&[u8]; 7] = [
         &[1, 2, 3, 5],
         &[5, 4, 2, 1],
+        &[7, 1],
         &[2, 6],
         &[1, 1],
         &[3, 4, 1],
-        &[6, 5, 4, 3, 2, 1, 6],
+        &[7, 6, 5, 4, 3, 2, 1, 7],
     ];
     let mut all = Vec::new();
     for tags in whole {
@@ -131,14 +138,15 @@ fn pairs_of_faults() -> Vec<Vec<u8>> {
     let faults = [
         // 5
         vec![2],
-        vec![7, 0],
+        vec![8, 0],
+        header(7, 8),
         pressure[..10].to_vec(),
         altitude[..10].to_vec(),
         // 6
-        header(7, 8),
-        [header(7, 9), vec![0; 9]].concat(),
+        header(8, 8),
+        [header(8, 9), vec![0; 9]].concat(),
         // 7
-        header(5, 9),
+        header(7, 9),
         [header(1, 7), vec![0; 7]].concat(),
         // 8, after the same field or each other
         altitude.clone(),
@@ -146,6 +154,7 @@ fn pairs_of_faults() -> Vec<Vec<u8>> {
         // 9, after the pressure or the altitude
         record(&[(4, -1.0)]),
         record(&[(6, f64::NAN)]),
+        record(&[(7, 0.0)]),
         // 2, 3, 11 to 13
         record(&[(2, f64::INFINITY)]),
         record(&[(2, -300.0)]),
@@ -164,11 +173,11 @@ fn pairs_of_faults() -> Vec<Vec<u8>> {
     all
 }
 
-/// About 256 bytes long and longer. Six fields have 66 bytes, and the seventh is a fault whatever it is, so
+/// About 256 bytes long and longer. Seven fields have 77 bytes, and the eighth is a fault whatever it is, so
 /// the fault always lies far before byte 256.
 fn long(random: &mut Random) -> Vec<Vec<u8>> {
     let mut all = Vec::new();
-    for tags in [&[1][..], &[1, 2, 3, 5], &[2, 6], &[4, 1, 5, 2], &TAGS] {
+    for tags in [&[1][..], &[1, 2, 3, 5], &[2, 6], &[7, 1, 5, 2], &TAGS] {
         let fields = record(&drawn(tags, usual, random));
         for length in [255, 256, 257, 300] {
             let rest = length - fields.len();
@@ -187,8 +196,8 @@ fn long(random: &mut Random) -> Vec<Vec<u8>> {
 /// Pieces that are often a good field's, cut anywhere.
 pub fn nearly_fields(random: &mut Random) -> Vec<u8> {
     let mut record = Vec::new();
-    for _ in 0..random.next() % 7 {
-        let tag = random.next() % 8;
+    for _ in 0..random.next() % 8 {
+        let tag = random.next() % 9;
         let length = if random.next() % 8 == 0 { 9 } else { 8 };
         record.extend([header(tag as u8, length), bytes(8, random)].concat());
     }

@@ -13,17 +13,26 @@ use crate::records::number;
 use crate::ruled::station::FUNCTIONS;
 
 /// Readings that are drawn.
-const DRAWN: [(usize, Draw); 4] = [(1000, usual), (600, wide), (500, mixed), (60, pattern)];
+const DRAWN: [(usize, Draw); 4] = [(700, usual), (500, wide), (400, mixed), (60, pattern)];
 
 /// The readings with the most fields, and those with one.
-const FULL_OR_SINGLE: [&[u8]; 5] = [&[1, 2, 3, 5], &[1, 2, 4, 5], &[2, 6], &[1], &[6]];
+const FULL_OR_SINGLE: [&[u8]; 6] = [
+    &[1, 2, 3, 5],
+    &[1, 2, 4, 5],
+    &[1, 2, 5, 7],
+    &[2, 6],
+    &[1],
+    &[6],
+];
 
 /// Functions of the source whose edges count here, and the tags that carry their inputs.
-const EDGES_OF: [(&str, &[u8]); 6] = [
+const EDGES_OF: [(&str, &[u8]); 8] = [
     ("resolve_station_pressure", &[3, 1]),
+    ("resolve_station_pressure", &[7, 1]),
     ("resolve_station_temperature", &[2, 1]),
     ("calculate_atmosphere", &[1, 2, 3, 5]),
     ("pressure_altitude_m", &[3]),
+    ("pressure_altitude_m", &[7]),
     ("density_matched_altitude_m", &[2, 3, 5]),
     ("station_for_density_altitude", &[6, 2]),
 ];
@@ -31,8 +40,12 @@ const EDGES_OF: [(&str, &[u8]); 6] = [
 /// Document 01's example of 15.
 pub const HOT_HUMID_AIR: [Field; 4] = [(1, 0.0), (2, 1000.0), (3, 1013.5), (5, 50.0)];
 
-/// What document 01 says of the functions and of records, as records.
-const CORNERS: [&[Field]; 15] = [
+/// The park of request K3: 5 m above the sea, where a station pressure of 1013.1 hPa is a default.
+pub const AS_STATION_PRESSURE: [Field; 2] = [(1, 5.0), (3, 1013.1)];
+pub const AS_MEASURED: [Field; 2] = [(1, 5.0), (7, 1013.1)];
+
+/// What documents 01 and 02 say of the functions and of records, as records.
+const CORNERS: [&[Field]; 18] = [
     &[(1, 0.0)],
     &[(1, 100.0), (3, 1013.0)],
     &[(1, 100.0), (3, 1012.75)],
@@ -48,6 +61,9 @@ const CORNERS: [&[Field]; 15] = [
     &[(6, 54_853.0), (2, 15.0)],
     &[(6, 0.0), (2, -273.15)],
     &[(6, f64::NAN), (2, f64::NAN)],
+    &AS_STATION_PRESSURE,
+    &AS_MEASURED,
+    &[(1, 5.0), (2, 20.0), (5, 50.0), (7, 1013.1)],
 ];
 
 pub fn all(random: &mut Random) -> Vec<Vec<u8>> {
@@ -71,15 +87,18 @@ pub fn all(random: &mut Random) -> Vec<Vec<u8>> {
     all
 }
 
-/// Either of temperature and pressure a default or not, about the altitudes from which defaults count.
+/// Either of temperature and pressure a default or not, about the altitudes from which defaults count. A
+/// measured pressure never is one.
 fn defaults() -> Vec<Vec<u8>> {
     let mut all = Vec::new();
     for altitude in [0.0, 1.0, -1.0, 100.0, -100.0] {
         for temperature in [15.0, 20.0] {
             for pressure in [1013.0, 900.0] {
-                let fields = [(1, altitude), (2, temperature), (3, pressure)];
-                all.push(record(&fields));
-                all.push(record(&[&fields[..], &[(5, 50.0)]].concat()));
+                for tag in [3, 7] {
+                    let fields = [(1, altitude), (2, temperature), (tag, pressure)];
+                    all.push(record(&fields));
+                    all.push(record(&[&fields[..], &[(5, 50.0)]].concat()));
+                }
             }
         }
     }
@@ -104,7 +123,7 @@ fn bad(tag: u8) -> &'static [f64] {
     match tag {
         1 => &[f64::NAN, f64::INFINITY],
         2 => &[f64::NAN, f64::NEG_INFINITY, -273.15, -1e9],
-        3 | 4 => &[f64::NAN, f64::NEG_INFINITY, 0.0, -1.0],
+        3 | 4 | 7 => &[f64::NAN, f64::NEG_INFINITY, 0.0, -1.0],
         5 => &[f64::NAN, f64::INFINITY, -1.0, 101.0],
         _ => &[f64::NAN, f64::INFINITY, 1e5],
     }

@@ -22,7 +22,7 @@ use Rattle.density_altitude.specs.Inverse.{stationRows}
 use Rattle.record.specs.declared.readings.Entry.{Entry}
 use Rattle.record.specs.declared.readings.Entry.the-variants.{Absent, Present}
 use Rattle.record.specs.declared.readings.Readings.{Readings}
-use Rattle.record.specs.Fields.{altitude, temperature, stationPressure, qnh, humidity, densityAltitude}
+use Rattle.record.specs.Fields.{altitude, temperature, stationPressure, qnh, humidity, densityAltitude, measuredPressure}
 use Rattle.record.specs.Readings.{isPresent, entryOf}
 use Rattle.mast.specs.declared.figures.Figures.{Figures}
 use Rattle.mast.specs.declared.figures.Resolved.{Resolved}
@@ -79,6 +79,10 @@ or-right : (x y : Bool) → (x || y) ≡ false → y ≡ false
 or-right true y e = absurd (true≢false e)
 or-right false y e = e
 
+or-left : (x y : Bool) → (x || y) ≡ false → x ≡ false
+or-left true y e = absurd (true≢false e)
+or-left false y e = refl
+
 and-right : (x y : Bool) → x ≡ true → (x && y) ≡ false → y ≡ false
 and-right true y h e = e
 and-right false y h e = absurd (false≢true h)
@@ -121,8 +125,9 @@ by-entry r (Present d) h none =
 pub not-with-06 : NotWith06
 unfolding judged
 not-with-06 r with06 =
-    let pressure = has r stationPressure in
-    let others = has r altitude || pressure || has r qnh in
+    let others = has r altitude || has r stationPressure || has r qnh in
+    let pressures = (has r stationPressure && has r qnh) || (has r measuredPressure && (has r stationPressure || has r qnh)) in
     let d = entryOf r densityAltitude in
+    let with = others || has r humidity || has r measuredPressure in
     then-same (row (isClash r) 9 [] ∷ []) (λ none.
-    by-entry r d with06 (or-right others (has r humidity) (and-right (isPresent d) (others || has r humidity) with06 (or-right (pressure && has r qnh) (isPresent d && (others || has r humidity)) (none .0)))))
+    by-entry r d with06 (or-right others (has r humidity) (or-left (others || has r humidity) (has r measuredPressure) (and-right (isPresent d) with with06 (or-right pressures (isPresent d && with) (none .0))))))

@@ -11,7 +11,7 @@ use Rattle.density_altitude.specs.Inverse.{temperatureRows, stationRows}
 use Rattle.record.specs.declared.readings.Entry.{Entry}
 use Rattle.record.specs.declared.readings.Entry.the-variants.{Absent, Present}
 use Rattle.record.specs.declared.readings.Readings.{Readings}
-use Rattle.record.specs.Fields.{altitude, temperature, stationPressure, qnh, humidity, densityAltitude}
+use Rattle.record.specs.Fields.{altitude, temperature, stationPressure, qnh, humidity, densityAltitude, measuredPressure}
 use Rattle.record.specs.Readings.{entryOf, readRecord}
 use Rattle.record.proofs.FirstBytes.{first-bytes}
 use Rattle.record.proofs.Following.{nothing-after}
@@ -64,7 +64,8 @@ way-outside r Absent =
     let to-02 = both a t (where-present finiteRows (λ x. omega arith) (entryOf r altitude)) (where-present temperatureRows (λ x. omega arith) (entryOf r temperature)) in
     let to-03 = both (a ++ t) p to-02 (where-present pressureRows (λ x. omega arith) (entryOf r stationPressure)) in
     let to-04 = both (a ++ t ++ p) q to-03 (where-present pressureRows (λ x. omega arith) (entryOf r qnh)) in
-    (omega arith, both (a ++ t ++ p ++ q) h to-04 (where-present humidityRows (λ x. omega arith) (entryOf r humidity)))
+    let to-05 = both (a ++ t ++ p ++ q) h to-04 (where-present humidityRows (λ x. omega arith) (entryOf r humidity)) in
+    (omega arith, both (a ++ t ++ p ++ q ++ h) (present pressureRows (entryOf r measuredPressure)) to-05 (where-present pressureRows (λ x. omega arith) (entryOf r measuredPressure)))
 
 of-readings : (r : Readings) (k : ℕ) (vs : List Float) → judged r ≡ refused k vs → Outside k
 unfolding judged

@@ -10,15 +10,18 @@ use Rattle.density_altitude.specs.Inverse.{temperatureRows}
 use Rattle.record.specs.declared.readings.Entry.{Entry}
 use Rattle.record.specs.declared.readings.Entry.the-variants.{Absent, Present}
 use Rattle.record.specs.declared.readings.Readings.{Readings}
-use Rattle.record.specs.Fields.{altitude, temperature, stationPressure, qnh, humidity, densityAltitude}
+use Rattle.record.specs.Fields.{altitude, temperature, stationPressure, qnh, humidity, densityAltitude, measuredPressure}
 use Rattle.record.specs.Readings.{isPresent, entryOf}
 
 abbrev pub has : Readings → ℕ → Bool
 has r m = isPresent (entryOf r m)
 
--- ---- 9: 03 with 04, or 06 with 01, 03, 04 or 05
+-- ---- 9: 03 with 04, or 06 with 01, 03, 04 or 05; document 02: 07 with 03, 04 or 06
 abbrev pub isClash : Readings → Bool
-isClash r = (has r stationPressure && has r qnh) || (has r densityAltitude && (has r altitude || has r stationPressure || has r qnh || has r humidity))
+isClash r =
+    (has r stationPressure && has r qnh)
+    || (has r measuredPressure && (has r stationPressure || has r qnh))
+    || (has r densityAltitude && (has r altitude || has r stationPressure || has r qnh || has r humidity || has r measuredPressure))
 
 -- ---- a value
 -- 11: not finite
@@ -33,7 +36,7 @@ pressureRows p = finiteRows p ++ row (le p nought) 12 (p ∷ []) ∷ []
 abbrev pub humidityRows : Float → List Row
 humidityRows h = finiteRows h ++ row (lt h nought || lt hundred h) 13 (h ∷ []) ∷ []
 
--- ---- the values by rising tag, each where it is present: 01 to 05. 2 and 3 are those of a temperature
+-- ---- the values by rising tag, each where it is present: 01 to 05, and 07 after 05. 2 and 3 are those of a temperature
 abbrev pub present : (Float → List Row) → Entry → List Row
 present rows Absent = []
 present rows (Present x) = rows x
@@ -44,7 +47,8 @@ valueRows r =
     present temperatureRows (entryOf r temperature) ++
     present pressureRows (entryOf r stationPressure) ++
     present pressureRows (entryOf r qnh) ++
-    present humidityRows (entryOf r humidity)
+    present humidityRows (entryOf r humidity) ++
+    present pressureRows (entryOf r measuredPressure)
 
 -- ---- without 06. 10: neither 01 nor 06
 abbrev pub ordinaryRows : Readings → List Row

@@ -18,7 +18,7 @@ use Rattle.density_altitude.specs.Inverse.{isFiniteAbove}
 use Rattle.record.specs.declared.readings.Entry.{Entry}
 use Rattle.record.specs.declared.readings.Entry.the-variants.{Absent, Present}
 use Rattle.record.specs.declared.readings.Readings.{Readings}
-use Rattle.record.specs.Fields.{altitude, temperature, stationPressure, qnh, humidity}
+use Rattle.record.specs.Fields.{altitude, temperature, stationPressure, qnh, humidity, measuredPressure}
 use Rattle.record.specs.Readings.{entryOf}
 use Rattle.mast.specs.declared.figures.Figures.{Figures}
 use Rattle.mast.specs.declared.figures.Resolved.{Resolved}
@@ -27,12 +27,20 @@ use Rattle.mast.specs.declared.figures.Pressure.the-variants as pressure
 
 -- ---- readings without 06
 -- 03, or else 04
-abbrev pub pressureOf : Entry → Entry → Pressure
-pressureOf (Present p) q = pressure.Station p
-pressureOf Absent (Present q) = pressure.Qnh q
-pressureOf Absent Absent = pressure.Absent
+abbrev pub unmeasuredPressure : Entry → Entry → Pressure
+unmeasuredPressure (Present p) q = pressure.Station p
+unmeasuredPressure Absent (Present q) = pressure.Qnh q
+unmeasuredPressure Absent Absent = pressure.Absent
 
--- 02 and 03 pass their `resolve_` functions; 04 is reduced at the altitude
+-- 07, or else one of these
+abbrev pub measuredOr : Entry → Pressure → Pressure
+measuredOr (Present p) other = pressure.Measured p
+measuredOr Absent other = other
+
+abbrev pub pressureOf : Readings → Pressure
+pressureOf r = measuredOr (entryOf r measuredPressure) (unmeasuredPressure (entryOf r stationPressure) (entryOf r qnh))
+
+-- 02 and 03 pass their `resolve_` functions; 04 is reduced at the altitude; 07 is used as it comes
 abbrev pub resolvedTemperature : Entry → Float → Reading
 resolvedTemperature (Present t) h = stationTemperature t h
 resolvedTemperature Absent h = FromLayer
@@ -40,6 +48,7 @@ resolvedTemperature Absent h = FromLayer
 abbrev pub resolvedPressure : Pressure → Float → Reading
 resolvedPressure (pressure.Station p) h = station.stationPressure p h
 resolvedPressure (pressure.Qnh q) h = Given (reducedQnh places q h)
+resolvedPressure (pressure.Measured p) h = Given p
 resolvedPressure pressure.Absent h = FromLayer
 
 -- absent humidity is 0; an absent altitude is refused
@@ -53,7 +62,7 @@ ordinary r =
     record {
       «altitude_m» = h;
       temperature = resolvedTemperature (entryOf r temperature) h;
-      pressure = resolvedPressure (pressureOf (entryOf r stationPressure) (entryOf r qnh)) h;
+      pressure = resolvedPressure (pressureOf r) h;
       «humidity_percent» = valueOrZero (entryOf r humidity);
     }
 

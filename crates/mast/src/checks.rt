@@ -8,6 +8,7 @@ use humid_air::doubles::is_finite;
 use record::fields::ALTITUDE;
 use record::fields::DENSITY_ALTITUDE;
 use record::fields::HUMIDITY;
+use record::fields::MEASURED_PRESSURE;
 use record::fields::QNH;
 use record::fields::STATION_PRESSURE;
 use record::fields::TEMPERATURE;
@@ -20,7 +21,7 @@ use refusal::Refusal;
 use refusal::first_of;
 use refusal::refuse_if;
 
-// 03 with 04, or 06 with 01, 03, 04 or 05.
+// Two of 03, 04 and 07, or 06 with 01, 03, 04, 05 or 07.
 pub(crate) fn is_clash(readings: Readings) -> bool
     ensures { λ r. ⌜ r ≡ isClash readings ⌝ }
 {
@@ -29,7 +30,10 @@ pub(crate) fn is_clash(readings: Readings) -> bool
     let qnh = is_present(entry_of(readings, QNH));
     let humidity = is_present(entry_of(readings, HUMIDITY));
     let density_altitude = is_present(entry_of(readings, DENSITY_ALTITUDE));
-    (station_pressure & qnh) | (density_altitude & (altitude | station_pressure | qnh | humidity))
+    let measured = is_present(entry_of(readings, MEASURED_PRESSURE));
+    (station_pressure & qnh)
+        | (measured & (station_pressure | qnh))
+        | (density_altitude & (altitude | station_pressure | qnh | humidity | measured))
 }
 
 fn check_finite(x: f64) -> Check
@@ -90,7 +94,8 @@ fn check_values(readings: Readings) -> Check
     );
     let to_03 = first_of(to_02, check_pressure(entry_of(readings, STATION_PRESSURE)));
     let to_04 = first_of(to_03, check_pressure(entry_of(readings, QNH)));
-    first_of(to_04, check_humidity(entry_of(readings, HUMIDITY)))
+    let to_05 = first_of(to_04, check_humidity(entry_of(readings, HUMIDITY)));
+    first_of(to_05, check_pressure(entry_of(readings, MEASURED_PRESSURE)))
 }
 
 // Readings without 06: that there is an altitude, then the values.

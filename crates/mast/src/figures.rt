@@ -3,7 +3,7 @@ ghost use mathlib.Core.Path.{_≡_};
 ghost use Rattle.elementary.specs.Places.{places};
 ghost use Rattle.elementary.specs.Decimals.{nought};
 ghost use Rattle.density_altitude.specs.Inverse.{isFiniteAbove};
-ghost use Rattle.mast.specs.Figures.{pressureOf, resolvedTemperature, resolvedPressure, valueOrZero, givenTemperature, ordinary, atStation, shownTemperature, shownPressure, figuresWith, isAir};
+ghost use Rattle.mast.specs.Figures.{unmeasuredPressure, pressureOf, resolvedTemperature, resolvedPressure, valueOrZero, givenTemperature, ordinary, atStation, shownTemperature, shownPressure, figuresWith, isAir};
 use atmosphere::altitudes::density_matched_altitude_m;
 use atmosphere::altitudes::pressure_altitude_m;
 use atmosphere::layers::calculate_icao_standard_atmosphere;
@@ -16,6 +16,7 @@ use density_altitude::inverse::Station;
 use humid_air::doubles::is_finite;
 use record::fields::ALTITUDE;
 use record::fields::HUMIDITY;
+use record::fields::MEASURED_PRESSURE;
 use record::fields::QNH;
 use record::fields::STATION_PRESSURE;
 use record::fields::TEMPERATURE;
@@ -36,6 +37,7 @@ pub struct Figures {
 pub enum Pressure {
     Station(f64),
     Qnh(f64),
+    Measured(f64),
     Absent,
 }
 
@@ -48,8 +50,8 @@ pub struct Resolved {
     pub humidity_percent: f64,
 }
 
-fn pressure_of(station_pressure_hpa: Entry, qnh_hpa: Entry) -> Pressure
-    ensures { λ r. ⌜ r ≡ pressureOf «station_pressure_hpa» «qnh_hpa» ⌝ }
+fn unmeasured_pressure(station_pressure_hpa: Entry, qnh_hpa: Entry) -> Pressure
+    ensures { λ r. ⌜ r ≡ unmeasuredPressure «station_pressure_hpa» «qnh_hpa» ⌝ }
 {
     match station_pressure_hpa {
         Entry::Present(p) => Pressure::Station(p),
@@ -57,6 +59,20 @@ fn pressure_of(station_pressure_hpa: Entry, qnh_hpa: Entry) -> Pressure
             Entry::Present(q) => Pressure::Qnh(q),
             Entry::Absent => Pressure::Absent,
         },
+    }
+}
+
+fn pressure_of(readings: Readings) -> Pressure
+    ensures { λ r. ⌜ r ≡ pressureOf readings ⌝ }
+{
+    match entry_of(readings, MEASURED_PRESSURE) {
+        Entry::Present(p) => Pressure::Measured(p),
+        Entry::Absent => {
+            unmeasured_pressure(
+                entry_of(readings, STATION_PRESSURE),
+                entry_of(readings, QNH),
+            )
+        }
     }
 }
 
@@ -75,6 +91,7 @@ fn resolved_pressure(pressure: Pressure, altitude_m: f64) -> Reading
     match pressure {
         Pressure::Station(p) => resolve_station_pressure(p, altitude_m),
         Pressure::Qnh(q) => Reading::Given(reduce_qnh_to_station_pressure(q, altitude_m)),
+        Pressure::Measured(p) => Reading::Given(p),
         Pressure::Absent => Reading::FromLayer,
     }
 }
@@ -102,14 +119,10 @@ pub(crate) fn ordinary(readings: Readings) -> Resolved
     ensures { λ r. ⌜ r ≡ ordinary readings ⌝ }
 {
     let altitude_m = value_or_zero(entry_of(readings, ALTITUDE));
-    let pressure = pressure_of(
-        entry_of(readings, STATION_PRESSURE),
-        entry_of(readings, QNH),
-    );
     Resolved {
         altitude_m,
         temperature: resolved_temperature(entry_of(readings, TEMPERATURE), altitude_m),
-        pressure: resolved_pressure(pressure, altitude_m),
+        pressure: resolved_pressure(pressure_of(readings), altitude_m),
         humidity_percent: value_or_zero(entry_of(readings, HUMIDITY)),
     }
 }

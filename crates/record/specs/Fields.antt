@@ -11,9 +11,10 @@ use Rattle.record.specs.declared.fields.Found.the-variants as found-as
 use Rattle.record.specs.Bytes.{wordAt, doubleAt}
 
 -- ---- the tags, and the meanings that readings are kept by
--- 01 altitude m, 02 temperature °C, 03 station pressure hPa, 04 QNH hPa, 05 humidity percent, 06 density altitude m
+-- 01 altitude m, 02 temperature °C, 03 station pressure hPa, 04 QNH hPa, 05 humidity percent, 06 density altitude m; document 02: 07 measured station
+-- pressure hPa
 abbrev pub meanings : ℕ
-meanings = 6
+meanings = 7
 
 abbrev pub isTag : ℕ → Bool
 isTag tag = leb 1 tag && leb tag meanings
@@ -38,6 +39,9 @@ humidity = meaningOf 5
 
 abbrev pub densityAltitude : ℕ
 densityAltitude = meaningOf 6
+
+abbrev pub measuredPressure : ℕ
+measuredPressure = meaningOf 7
 
 -- data is a double's eight bytes
 abbrev pub dataSize : ℕ → ℕ

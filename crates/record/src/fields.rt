@@ -20,7 +20,9 @@ pub const HUMIDITY: usize = 4;
 
 pub const DENSITY_ALTITUDE: usize = 5;
 
-pub const MEANINGS: usize = 6;
+pub const MEASURED_PRESSURE: usize = 6;
+
+pub const MEANINGS: usize = 7;
 
 // A meaning, its value, and how many bytes the field takes.
 pub struct Field {

@@ -21,4 +21,4 @@ use Rattle.text.specs.Samples.{Samples}
 
 pub samples : Samples
 unfolding ofBits toBits le isNan isFinite absDouble powerAt exp sqrt standardAir saturationPressure moleFraction compressibilityFactor airDensity soundSpeed atmosphere pressureAltitude densityMatchedAltitude seaLevelDensity wordAt field headRows rowsFrom readingsFrom ordinary figuresWith judged judge hexDigits stationLine airLine refusalLine
-samples = record { unknown-tag = refl; empty = refl; sea-level = refl; hot = refl }
+samples = record { unknown-tag = refl; cut = refl; empty = refl; sea-level = refl; hot = refl }

@@ -31,7 +31,9 @@ textOf s = answerText (judge s)
 
 pub record Samples : Type 0 where
   -- an unknown tag
-  pub unknown-tag : textOf (bytes 3 0x070008) ≡ ascii "refused 6\n"
+  pub unknown-tag : textOf (bytes 3 0x080008) ≡ ascii "refused 6\n"
+  -- document 02: a measured pressure that is cut
+  pub cut : textOf (bytes 3 0x070008) ≡ ascii "refused 5\n"
   -- an empty record
   pub empty : textOf list.[] ≡ ascii "refused 10\n"
   -- the altitude 0 m: the first line

@@ -6,7 +6,7 @@ use Rattle.record.specs.declared.readings.Entry.{Entry}
 use Rattle.refusal.specs.Outcomes.{Outcome, Row, passed}
 use Rattle.refusal.proofs.Rows.{first-passed}
 use Rattle.density_altitude.specs.Inverse.{temperatureRows}
-use Rattle.record.specs.Fields.{altitude, temperature, stationPressure, qnh, humidity}
+use Rattle.record.specs.Fields.{altitude, temperature, stationPressure, qnh, humidity, measuredPressure}
 use Rattle.record.specs.Readings.{entryOf}
 use Rattle.mast.specs.Checks.{finiteRows, pressureRows, humidityRows, present}
 use borrow.Author.Needs.{needs}
@@ -19,7 +19,8 @@ of rows p q = p ∙ ap (λ (e : Entry). passed (present rows e)) q
 
 returns : tie.Need-returns
 returns c =
-    let to04 = c .before .before .before in
+    let to05 = c .before .before .before in
+    let to04 = to05 .before .before .before in
     let to03 = to04 .before .before .before in
     let to02 = to03 .before .before .before in
     let first = to02 .before .before .before in
@@ -28,7 +29,9 @@ returns c =
     let rows02 = present temperatureRows (entryOf r temperature) in
     let rows03 = present pressureRows (entryOf r stationPressure) in
     let rows04 = present pressureRows (entryOf r qnh) in
-    first-passed (rows01 ++ rows02 ++ rows03 ++ rows04) (present humidityRows (entryOf r humidity)) (c .first-of4 .ensures)
+    let rows05 = present humidityRows (entryOf r humidity) in
+    first-passed (rows01 ++ rows02 ++ rows03 ++ rows04 ++ rows05) (present pressureRows (entryOf r measuredPressure)) (c .first-of5 .ensures)
+    (first-passed (rows01 ++ rows02 ++ rows03 ++ rows04) rows05 (to05 .first-of4 .ensures)
     (first-passed (rows01 ++ rows02 ++ rows03) rows04 (to04 .first-of3 .ensures)
     (first-passed (rows01 ++ rows02) rows03 (to03 .first-of2 .ensures)
     (first-passed rows01 rows02 (to02 .first-of .ensures)
@@ -36,12 +39,16 @@ returns c =
     (of temperatureRows (to02 .before .check-celsius .ensures) (to02 .before .before .entry-of2 .ensures)))
     (of pressureRows (to03 .before .check-pressure .ensures) (to03 .before .before .entry-of3 .ensures)))
     (of pressureRows (to04 .before .check-pressure2 .ensures) (to04 .before .before .entry-of4 .ensures)))
-    (of humidityRows (c .before .check-humidity .ensures) (c .before .before .entry-of5 .ensures))
+    (of humidityRows (to05 .before .check-humidity .ensures) (to05 .before .before .entry-of5 .ensures)))
+    (of pressureRows (c .before .check-pressure3 .ensures) (c .before .before .entry-of6 .ensures))
 
 pub check-values-spec : {M : Type 1} → statement M
 check-values-spec =
     tie.close
     (tie.spec
+    (λ c κs. search needs)
+    (λ c κs. search needs)
+    (λ c κs. search needs)
     (λ c κs. search needs)
     (λ c κs. search needs)
     (λ c κs. search needs)

@@ -17,6 +17,9 @@ returns-2 c =
     let a = c .before .before .before .before .args in
     ap Given (c .reduce-qnh-to-station-pressure .ensures) ∙ ap (λ (p : Pressure). resolvedPressure p (a .altitude-m)) (sym (c .before .before .pressure2 .given .1))
 
+returns-3 : tie.Need-returns-3
+returns-3 c = ap (λ (p : Pressure). resolvedPressure p (c .before .before .before .args .altitude-m)) (sym (c .before .pressure3 .given .1))
+
 pub resolved-pressure-spec : {M : Type 1} → statement M
 resolved-pressure-spec =
     tie.close
@@ -26,6 +29,8 @@ resolved-pressure-spec =
     (λ c. search needs)
     (λ c κs. search needs)
     (λ c. search needs)
+    (λ c. search needs)
     returns
     returns-2
+    returns-3
     (λ c. search needs))
