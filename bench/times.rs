@@ -268,6 +268,7 @@ fn records(random: &mut Random) {
         ("record 01 02 04 05, humid", &humid, &[1, 2, 4, 5]),
         ("record 01 05, humid", &humid, &[1, 5]),
         ("record 02 06", &humid, &[2, 6]),
+        ("record 02 05 06, humid", &humid, &[2, 5, 6]),
     ] {
         record_row(name, &all_fields(readings, tags));
     }

@@ -33,7 +33,7 @@ extern "C" {
 #endif
 
 /* Grows whenever an answer to some call can differ from before. */
-#define STATION_AIR_VERSION 3
+#define STATION_AIR_VERSION 4
 
 /* ---- several numbers, with a status ---- */
 
@@ -60,7 +60,7 @@ enum station_air_status {
     /* a field's length is not 8 */
     STATION_AIR_WRONG_LENGTH = 7,
     STATION_AIR_REPEATED_TAG = 8,
-    /* two of 03, 04 and 07, or 06 with 01, 03, 04, 05 or 07 */
+    /* two of 03, 04 and 07, or 06 with 01, 03, 04 or 07 */
     STATION_AIR_CLASH = 9,
     /* neither 01 nor 06 */
     STATION_AIR_NO_ALTITUDE = 10,

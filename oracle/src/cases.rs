@@ -3,7 +3,7 @@
 
 use crate::function::{named, Function};
 use crate::random::Random;
-use crate::record_fields::record;
+use crate::record_fields::{record, Field};
 use crate::record_values::{AS_MEASURED, AS_STATION_PRESSURE, HOT_HUMID_AIR};
 use crate::records::number;
 use crate::ruled::record::read;
@@ -85,6 +85,7 @@ pub fn hold_reader() {
     let by_density_altitude = read(&record(&[(6, 0.0)])).expect("figures");
     assert_eq!(by_density_altitude[..3], figures[..3]);
     hold_measured();
+    hold_humid_density_altitudes();
     hold_shown_pair();
 }
 
@@ -95,6 +96,24 @@ fn hold_measured() {
     assert_eq!(shown(&AS_STATION_PRESSURE), standard);
     assert_ne!(standard[2], 1013.1);
     assert_eq!(shown(&AS_MEASURED)[..3], [5.0, standard[1], 1013.1]);
+}
+
+/// Humidity moves density, sound speed and matched altitude, nothing else, and 0 percent is as if absent.
+fn hold_humid_density_altitudes() {
+    let random = &mut Random(0);
+    let shown = |fields: &[Field]| read(&record(fields)).expect("figures");
+    for turn in 0..500 {
+        let mut fields = vec![(6, random.between(-500.0, 5000.0))];
+        if turn % 2 == 0 {
+            fields.push((2, random.between(-40.0, 50.0)));
+        }
+        let with = |humidity: f64| shown(&[&fields[..], &[(5, humidity)]].concat());
+        let (dry, humid) = (shown(&fields), with(random.between(10.0, 100.0)));
+        assert_eq!(with(0.0), dry);
+        assert_eq!(humid[..3], dry[..3]);
+        assert_eq!(humid[5], dry[5]);
+        assert!(humid[3] < dry[3] && humid[4] > dry[4] && humid[6] > dry[6]);
+    }
 }
 
 /// With altitude, temperature and pressure or QNH a record shows the pair that the source resolves from them.

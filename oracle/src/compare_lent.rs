@@ -59,6 +59,8 @@ pub fn row() -> Row {
         record(&[(1, 0.0)]),
         record(&[(6, 0.0)]),
         record(&[(6, 1e5)]),
+        record(&[(6, 0.0), (5, 50.0)]),
+        record(&[(6, 0.0), (5, 101.0)]),
         record(&[(1, f64::NAN)]),
         vec![8, 0, 8],
         vec![],

@@ -1,4 +1,4 @@
-//! The mast record, read as document 01's section and document 02's request K3 say. It is built twice, as a
+//! The mast record, read as document 01's section and document 02's requests K3 and K12 say. It is built twice, as a
 //! child of the stock source and of the one with our rules, whose station functions it takes. The stock one is
 //! only timed.
 
@@ -21,7 +21,7 @@ const MEASURED_PRESSURE: u8 = 0x07;
 const PRESSURES: [u8; 3] = [PRESSURE, QNH, MEASURED_PRESSURE];
 
 /// What stands with no density altitude.
-const NOT_WITH_DENSITY_ALTITUDE: [u8; 5] = [ALTITUDE, PRESSURE, QNH, HUMIDITY, MEASURED_PRESSURE];
+const NOT_WITH_DENSITY_ALTITUDE: [u8; 4] = [ALTITUDE, PRESSURE, QNH, MEASURED_PRESSURE];
 
 /// Altitude, temperature, pressure, density, sound speed, pressure altitude, matched altitude.
 pub type Figures = [f64; 7];
@@ -95,20 +95,24 @@ fn check_tags(fields: &Fields) -> Result<(), Refusal> {
     Ok(())
 }
 
-/// With 06. The source's own function refuses 1 to 4, in document 01's order.
+/// With 06. The source's own function refuses 1 to 4, in document 01's order; the humidity, which it does not
+/// take, is looked at after that.
 fn figures_by_density_altitude(density_altitude: f64, fields: &Fields) -> Result<Figures, Refusal> {
-    let temperature = fields.get(&TEMPERATURE).copied();
-    match station_for_density_altitude(density_altitude, temperature) {
-        Ok((altitude, temperature, pressure)) => {
-            let air = calculate_atmosphere(altitude, Some(temperature), Some(pressure), 0.0);
-            Ok(figures(altitude, temperature, pressure, 0.0, air))
-        }
+    let given = fields.get(&TEMPERATURE).copied();
+    let resolved = station_for_density_altitude(density_altitude, given);
+    let (altitude, temperature, pressure) = match resolved {
+        Ok(station) => station,
         Err(error) => {
             let values = [Some(error.value), error.altitude_m];
             let values: Vec<f64> = values.into_iter().flatten().collect();
-            refused(refusal(&error), &values)
+            return refused(refusal(&error), &values);
         }
-    }
+    };
+    let humidity = humidity(fields);
+    check_value(HUMIDITY, humidity)?;
+    check_vapor(temperature, pressure, humidity)?;
+    let air = calculate_atmosphere(altitude, Some(temperature), Some(pressure), humidity);
+    Ok(figures(altitude, temperature, pressure, humidity, air))
 }
 
 /// Without 06.
@@ -117,7 +121,7 @@ fn figures_by_altitude(fields: &Fields) -> Result<Figures, Refusal> {
         check_value(*tag, *value)?;
     }
     let altitude = fields[&ALTITUDE];
-    let humidity = fields.get(&HUMIDITY).copied().unwrap_or(0.0);
+    let humidity = humidity(fields);
 
     // None where a value is absent or a default
     let resolved_temperature = fields
@@ -133,14 +137,24 @@ fn figures_by_altitude(fields: &Fields) -> Result<Figures, Refusal> {
     let (standard_kelvin, standard_pascals) = calculate_icao_standard_atmosphere(altitude);
     let temperature = resolved_temperature.unwrap_or(standard_kelvin - 273.15);
     let pressure = resolved_pressure.unwrap_or(standard_pascals / 100.0);
-    if water_vapor_mole_fraction_uncapped(temperature, pressure, humidity) > 1.0 {
-        return refused(14, &[]);
-    }
+    check_vapor(temperature, pressure, humidity)?;
     let air = calculate_atmosphere(altitude, resolved_temperature, resolved_pressure, humidity);
     Ok(figures(altitude, temperature, pressure, humidity, air))
 }
 
-/// One field's value in a record without 06: 2, 3, 11, 12 and 13.
+fn humidity(fields: &Fields) -> f64 {
+    fields.get(&HUMIDITY).copied().unwrap_or(0.0)
+}
+
+/// Of the shown temperature and pressure: 14.
+fn check_vapor(temperature: f64, pressure: f64, humidity: f64) -> Result<(), Refusal> {
+    if water_vapor_mole_fraction_uncapped(temperature, pressure, humidity) > 1.0 {
+        return refused(14, &[]);
+    }
+    Ok(())
+}
+
+/// One field's value, all of a record without 06 and the humidity with it: 2, 3, 11, 12 and 13.
 fn check_value(tag: u8, value: f64) -> Result<(), Refusal> {
     let number = match tag {
         TEMPERATURE if !value.is_finite() => 2,

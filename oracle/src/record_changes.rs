@@ -20,7 +20,7 @@ const fn change(fixed: &'static [Field], tag: u8, ends: [f64; 2], numbers: [u64;
     }
 }
 
-pub const CHANGES: [Change; 47] = [
+pub const CHANGES: [Change; 53] = [
     // More vapour than air: by pressure, temperature, humidity, altitude and QNH.
     change(
         &[(1, 0.0), (2, 50.0), (5, 100.0)],
@@ -99,4 +99,11 @@ pub const CHANGES: [Change; 47] = [
     change(&[(2, 1e8)], 6, [0.0, 3.5e9], [0, 15]),
     change(&[(2, 1e8)], 6, [3.5e9, 3.65765e9], [15, 0]),
     change(&[(2, 1e15)], 6, [0.0, 3.6574e16], [0, 15]),
+    // A humid density altitude: by density altitude, temperature and humidity.
+    change(&[(5, 100.0)], 6, [0.0, 44_283.0], [0, 14]),
+    change(&[(2, 50.0), (5, 100.0)], 6, [0.0, 50_000.0], [0, 14]),
+    change(&[(2, 110.0), (6, 10_000.0)], 5, [0.0, 100.0], [0, 14]),
+    change(&[(5, 100.0), (6, 20_000.0)], 2, [-20.0, 60.0], [0, 14]),
+    change(&[(5, 50.0), (6, 0.0)], 2, [20.0, 1000.0], [0, 15]),
+    change(&[(2, 300.0), (5, 100.0)], 6, [-1e60, 0.0], [15, 14]),
 ];

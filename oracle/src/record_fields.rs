@@ -8,7 +8,7 @@ use crate::random::Random;
 pub const TAGS: [u8; 7] = [1, 2, 3, 4, 5, 6, 7];
 
 /// The sets of tags that are neither 9 nor 10.
-pub const READINGS: [&[u8]; 18] = [
+pub const READINGS: [&[u8]; 20] = [
     &[1],
     &[1, 2],
     &[1, 3],
@@ -27,6 +27,8 @@ pub const READINGS: [&[u8]; 18] = [
     &[1, 2, 5, 7],
     &[6],
     &[2, 6],
+    &[5, 6],
+    &[2, 5, 6],
 ];
 
 /// A tag with its value.

@@ -13,14 +13,15 @@ use crate::records::number;
 use crate::ruled::station::FUNCTIONS;
 
 /// Readings that are drawn.
-const DRAWN: [(usize, Draw); 4] = [(700, usual), (500, wide), (400, mixed), (60, pattern)];
+const DRAWN: [(usize, Draw); 4] = [(500, usual), (400, wide), (350, mixed), (60, pattern)];
 
-/// The readings with the most fields, and those with one.
-const FULL_OR_SINGLE: [&[u8]; 6] = [
+/// The readings with the most fields, those with one, and a density altitude with nothing but a humidity.
+const FULL_OR_SINGLE: [&[u8]; 7] = [
     &[1, 2, 3, 5],
     &[1, 2, 4, 5],
     &[1, 2, 5, 7],
-    &[2, 6],
+    &[2, 5, 6],
+    &[5, 6],
     &[1],
     &[6],
 ];
@@ -45,7 +46,7 @@ pub const AS_STATION_PRESSURE: [Field; 2] = [(1, 5.0), (3, 1013.1)];
 pub const AS_MEASURED: [Field; 2] = [(1, 5.0), (7, 1013.1)];
 
 /// What documents 01 and 02 say of the functions and of records, as records.
-const CORNERS: [&[Field]; 18] = [
+const CORNERS: [&[Field]; 28] = [
     &[(1, 0.0)],
     &[(1, 100.0), (3, 1013.0)],
     &[(1, 100.0), (3, 1012.75)],
@@ -64,6 +65,19 @@ const CORNERS: [&[Field]; 18] = [
     &AS_STATION_PRESSURE,
     &AS_MEASURED,
     &[(1, 5.0), (2, 20.0), (5, 50.0), (7, 1013.1)],
+    // a density altitude dry, at 0 percent, and humid with and without a temperature
+    &[(6, 1500.0), (2, 30.0)],
+    &[(6, 1500.0), (2, 30.0), (5, 0.0)],
+    &[(6, 1500.0), (2, 30.0), (5, 60.0)],
+    &[(6, 1500.0), (5, 60.0)],
+    // the humidity after 1 to 4
+    &[(6, f64::NAN), (5, f64::NAN)],
+    &[(6, 0.0), (2, -273.15), (5, 101.0)],
+    &[(6, 44_284.0), (5, 101.0)],
+    &[(6, 44_283.0), (5, 101.0)],
+    &[(6, 0.0), (5, f64::INFINITY)],
+    // more vapour than air
+    &[(6, 44_283.0), (5, 100.0)],
 ];
 
 pub fn all(random: &mut Random) -> Vec<Vec<u8>> {
@@ -75,6 +89,7 @@ pub fn all(random: &mut Random) -> Vec<Vec<u8>> {
     all.extend(bad_values_in_any_set());
     all.extend(edges_of_values(random));
     all.extend(edges_of_functions());
+    all.extend(humid_density_altitudes());
     all.extend(pressures_there_and_back(random));
     all.extend(infinite_densities(random));
     all.extend(changes());
@@ -205,6 +220,21 @@ fn edges_of_functions() -> Vec<Vec<u8>> {
             }
             all.push(record(&fields));
         }
+    }
+    all
+}
+
+/// The greatest and least density altitudes for a dozen temperatures and none, with a humidity that is good or
+/// out of range, in turns: it is refused only where there is air.
+fn humid_density_altitudes() -> Vec<Vec<u8>> {
+    let mut all = Vec::new();
+    let humidities = [101.0, 50.0, -1.0, 100.0];
+    let inputs = edges("station_for_density_altitude").into_iter();
+    for (inputs, humidity) in inputs.zip(humidities.into_iter().cycle()) {
+        let given = [6, 2].into_iter().zip(inputs);
+        let mut fields: Vec<Field> = given.filter_map(|(tag, x)| Some((tag, x?))).collect();
+        fields.push((5, humidity));
+        all.push(record(&fields));
     }
     all
 }

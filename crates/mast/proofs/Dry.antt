@@ -1,6 +1,6 @@
 -- Dry air has no vapour: humidity 0 times and over anything is 0 or NaN, which is not above 1. So 14 is never answered with 06. Assumes nothing.
 use mathlib.Core.Path.{_≡_, refl, sym, ap, _∙_}
-use mathlib.Core.Bool.{Bool, true, false, _&&_, _||_, cond, true≢false, false≢true}
+use mathlib.Core.Bool.{Bool, true, false, cond, true≢false, false≢true}
 use mathlib.Core.List.{List, [], _∷_, _++_}
 use Prim.Native.Nat.{ℕ, zero, suc, _*_, _<_}
 use native.Mathlib.Nat.{zero-mul}
@@ -22,11 +22,11 @@ use Rattle.density_altitude.specs.Inverse.{stationRows}
 use Rattle.record.specs.declared.readings.Entry.{Entry}
 use Rattle.record.specs.declared.readings.Entry.the-variants.{Absent, Present}
 use Rattle.record.specs.declared.readings.Readings.{Readings}
-use Rattle.record.specs.Fields.{altitude, temperature, stationPressure, qnh, humidity, densityAltitude, measuredPressure}
+use Rattle.record.specs.Fields.{temperature, humidity, densityAltitude}
 use Rattle.record.specs.Readings.{isPresent, entryOf}
 use Rattle.mast.specs.declared.figures.Figures.{Figures}
 use Rattle.mast.specs.declared.figures.Resolved.{Resolved}
-use Rattle.mast.specs.Checks.{has, isClash}
+use Rattle.mast.specs.Checks.{has, isClash, humidityRows, present}
 use Rattle.mast.specs.Figures.{givenTemperature, valueOrZero, shownTemperature, shownPressure, figuresOf}
 use Rattle.mast.specs.Judge.{airRows, wayRows, resolvedBy, judged}
 use Rattle.mast.specs.Laws.{Dry, without, NotWith06}
@@ -75,19 +75,7 @@ unfolding ofBits
 dry = record { zero = λ t p. fraction false _ _ _; minus-zero = λ t p. fraction true _ _ _ }
 
 -- ---- 14 is not answered with 06
-or-right : (x y : Bool) → (x || y) ≡ false → y ≡ false
-or-right true y e = absurd (true≢false e)
-or-right false y e = e
-
-or-left : (x y : Bool) → (x || y) ≡ false → x ≡ false
-or-left true y e = absurd (true≢false e)
-or-left false y e = refl
-
-and-right : (x y : Bool) → x ≡ true → (x && y) ≡ false → y ≡ false
-and-right true y h e = e
-and-right false y h e = absurd (false≢true h)
-
-absent : (e : Entry) → isPresent e ≡ false → valueOrZero e ≡ valueOrZero Absent
+absent : (e : Entry) → isPresent e ≡ false → e ≡ Absent
 absent Absent h = refl
 absent (Present x) h = absurd (true≢false h)
 
@@ -100,10 +88,12 @@ without-append n (r ∷ xs) ys = go (eqb (r .number) n) (without-append n xs ys)
     go true e = e
     go false e = ap (λ (l : List Row). r ∷ l) e
 
--- the inverse has no row 14
-inverse-rows : (d : Float) (t : Entry) → let rows = stationRows places d (givenTemperature t) in without 14 rows ≡ rows
-inverse-rows d Absent = refl
-inverse-rows d (Present t) = refl
+-- neither the inverse nor a humidity has a row 14
+way-rows : (r : Readings) (d : Float) (t h : Entry) → let rows = stationRows places d (givenTemperature t) ++ present humidityRows h in without 14 rows ≡ rows
+way-rows r d Absent Absent = refl
+way-rows r d Absent (Present h) = refl
+way-rows r d (Present t) Absent = refl
+way-rows r d (Present t) (Present h) = refl
 
 air : (a : Resolved) (o : Outcome Figures) → a .«humidity_percent» ≡ valueOrZero Absent → (airRows a then o) ≡ (without 14 (airRows a) then o)
 air a o none = ap (λ (b : Bool). cond b (refused 14 []) (without 14 (airRows a) then o)) (ap (λ (h : Float). lt one (moleFractionCelsius places (shownTemperature a) (shownPressure a) h)) none ∙ dry .zero _ _)
@@ -112,22 +102,15 @@ by-entry : (r : Readings) (e : Entry) → isPresent e ≡ true → has r humidit
     → let rows = wayRows r e ++ airRows (resolvedBy r e) in let o = accepted (figuresOf (resolvedBy r e)) in (rows then o) ≡ (without 14 rows then o)
 by-entry r Absent h none = absurd (false≢true h)
 by-entry r (Present d) h none =
-    let t = entryOf r temperature in
-    let rows = stationRows places d (givenTemperature t) in
+    let rows = wayRows r (Present d) in
     let a = resolvedBy r (Present d) in
     let o = accepted (figuresOf a) in
     then-append rows (airRows a) o
-    ∙ then-same rows (λ _. air a o (absent (entryOf r humidity) none))
+    ∙ then-same rows (λ _. air a o (ap valueOrZero (absent (entryOf r humidity) none)))
     ∙ sym (then-append rows (without 14 (airRows a)) o)
-    ∙ ap (λ (l : List Row). (l ++ without 14 (airRows a)) then o) (sym (inverse-rows d t))
+    ∙ ap (λ (l : List Row). (l ++ without 14 (airRows a)) then o) (sym (way-rows r d (entryOf r temperature) (entryOf r humidity)))
     ∙ ap (λ (l : List Row). l then o) (sym (without-append 14 rows (airRows a)))
 
 pub not-with-06 : NotWith06
 unfolding judged
-not-with-06 r with06 =
-    let others = has r altitude || has r stationPressure || has r qnh in
-    let pressures = (has r stationPressure && has r qnh) || (has r measuredPressure && (has r stationPressure || has r qnh)) in
-    let d = entryOf r densityAltitude in
-    let with = others || has r humidity || has r measuredPressure in
-    then-same (row (isClash r) 9 [] ∷ []) (λ none.
-    by-entry r d with06 (or-right others (has r humidity) (or-left (others || has r humidity) (has r measuredPressure) (and-right (isPresent d) with with06 (or-right pressures (isPresent d && with) (none .0))))))
+not-with-06 r with06 dry-record = then-same (row (isClash r) 9 [] ∷ []) (λ none. by-entry r (entryOf r densityAltitude) with06 dry-record)

@@ -3,3 +3,5 @@ pub mod Causes
 -- What the answers depend on.
 pub mod Dry
 pub mod Records
+-- What humidity leaves as it is.
+pub mod Humidity

@@ -50,7 +50,8 @@ where-present rows h Absent = tt
 where-present rows h (Present x) = h x
 
 way-outside : (r : Readings) (e : Entry) → AllOutside (wayRows r e)
-way-outside r (Present d) = go (entryOf r temperature)
+way-outside r (Present d) =
+    both (stationRows places d (givenTemperature (entryOf r temperature))) (present humidityRows (entryOf r humidity)) (go (entryOf r temperature)) (where-present humidityRows (λ x. omega arith) (entryOf r humidity))
   where
     go : (t : Entry) → AllOutside (stationRows places d (givenTemperature t))
     go Absent = omega arith

@@ -16,12 +16,12 @@ use Rattle.record.specs.Readings.{isPresent, entryOf}
 abbrev pub has : Readings → ℕ → Bool
 has r m = isPresent (entryOf r m)
 
--- ---- 9: 03 with 04, or 06 with 01, 03, 04 or 05; document 02: 07 with 03, 04 or 06
+-- ---- 9: 03 with 04, or 06 with 01, 03 or 04; document 02: 07 with 03, 04 or 06, and 06 with 05 is answered
 abbrev pub isClash : Readings → Bool
 isClash r =
     (has r stationPressure && has r qnh)
     || (has r measuredPressure && (has r stationPressure || has r qnh))
-    || (has r densityAltitude && (has r altitude || has r stationPressure || has r qnh || has r humidity || has r measuredPressure))
+    || (has r densityAltitude && (has r altitude || has r stationPressure || has r qnh || has r measuredPressure))
 
 -- ---- a value
 -- 11: not finite

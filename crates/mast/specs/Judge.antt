@@ -8,17 +8,18 @@ use Rattle.elementary.specs.Decimals.{one}
 use Rattle.humid_air.specs.MoistAir.{moleFractionCelsius}
 use Rattle.refusal.specs.Outcomes.{Outcome, accepted, refusal, _⟫_, Row, row, _then_}
 use Rattle.refusal.specs.Causes.{ExactlyCaused}
+use Rattle.density_altitude.specs.declared.inverse.Station.{Station}
 use Rattle.density_altitude.specs.Inverse.{resolve, stationRows}
 use Rattle.record.specs.declared.readings.Entry.{Entry}
 use Rattle.record.specs.declared.readings.Entry.the-variants.{Absent, Present}
 use Rattle.record.specs.declared.readings.Readings.{Readings}
-use Rattle.record.specs.Fields.{temperature, densityAltitude}
+use Rattle.record.specs.Fields.{temperature, humidity, densityAltitude}
 use Rattle.record.specs.Readings.{entryOf, readRows, readings, readRecord}
 use Rattle.mast.specs.declared.figures.Figures.{Figures}
 use Rattle.mast.specs.declared.figures.Resolved.{Resolved}
 use Rattle.mast.specs.declared.judge.Answer.{Answer}
 use Rattle.mast.specs.declared.judge.Answer.the-variants as answer
-use Rattle.mast.specs.Checks.{isClash, ordinaryRows}
+use Rattle.mast.specs.Checks.{isClash, humidityRows, present, ordinaryRows}
 use Rattle.mast.specs.Figures.{ordinary, givenTemperature, atStation, shownTemperature, shownPressure, figuresOf, isAir}
 
 -- what each case of the code's answer stands for
@@ -37,9 +38,9 @@ airRows a =
 unfoldable pub airOutcome : Resolved → Outcome Figures
 airOutcome a = airRows a then accepted (figuresOf a)
 
--- ---- readings: with 06 they ask for a density altitude, and 1 to 4 are the inverse's; without 06 for an altitude
+-- ---- readings: with 06 they ask for a density altitude, where 1 to 4 are the inverse's and 05 is checked after them; without 06 for an altitude
 abbrev pub wayRows : Readings → Entry → List Row
-wayRows r (Present d) = stationRows places d (givenTemperature (entryOf r temperature))
+wayRows r (Present d) = stationRows places d (givenTemperature (entryOf r temperature)) ++ present humidityRows (entryOf r humidity)
 wayRows r Absent = ordinaryRows r
 
 abbrev pub resolvedBy : Readings → Entry → Resolved
@@ -60,8 +61,11 @@ judged r = readingRows r then accepted (figuresOf (resolved r))
 unfoldable pub ordinaryOutcome : Readings → Outcome Figures
 ordinaryOutcome r = ordinaryRows r then airOutcome (ordinary r)
 
+unfoldable pub humidOutcome : Station → Readings → Outcome Figures
+humidOutcome s r = present humidityRows (entryOf r humidity) then airOutcome (atStation s r)
+
 unfoldable pub stationOutcome : Float → Readings → Outcome Figures
-stationOutcome d r = stationRows places d (givenTemperature (entryOf r temperature)) then airOutcome (resolvedBy r (Present d))
+stationOutcome d r = wayRows r (Present d) then airOutcome (resolvedBy r (Present d))
 
 -- ---- a record
 unfoldable pub judge : List ℕ → Outcome Figures

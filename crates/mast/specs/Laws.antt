@@ -11,7 +11,7 @@ use Rattle.elementary.specs.Decimals.{decimal, one}
 use Rattle.humid_air.specs.MoistAir.{moleFractionCelsius}
 use Rattle.refusal.specs.Outcomes.{accepted, refused, Row, _then_}
 use Rattle.record.specs.declared.readings.Readings.{Readings}
-use Rattle.record.specs.Fields.{sizeOf, densityAltitude}
+use Rattle.record.specs.Fields.{sizeOf, densityAltitude, humidity}
 use Rattle.record.specs.Readings.{readRecord}
 use Rattle.mast.specs.Checks.{has}
 use Rattle.mast.specs.Figures.{figuresOf}
@@ -26,13 +26,13 @@ pub record Dry : Type 0 where
   pub zero : NeverTooMuchVapor (decimal "0")
   pub minus-zero : NeverTooMuchVapor (decimal "-0")
 
--- "14 (not with 06)": with 06 the answer is that of the rows without 14
+-- document 01's "14 (not with 06)": with 06 and no 05 the answer is that of the rows without 14, so records with 06 alone or with 02 keep their figures
 abbrev pub without : ℕ → List Row → List Row
 without n [] = []
 without n (r ∷ rows) = cond (eqb (r .number) n) (without n rows) (r ∷ without n rows)
 
 abbrev pub NotWith06 : Type 0
-NotWith06 = (r : Readings) → has r densityAltitude ≡ true → judged r ≡ (without 14 (readingRows r) then accepted (figuresOf (resolved r)))
+NotWith06 = (r : Readings) → has r densityAltitude ≡ true → has r humidity ≡ false → judged r ≡ (without 14 (readingRows r) then accepted (figuresOf (resolved r)))
 
 -- ---- the bytes of a record
 -- it is judged by its first 256 bytes

@@ -3,3 +3,4 @@ pub mod Checks
 pub mod Figures
 pub mod Judge
 pub mod Laws
+pub mod Humidity

@@ -21,19 +21,18 @@ use refusal::Refusal;
 use refusal::first_of;
 use refusal::refuse_if;
 
-// Two of 03, 04 and 07, or 06 with 01, 03, 04, 05 or 07.
+// Two of 03, 04 and 07, or 06 with 01, 03, 04 or 07.
 pub(crate) fn is_clash(readings: Readings) -> bool
     ensures { λ r. ⌜ r ≡ isClash readings ⌝ }
 {
     let altitude = is_present(entry_of(readings, ALTITUDE));
     let station_pressure = is_present(entry_of(readings, STATION_PRESSURE));
     let qnh = is_present(entry_of(readings, QNH));
-    let humidity = is_present(entry_of(readings, HUMIDITY));
     let density_altitude = is_present(entry_of(readings, DENSITY_ALTITUDE));
     let measured = is_present(entry_of(readings, MEASURED_PRESSURE));
     (station_pressure & qnh)
         | (measured & (station_pressure | qnh))
-        | (density_altitude & (altitude | station_pressure | qnh | humidity | measured))
+        | (density_altitude & (altitude | station_pressure | qnh | measured))
 }
 
 fn check_finite(x: f64) -> Check
@@ -72,7 +71,7 @@ fn check_pressure(entry: Entry) -> Check
     }
 }
 
-fn check_humidity(entry: Entry) -> Check
+pub(crate) fn check_humidity(entry: Entry) -> Check
     ensures { λ r. ⌜ checked r ≡ passed (present humidityRows entry) ⌝ }
 {
     match entry {

@@ -1,6 +1,7 @@
 // The judge: seven figures, or one refusal, by a fixed order of checks.
 ghost use mathlib.Core.Path.{_≡_};
-ghost use Rattle.mast.specs.Judge.{outcome, airOutcome, ordinaryOutcome, stationOutcome, judged, judge};
+ghost use Rattle.mast.specs.Judge.{outcome, airOutcome, ordinaryOutcome, humidOutcome, stationOutcome, judged, judge};
+use super::checks::check_humidity;
 use super::checks::check_ordinary;
 use super::checks::is_clash;
 use super::figures::Figures;
@@ -13,9 +14,11 @@ use super::figures::ordinary;
 use super::figures::shown_pressure;
 use super::figures::shown_temperature;
 use density_altitude::inverse;
+use density_altitude::inverse::Station;
 use density_altitude::inverse::station_for_density_altitude;
 use humid_air::humid::water_vapor_mole_fraction_uncapped;
 use record::fields::DENSITY_ALTITUDE;
+use record::fields::HUMIDITY;
 use record::fields::TEMPERATURE;
 use record::readings::Entry;
 use record::readings::Readings;
@@ -60,6 +63,16 @@ fn ordinary_air(readings: Readings) -> Answer
     }
 }
 
+// The inverse's station, with the humidity of the readings.
+fn humid_air(station: Station, readings: Readings) -> Answer
+    ensures { λ r. ⌜ outcome r ≡ humidOutcome station readings ⌝ }
+{
+    match check_humidity(entry_of(readings, HUMIDITY)) {
+        Check::Refused(refusal) => Answer::Refused(refusal),
+        Check::Passed => air(at_station(station, readings)),
+    }
+}
+
 // Readings with 06.
 fn station_air(density_altitude_m: f64, readings: Readings) -> Answer
     ensures { λ r. ⌜ outcome r ≡ stationOutcome «density_altitude_m» readings ⌝ }
@@ -67,7 +80,7 @@ fn station_air(density_altitude_m: f64, readings: Readings) -> Answer
     let temperature = given_temperature(entry_of(readings, TEMPERATURE));
     match station_for_density_altitude(density_altitude_m, temperature) {
         inverse::Answer::Refused(refusal) => Answer::Refused(refusal),
-        inverse::Answer::Station(station) => air(at_station(station, readings)),
+        inverse::Answer::Station(station) => humid_air(station, readings),
     }
 }
 
