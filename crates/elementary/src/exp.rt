@@ -48,6 +48,7 @@ fn floor_word(negative: bool, q: u64, k: u32) -> Word
     }
 }
 
+// e to the power x, by the whole-number rule.
 pub fn exp(x: f64) -> f64
     ensures { λ r. ⌜ r ≡ exp places x ⌝ }
 {

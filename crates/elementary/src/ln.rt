@@ -55,6 +55,7 @@ fn positive_ln(q: u64, k: u32) -> f64
     nearest_to_word(times(log_of_digits(q, k), LN_2, 62))
 }
 
+// The natural logarithm, by the whole-number rule.
 pub fn ln(x: f64) -> f64
     ensures { λ r. ⌜ r ≡ ln places x ⌝ }
 {

@@ -21,6 +21,7 @@ use elementary::ln::ln;
 use elementary::sqrt::sqrt;
 use humid_air::humid::water_vapor_mole_fraction_uncapped;
 
+// e to the power x.
 #[no_mangle]
 pub extern "C" fn station_air_exp(x: f64) -> f64
     ensures { λ r. ⌜ r ≡ Exp.exp places x ⌝ }
@@ -28,6 +29,7 @@ pub extern "C" fn station_air_exp(x: f64) -> f64
     exp(x)
 }
 
+// The natural logarithm.
 #[no_mangle]
 pub extern "C" fn station_air_ln(x: f64) -> f64
     ensures { λ r. ⌜ r ≡ Ln.ln places x ⌝ }
@@ -35,6 +37,7 @@ pub extern "C" fn station_air_ln(x: f64) -> f64
     ln(x)
 }
 
+// The square root, the nearest double.
 #[no_mangle]
 pub extern "C" fn station_air_sqrt(x: f64) -> f64
     ensures { λ r. ⌜ r ≡ Sqrt.sqrt x ⌝ }
@@ -42,6 +45,7 @@ pub extern "C" fn station_air_sqrt(x: f64) -> f64
     sqrt(x)
 }
 
+// The mole fraction of water vapour, above 1 where there is more vapour than air.
 #[no_mangle]
 pub extern "C" fn station_air_water_vapor_mole_fraction_uncapped(
     temperature_c: f64,
@@ -78,6 +82,7 @@ pub extern "C" fn station_air_keeps_temperature(temperature_c: f64, altitude_m: 
     is_given(resolve_station_temperature(temperature_c, altitude_m))
 }
 
+// The station pressure in hPa at an altitude under a QNH.
 #[no_mangle]
 pub extern "C" fn station_air_reduced_qnh(qnh_hpa: f64, altitude_m: f64) -> f64
     ensures { λ r. ⌜ r ≡ reducedQnh places «qnh_hpa» «altitude_m» ⌝ }
@@ -85,6 +90,7 @@ pub extern "C" fn station_air_reduced_qnh(qnh_hpa: f64, altitude_m: f64) -> f64
     reduce_qnh_to_station_pressure(qnh_hpa, altitude_m)
 }
 
+// The National Weather Service's pressure altitude in feet.
 #[no_mangle]
 pub extern "C" fn station_air_nws_pressure_altitude_ft(pressure_hpa: f64) -> f64
     ensures { λ r. ⌜ r ≡ nwsAltitude places «pressure_hpa» ⌝ }
@@ -92,6 +98,7 @@ pub extern "C" fn station_air_nws_pressure_altitude_ft(pressure_hpa: f64) -> f64
     nws_pressure_altitude_ft(pressure_hpa)
 }
 
+// The pressure altitude in metres.
 #[no_mangle]
 pub extern "C" fn station_air_pressure_altitude_m(pressure_hpa: f64) -> f64
     ensures { λ r. ⌜ r ≡ pressureAltitude places «pressure_hpa» ⌝ }
@@ -99,6 +106,7 @@ pub extern "C" fn station_air_pressure_altitude_m(pressure_hpa: f64) -> f64
     pressure_altitude_m(pressure_hpa)
 }
 
+// The density altitude in feet by the FAA's rule.
 #[no_mangle]
 pub extern "C" fn station_air_faa_density_altitude_ft(pressure_hpa: f64, temperature_f: f64) -> f64
     ensures { λ r. ⌜ r ≡ faaDensityAltitude places «pressure_hpa» «temperature_f» ⌝ }
@@ -106,6 +114,7 @@ pub extern "C" fn station_air_faa_density_altitude_ft(pressure_hpa: f64, tempera
     faa_rule_density_altitude_ft(pressure_hpa, temperature_f)
 }
 
+// The height in metres at which the standard atmosphere has the density of the readings.
 #[no_mangle]
 pub extern "C" fn station_air_density_matched_altitude_m(
     temperature_c: f64,

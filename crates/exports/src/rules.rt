@@ -36,6 +36,7 @@ pub extern "C" fn station_air_log_word(
     }
 }
 
+// 2 to the power of a word.
 #[no_mangle]
 pub extern "C" fn station_air_antilog(negative: bool, whole: u32, part: u64) -> f64
     ensures { λ r. ⌜ r ≡ Antilog.antilog places (wordValue places (word negative whole part)) ⌝ }
@@ -47,6 +48,7 @@ pub extern "C" fn station_air_antilog(negative: bool, whole: u32, part: u64) -> 
     })
 }
 
+// x to the power of the exponent with a number, and NaN where there is none.
 #[no_mangle]
 pub extern "C" fn station_air_power(x: f64, number: usize) -> f64
     ensures { λ r. ⌜ r ≡ powerAt places number x ⌝ }

@@ -118,6 +118,7 @@ fn refusal_line(refusal: Refusal) -> Text
     with_byte(with_number(word, number(refusal)), b'\n')
 }
 
+// The two lines of the figures, or the one of a refusal.
 pub fn answer_text(answer: Answer) -> Text
     ensures { λ r. ⌜ Holds r (answerText (outcome answer)) ⌝ }
 {
