@@ -217,19 +217,19 @@ fn station(random: &mut Random) {
     }
 }
 
-/// The refusal's number, or 0, and the figures.
-type Judged = (u64, [f64; 7]);
+/// The refusal's number, or 0, the figures and the mark.
+type Judged = (u64, [f64; 8], bool);
 
 fn judged(record: &[u8]) -> Judged {
-    let mut figures = [0.0; 7];
-    let status = exports::judge(record, &mut figures);
-    (status.into(), figures)
+    let (mut figures, mut in_range) = ([0.0; 8], false);
+    let status = exports::judge(record, &mut figures, &mut in_range);
+    (status.into(), figures, in_range)
 }
 
 fn ruled_judged(record: &[u8]) -> Judged {
     match ruled::record::read(record) {
-        Ok(figures) => (0, figures),
-        Err(refusal) => (refusal.number, [0.0; 7]),
+        Ok(answer) => (0, answer.figures, answer.in_range),
+        Err(refusal) => (refusal.number, [0.0; 8], false),
     }
 }
 

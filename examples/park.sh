@@ -15,7 +15,7 @@ decimal() {
 }
 
 read -r _ altitude temperature pressure <<<"$(sed -n 1p <<<"$answer")"
-read -r _ density sound pressure_altitude matched_altitude <<<"$(sed -n 2p <<<"$answer")"
+read -r _ density sound pressure_altitude matched_altitude fraction in_range <<<"$(sed -n 2p <<<"$answer")"
 printf '%20s  %s\n' \
     "$(decimal "$altitude")" 'm altitude' \
     "$(decimal "$temperature")" '°C temperature' \
@@ -23,4 +23,6 @@ printf '%20s  %s\n' \
     "$(decimal "$density")" 'kg/m³ density' \
     "$(decimal "$sound")" 'm/s speed of sound' \
     "$(decimal "$pressure_altitude")" 'm pressure altitude' \
-    "$(decimal "$matched_altitude")" 'm density-matched altitude'
+    "$(decimal "$matched_altitude")" 'm density-matched altitude' \
+    "$(decimal "$fraction")" 'mol/mol vapour mole fraction' \
+    "$in_range" 'in the range of CIPM-2007 (1 yes, 0 no)'

@@ -15,7 +15,7 @@ ORACLE = "target/oracle/oracle"
 SECONDS = 5
 
 WORD = "[0-9A-F]{16}"
-ANSWER = re.compile(f"station(?: {WORD}){{3}}\nair(?: {WORD}){{4}}\n|refused (?:[1-9]|1[0-5])\n".encode())
+ANSWER = re.compile(f"station(?: {WORD}){{3}}\nair(?: {WORD}){{5}} [01]\n|refused (?:[1-9]|1[0-5])\n".encode())
 
 VALUES = [0.0, -0.0, 5.0, 15.0, 15.05, 1013.25, 1013.1, 100.0, 1586.0, -273.15, 1e308, 5e-324, float("inf"), float("nan")]
 

@@ -16,7 +16,8 @@
  * so several threads may call at once, each with a lent array of its own. Every call ends.
  *
  * Arrays. An array goes as a pointer and the number of its elements, and the pointer points to that
- * many elements; with the number 0 it may be NULL. A record and a lent array do not overlap.
+ * many elements; with the number 0 it may be NULL. What a call takes and what it is lent do not
+ * overlap.
  *
  * Names. "Density altitude" is the FAA's: of station_air_for_density_altitude,
  * station_air_faa_density_altitude_ft and a record's tag 06. The seventh figure is the
@@ -33,7 +34,7 @@ extern "C" {
 #endif
 
 /* Grows whenever an answer to some call can differ from before. */
-#define STATION_AIR_VERSION 4
+#define STATION_AIR_VERSION 5
 
 /* ---- several numbers, with a status ---- */
 
@@ -91,7 +92,8 @@ enum station_air_figure {
     STATION_AIR_DENSITY_KG_M3 = 3,
     STATION_AIR_SPEED_OF_SOUND_MPS = 4,
     STATION_AIR_PRESSURE_ALTITUDE_M = 5,
-    STATION_AIR_DENSITY_MATCHED_ALTITUDE_M = 6
+    STATION_AIR_DENSITY_MATCHED_ALTITUDE_M = 6,
+    STATION_AIR_VAPOR_MOLE_FRACTION = 7
 };
 
 /* The places of station_air_standard_atmosphere. */
@@ -102,19 +104,23 @@ enum station_air_air { STATION_AIR_AIR_DENSITY_KG_M3 = 0, STATION_AIR_AIR_SPEED_
 
 /* How many places each function needs. */
 enum station_air_places {
-    STATION_AIR_JUDGE_PLACES = 7,
+    STATION_AIR_JUDGE_PLACES = 8,
     STATION_AIR_FOR_DENSITY_ALTITUDE_PLACES = 3,
     STATION_AIR_STANDARD_ATMOSPHERE_PLACES = 2,
     STATION_AIR_CALCULATE_ATMOSPHERE_PLACES = 2
 };
 
-/* Judges a mast record, all of its bytes (docs/RECORD.md has the form of a record). Needs 7 places.
+/* Judges a mast record, all of its bytes (docs/RECORD.md has the form of a record). Needs 8 places.
  * 0: altitude m, temperature degrees Celsius, station pressure hPa, density kg/m3, speed of sound
- * m/s, pressure altitude m, density-matched altitude m. All are finite; pressure, density and speed
- * of sound are above 0. Else the first check that fails gives 1 to 15, in the order of
- * docs/RECORD.md; an empty record is 10. 255: fewer than 7 places, whatever the record. The record is
+ * m/s, pressure altitude m, density-matched altitude m, and the mole fraction of water vapour that the
+ * density uses, at most 1. All are finite; pressure, density and speed of sound are above 0.
+ * `in_range` points to a bool that is then set to whether temperature and station pressure lie in the
+ * range that CIPM-2007 states, 15 to 27 degrees Celsius and 600 to 1,100 hPa, ends included; every
+ * other status leaves it as it was. Else the first check that fails gives 1 to 15, in the order of
+ * docs/RECORD.md; an empty record is 10. 255: fewer than 8 places, whatever the record. The record is
  * left as it was. */
-uint32_t station_air_judge(const uint8_t *record, size_t record_length, double *places, size_t places_length);
+uint32_t station_air_judge(const uint8_t *record, size_t record_length, double *places, size_t places_length,
+                           bool *in_range);
 
 /* The station whose air has a density altitude by the FAA's rule, with the temperature that is given
  * or, where `temperature_given` is false, the standard one; `temperature_c` then counts for nothing.

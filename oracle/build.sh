@@ -21,6 +21,8 @@ mod stand_ins;
 use stand_ins::*;
 #[path = "../../oracle/src/station.rs"]
 pub mod station;
+#[path = "../../oracle/src/density_vapor.rs"]
+pub mod density_vapor;
 #[path = "../../oracle/src/record.rs"]
 pub mod record;
 END

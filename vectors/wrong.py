@@ -115,16 +115,19 @@ def source(lines, other):
 
 
 def records(lines):
-    """Each refusal's number and words, and figures; the record's digits out of form."""
+    """Each refusal's number and words, figures and mark; the record's digits out of form."""
     kinds = {}
     for line, data in zip(lines[::2], lines[1::2]):
-        kinds.setdefault(words_of(line)[0], []).append((line, data))
+        words = words_of(line)
+        kinds.setdefault((words[0], words[9]), []).append((line, data))
     for kind in kinds.values():
         for line, data in picked(kind):
             words = words_of(line)
-            for at in range(8):
+            for at in range(9):
                 yield with_word(words, at, changed(words[at])) + data
             yield with_word(words, 0, (words[0] + 1) % 16) + data
+            yield with_word(words, 9, words[9] ^ 1) + data
+            yield with_word(words, 9, words[9] + 2) + data
         line, data = next((pair for pair in kind if len(pair[1]) > 1), kind[0])
         if len(data) > 1:
             yield line + "g" + data[1:]

@@ -37,28 +37,32 @@ int main(void) {
     static const uint8_t unknown_tag[3] = {8, 0, 8};
     enum { ROOM = STATION_AIR_JUDGE_PLACES + 1 };
     double places[ROOM];
+    bool in_range = true;
 
     clear(places, ROOM);
-    expect(station_air_judge(NULL, 0, places, ROOM) == STATION_AIR_NO_ALTITUDE, "an empty record at NULL");
-    expect(untouched(places, 0, ROOM), "a refusal without a value writes nothing");
-    expect(station_air_judge(sea_level, sizeof sea_level, NULL, 0) == STATION_AIR_TOO_SHORT, "judge, no places at NULL");
-    expect(station_air_judge(NULL, 0, NULL, 0) == STATION_AIR_TOO_SHORT, "judge, both at NULL");
+    expect(station_air_judge(NULL, 0, places, ROOM, &in_range) == STATION_AIR_NO_ALTITUDE, "an empty record at NULL");
+    expect(untouched(places, 0, ROOM) && in_range, "a refusal without a value writes nothing");
+    in_range = false;
+    expect(station_air_judge(sea_level, sizeof sea_level, NULL, 0, &in_range) == STATION_AIR_TOO_SHORT,
+           "judge, no places at NULL");
+    expect(station_air_judge(NULL, 0, NULL, 0, &in_range) == STATION_AIR_TOO_SHORT, "judge, both at NULL");
     expect(station_air_for_density_altitude(0, false, 0, NULL, 0) == STATION_AIR_TOO_SHORT, "density altitude, NULL");
     expect(station_air_standard_atmosphere(0, NULL, 0) == STATION_AIR_TOO_SHORT, "standard atmosphere, NULL");
     expect(station_air_calculate_atmosphere(0, false, 0, false, 0, 0, NULL, 0) == STATION_AIR_TOO_SHORT, "air, NULL");
 
-    expect(station_air_judge(unknown_tag, sizeof unknown_tag, places, STATION_AIR_JUDGE_PLACES - 1)
+    expect(station_air_judge(unknown_tag, sizeof unknown_tag, places, STATION_AIR_JUDGE_PLACES - 1, &in_range)
                == STATION_AIR_TOO_SHORT,
            "a place too few, whatever the record");
-    expect(untouched(places, 0, ROOM), "a short array is left as it was");
-    expect(station_air_judge(unknown_tag, sizeof unknown_tag, places, STATION_AIR_JUDGE_PLACES)
+    expect(untouched(places, 0, ROOM) && !in_range, "a short array and its mark are left as they were");
+    expect(station_air_judge(unknown_tag, sizeof unknown_tag, places, STATION_AIR_JUDGE_PLACES, &in_range)
                == STATION_AIR_UNKNOWN_TAG,
            "an unknown tag");
 
-    expect(station_air_judge(sea_level, sizeof sea_level, places, ROOM) == STATION_AIR_FIGURES, "sea level");
+    expect(station_air_judge(sea_level, sizeof sea_level, places, ROOM, &in_range) == STATION_AIR_FIGURES, "sea level");
     expect(places[STATION_AIR_ALTITUDE_M] == 0 && places[STATION_AIR_TEMPERATURE_C] == 15
                && places[STATION_AIR_PRESSURE_HPA] == 1013.25,
            "the standard atmosphere at sea level");
+    expect(places[STATION_AIR_VAPOR_MOLE_FRACTION] == 0 && in_range, "dry air in the range of CIPM-2007");
     expect(untouched(places, STATION_AIR_JUDGE_PLACES, ROOM), "the places past the figures");
 
     clear(places, ROOM);

@@ -1,5 +1,6 @@
-/* Judges the mast record in a file: prints its seven figures, or `refused` and the number of the
- * cause. Ends with 0 for figures, 1 for a refusal, 2 where there is no file to read. */
+/* Judges the mast record in a file: prints its eight figures and whether they lie in the range of
+ * CIPM-2007, or `refused` and the number of the cause. Ends with 0 for figures, 1 for a refusal, 2
+ * where there is no file to read. */
 #include "station_air.h"
 
 #include <inttypes.h>
@@ -18,6 +19,7 @@ static const struct {
     [STATION_AIR_SPEED_OF_SOUND_MPS] = {"speed of sound", "m/s"},
     [STATION_AIR_PRESSURE_ALTITUDE_M] = {"pressure altitude", "m"},
     [STATION_AIR_DENSITY_MATCHED_ALTITUDE_M] = {"density-matched altitude", "m"},
+    [STATION_AIR_VAPOR_MOLE_FRACTION] = {"vapour mole fraction", "mol/mol"},
 };
 
 int main(int argc, char **argv) {
@@ -40,7 +42,8 @@ int main(int argc, char **argv) {
     }
 
     double places[STATION_AIR_JUDGE_PLACES];
-    uint32_t status = station_air_judge(record, length, places, STATION_AIR_JUDGE_PLACES);
+    bool in_range = false;
+    uint32_t status = station_air_judge(record, length, places, STATION_AIR_JUDGE_PLACES, &in_range);
     if (status != STATION_AIR_FIGURES) {
         printf("refused %" PRIu32 "\n", status);
         return 1;
@@ -48,5 +51,6 @@ int main(int argc, char **argv) {
     for (size_t i = 0; i < STATION_AIR_JUDGE_PLACES; i++) {
         printf("%-25s%14.6f %s\n", figures[i].name, places[i], figures[i].unit);
     }
+    printf("%s the range of CIPM-2007\n", in_range ? "in" : "outside");
     return 0;
 }

@@ -1,5 +1,6 @@
-//! Judges the mast record in a file: prints its seven figures, or `refused` and the number of the
-//! cause. Ends with 0 for figures, 1 for a refusal, 2 where there is no file to read.
+//! Judges the mast record in a file: prints its eight figures and whether they lie in the range of
+//! CIPM-2007, or `refused` and the number of the cause. Ends with 0 for figures, 1 for a refusal, 2
+//! where there is no file to read.
 
 use std::fs::File;
 use std::io::{self, Read};
@@ -7,7 +8,7 @@ use std::process::ExitCode;
 
 const RECORD_LENGTH: u64 = 256;
 
-const FIGURES: [(&str, &str); 7] = [
+const FIGURES: [(&str, &str); 8] = [
     ("altitude", "m"),
     ("temperature", "°C"),
     ("station pressure", "hPa"),
@@ -15,6 +16,7 @@ const FIGURES: [(&str, &str); 7] = [
     ("speed of sound", "m/s"),
     ("pressure altitude", "m"),
     ("density-matched altitude", "m"),
+    ("vapour mole fraction", "mol/mol"),
 ];
 
 // include/station_air.h says what it answers.
@@ -25,23 +27,27 @@ extern "C" {
         record_length: usize,
         places: *mut f64,
         places_length: usize,
+        in_range: *mut bool,
     ) -> u32;
 }
 
-/// The seven figures, or the status of a refusal.
-fn judge(record: &[u8]) -> Result<[f64; 7], u32> {
-    let mut places = [0.0; 7];
-    // SAFETY: each pointer is that of a slice and comes with its length, and the two do not overlap.
+/// The eight figures with their mark, or the status of a refusal.
+fn judge(record: &[u8]) -> Result<([f64; 8], bool), u32> {
+    let mut places = [0.0; 8];
+    let mut in_range = false;
+    // SAFETY: each pointer but the last is that of a slice and comes with its length, the last is that
+    // of a bool, and none overlap.
     let status = unsafe {
         station_air_judge(
             record.as_ptr(),
             record.len(),
             places.as_mut_ptr(),
             places.len(),
+            &mut in_range,
         )
     };
     match status {
-        0 => Ok(places),
+        0 => Ok((places, in_range)),
         _ => Err(status),
     }
 }
@@ -68,10 +74,11 @@ fn main() -> ExitCode {
         }
     };
     match judge(&record) {
-        Ok(places) => {
+        Ok((places, in_range)) => {
             for ((name, unit), x) in FIGURES.iter().zip(places) {
                 println!("{name:<25}{x:>14.6} {unit}");
             }
+            println!("{} the range of CIPM-2007", if in_range { "in" } else { "outside" });
             ExitCode::SUCCESS
         }
         Err(status) => {

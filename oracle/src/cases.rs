@@ -1,12 +1,15 @@
 //! Document 01's "Corners in src/atmosphere.rs", held against a build of the source, and the examples of records
 //! in documents 01 and 02, held against the reader.
 
-use crate::function::{named, Function};
+use crate::draw::mixed;
+use crate::function::{named, word, Function};
 use crate::random::Random;
 use crate::record_fields::{record, Field};
 use crate::record_values::{AS_MEASURED, AS_STATION_PRESSURE, HOT_HUMID_AIR};
 use crate::records::number;
-use crate::ruled::record::read;
+use crate::ruled::density_vapor::arguments;
+use crate::ruled::record::{read, Figures};
+use crate::ruled::station::FUNCTIONS;
 use crate::ruled::{resolve_station_conditions_with_pressure_mode, PressureReferenceMode};
 
 pub fn hold(functions: &[Function]) {
@@ -74,34 +77,38 @@ pub fn hold_reader() {
 
     let sea_level = [&[0x01, 0x00, 0x08][..], &[0; 8]].concat();
     assert_eq!(sea_level, record(&[(1, 0.0)]));
-    let figures = read(&sea_level).expect("figures");
-    let shown = figures.map(|x| format!("{:016X}", x.to_bits()));
+    let figures = shown(&[(1, 0.0)]);
+    let digits = figures.map(|x| format!("{:016X}", x.to_bits()));
     assert_eq!(
-        shown[..3].join(" "),
+        digits[..3].join(" "),
         "0000000000000000 402E000000000000 408FAA0000000000"
     );
     assert_eq!(figures[..3], [0.0, 15.0, 1013.25]);
     // with 06 the same station
-    let by_density_altitude = read(&record(&[(6, 0.0)])).expect("figures");
-    assert_eq!(by_density_altitude[..3], figures[..3]);
+    assert_eq!(shown(&[(6, 0.0)])[..3], figures[..3]);
     hold_measured();
     hold_humid_density_altitudes();
     hold_shown_pair();
+    hold_moisture();
+    hold_range();
+}
+
+fn shown(fields: &[Field]) -> Figures {
+    read(&record(fields)).expect("figures").figures
 }
 
 /// Where the default band replaces a station pressure, a measured one is shown as it came.
 fn hold_measured() {
-    let shown = |fields| read(&record(fields)).expect("figures");
     let standard = shown(&[(1, 5.0)]);
     assert_eq!(shown(&AS_STATION_PRESSURE), standard);
     assert_ne!(standard[2], 1013.1);
     assert_eq!(shown(&AS_MEASURED)[..3], [5.0, standard[1], 1013.1]);
 }
 
-/// Humidity moves density, sound speed and matched altitude, nothing else, and 0 percent is as if absent.
+/// Humidity moves density, sound speed, matched altitude and mole fraction, nothing else, and 0 percent is as if
+/// absent.
 fn hold_humid_density_altitudes() {
     let random = &mut Random(0);
-    let shown = |fields: &[Field]| read(&record(fields)).expect("figures");
     for turn in 0..500 {
         let mut fields = vec![(6, random.between(-500.0, 5000.0))];
         if turn % 2 == 0 {
@@ -113,6 +120,7 @@ fn hold_humid_density_altitudes() {
         assert_eq!(humid[..3], dry[..3]);
         assert_eq!(humid[5], dry[5]);
         assert!(humid[3] < dry[3] && humid[4] > dry[4] && humid[6] > dry[6]);
+        assert!(dry[7] == 0.0 && humid[7] > 0.0);
     }
 }
 
@@ -136,9 +144,37 @@ fn hold_shown_pair() {
         let temperature = pick((14.8, 15.2), (-40.0, 50.0), random);
         let pressure = pick((1012.5, 1014.0), (500.0, 1100.0), random);
         let fields = [(1, altitude), (2, temperature), (tag, pressure)];
-        let figures = read(&record(&fields)).expect("figures");
+        let figures = shown(&fields);
         let pair =
             resolve_station_conditions_with_pressure_mode(temperature, pressure, altitude, mode);
         assert_eq!((figures[1], figures[2]), pair);
     }
+}
+
+/// The density of `calculate_atmosphere` follows from the mole fraction that stands for its own, whichever of
+/// temperature and pressure are given. -0 percent gives -0.
+fn hold_moisture() {
+    let random = &mut Random(0);
+    let air = named(&FUNCTIONS, "calculate_atmosphere");
+    for _ in 0..1000 {
+        let x: Vec<Option<f64>> = air.inputs.iter().map(|i| mixed(*i, random)).collect();
+        let [Some(altitude), temperature, pressure, Some(humidity)] = x[..] else {
+            unreachable!("altitude and humidity are always given");
+        };
+        let inside = arguments(altitude, temperature, pressure, humidity);
+        assert_eq!(word(inside.density()), (air.answer)(&x)[0].word());
+    }
+    let fraction = |humidity: f64| shown(&[(1, 100.0), (5, humidity)])[7];
+    assert_eq!(fraction(-0.0).to_bits(), (-0.0f64).to_bits());
+    assert_eq!(fraction(0.0).to_bits(), 0);
+}
+
+/// Both ends are in the range that CIPM-2007 states, and the mark is that of the shown temperature.
+fn hold_range() {
+    let mark = |fields: &[Field]| read(&record(fields)).expect("figures").in_range;
+    let given = |t: f64, p: f64| mark(&[(1, 0.0), (2, t), (7, p)]);
+    assert!(given(15.0, 600.0) && given(27.0, 1100.0));
+    assert!(!given(15.0f64.next_down(), 800.0) && !given(27.0f64.next_up(), 800.0));
+    assert!(!given(20.0, 600.0f64.next_down()) && !given(20.0, 1100.0f64.next_up()));
+    assert!(!mark(&[(1, 1000.0), (2, 15.05)]) && mark(&[(1, 1.0), (2, 15.05)]));
 }

@@ -1,5 +1,5 @@
-//! Lent arrays by their length: one with too few places gets status 255 and is left as it was; in any other, and
-//! behind it, the places past the answer are.
+//! Lent arrays by their length: one with too few places gets status 255 and is left as it was, and so is the mark;
+//! in any other, and behind it, the places past the answer are.
 
 use crate::compare_row::{Hex, Row};
 use crate::exports;
@@ -8,7 +8,7 @@ use crate::record_fields::record;
 const TOO_SHORT: u64 = 255;
 
 /// The array before a call. A call is lent the first places of it.
-const UNTOUCHED: [f64; 8] = [-1.5; 8];
+const UNTOUCHED: [f64; 9] = [-1.5; 9];
 
 /// A call's name.
 struct Name(&'static str);
@@ -21,25 +21,30 @@ impl Hex for Name {
 
 /// Every length, for calls that are accepted and refused.
 pub fn row() -> Row {
-    let mut row = Row::new("lent arrays of 0 to 7 places");
-    let mut check = |name, needs: usize, call: &dyn Fn(&mut [f64]) -> u32| {
-        let answer = |length: usize| {
-            let mut places = UNTOUCHED;
-            let status = call(&mut places[..length]);
-            [&[status.into()], &places.map(f64::to_bits)[..]].concat()
+    let mut row = Row::new("lent arrays of 0 to 8 places");
+    let mut check = |name, needs: usize, call: &dyn Fn(&mut [f64], &mut bool) -> u32| {
+        let words = |status: u64, mark: bool, places: [f64; UNTOUCHED.len()]| {
+            [&[status, mark.into()], &places.map(f64::to_bits)[..]].concat()
         };
-        let too_short = [&[TOO_SHORT], &UNTOUCHED.map(f64::to_bits)[..]].concat();
-        let whole = answer(UNTOUCHED.len());
-        for length in 0..UNTOUCHED.len() {
-            let expected = if length < needs { &too_short } else { &whole };
-            row.call(&Name(name), &answer(length), expected);
+        for before in [false, true] {
+            let answer = |length: usize| {
+                let (mut places, mut mark) = (UNTOUCHED, before);
+                let status = call(&mut places[..length], &mut mark);
+                words(status.into(), mark, places)
+            };
+            let too_short = words(TOO_SHORT, before, UNTOUCHED);
+            let whole = answer(UNTOUCHED.len());
+            for length in 0..UNTOUCHED.len() {
+                let expected = if length < needs { &too_short } else { &whole };
+                row.call(&Name(name), &answer(length), expected);
+            }
         }
     };
-    check("standard_atmosphere", 2, &|lent| {
+    check("standard_atmosphere", 2, &|lent, _| {
         exports::standard_atmosphere(0.0, lent)
     });
     for given in [None, Some(20.0)] {
-        check("calculate_atmosphere", 2, &|lent| {
+        check("calculate_atmosphere", 2, &|lent, _| {
             exports::calculate_atmosphere(0.0, given, given, 50.0, lent)
         });
     }
@@ -51,12 +56,13 @@ pub fn row() -> Row {
         (0.0, Some(-300.0)),
         (1e5, None),
     ] {
-        check("for_density_altitude", 3, &|lent| {
+        check("for_density_altitude", 3, &|lent, _| {
             exports::for_density_altitude(d, t, lent)
         });
     }
     for bytes in [
         record(&[(1, 0.0)]),
+        record(&[(1, 1000.0)]),
         record(&[(6, 0.0)]),
         record(&[(6, 1e5)]),
         record(&[(6, 0.0), (5, 50.0)]),
@@ -65,7 +71,7 @@ pub fn row() -> Row {
         vec![8, 0, 8],
         vec![],
     ] {
-        check("judge", 7, &|lent| exports::judge(&bytes, lent));
+        check("judge", 8, &|lent, mark| exports::judge(&bytes, lent, mark));
     }
     row
 }

@@ -21,23 +21,29 @@ pub fn row(calls: u64) -> (Row, [u64; NUMBERS]) {
     let mut numbers = [0; NUMBERS];
     let list = records::all(random);
     let theirs = |record: &Vec<u8>| {
-        let (number, values) = match read(record) {
-            Ok(figures) => (0, figures.to_vec()),
-            Err(refusal) => (refusal.number, refusal.values),
+        let (number, values, mark) = match read(record) {
+            Ok(answer) => (0, answer.figures.to_vec(), answer.in_range),
+            Err(refusal) => (refusal.number, refusal.values, mark_before(record)),
         };
         numbers[number as usize] += 1;
-        [expected(number, &values), vec![0]].concat()
+        [expected(number, &values), vec![mark.into(), 0]].concat()
     };
     let draw = |turn| drawn_record(turn, random);
     let row = compare("judge (records)", calls, list, draw, judged, theirs);
     (row, numbers)
 }
 
-/// The last word says whether the record was changed.
+/// What the mark is before the call, and stays where the record is refused. Both values serve.
+fn mark_before(record: &[u8]) -> bool {
+    record.len() % 2 == 1
+}
+
+/// The last two words are the mark, and whether the record was changed.
 fn judged(record: &Vec<u8>) -> Answer {
     let copy = record.clone();
-    let mut answer = lent(|places| exports::judge(&copy, places));
-    answer.push(u64::from(copy != *record));
+    let mut mark = mark_before(record);
+    let mut answer = lent(|places| exports::judge(&copy, places, &mut mark));
+    answer.extend([mark.into(), u64::from(copy != *record)]);
     answer
 }
 

@@ -1,6 +1,7 @@
 //! One function of the library beside its counterpart: calls, differences, and the first of them.
 
 use crate::function::{word, Inputs};
+use crate::words::hex;
 
 /// What a function is called with, as hex digits.
 pub trait Hex {
@@ -22,7 +23,7 @@ impl Hex for Inputs {
 
 impl Hex for Vec<u8> {
     fn hex(&self) -> String {
-        self.iter().map(|byte| format!("{byte:02x}")).collect()
+        hex(self)
     }
 }
 

@@ -58,7 +58,13 @@ unsafe extern "C" {
         lent: *mut f64,
         places: usize,
     ) -> u32;
-    fn station_air_judge(record: *const u8, bytes: usize, lent: *mut f64, places: usize) -> u32;
+    fn station_air_judge(
+        record: *const u8,
+        bytes: usize,
+        lent: *mut f64,
+        places: usize,
+        in_range: &mut bool,
+    ) -> u32;
 }
 
 /// A value that is not given. No answer depends on it.
@@ -105,6 +111,7 @@ pub fn for_density_altitude(
     }
 }
 
-pub fn judge(record: &[u8], lent: &mut [f64]) -> u32 {
-    unsafe { station_air_judge(record.as_ptr(), record.len(), lent.as_mut_ptr(), lent.len()) }
+pub fn judge(record: &[u8], lent: &mut [f64], in_range: &mut bool) -> u32 {
+    let (places, lent) = (lent.len(), lent.as_mut_ptr());
+    unsafe { station_air_judge(record.as_ptr(), record.len(), lent, places, in_range) }
 }

@@ -2,10 +2,10 @@
 
 use crate::draw::{mixed, pattern, usual, wide, Draw};
 use crate::edges;
-use crate::function::{Function, Input, Inputs};
+use crate::function::{Figure, Function, Input, Inputs};
 use crate::random::Random;
 use crate::ruled::station::FUNCTIONS;
-use std::fmt::Write;
+use crate::words::line_of_words;
 use std::path::Path;
 use std::{fs, io};
 
@@ -29,20 +29,17 @@ pub fn write(folder: &Path) -> io::Result<()> {
     Ok(())
 }
 
-/// The function's number, the inputs, the answer: words of 16 hex digits, a blank between. An input that
-/// may be missing has a word of 0 or 1 before it.
+/// The function's number, the inputs, the answer. An input that may be missing has a word of 0 or 1 before it.
 fn line(number: usize, function: &Function, inputs: &Inputs) -> String {
-    let mut line = format!("{number:016x}");
+    let mut words = vec![number as u64];
     for (input, x) in function.inputs.iter().zip(inputs) {
         if let Input::Maybe(_) = input {
-            write!(line, " {:016x}", u64::from(x.is_some())).unwrap();
+            words.push(u64::from(x.is_some()));
         }
-        write!(line, " {:016x}", x.unwrap_or(0.0).to_bits()).unwrap();
+        words.push(x.unwrap_or(0.0).to_bits());
     }
-    for figure in (function.answer)(inputs) {
-        write!(line, " {:016x}", figure.word()).unwrap();
-    }
-    line + "\n"
+    words.extend((function.answer)(inputs).into_iter().map(Figure::word));
+    line_of_words(&words)
 }
 
 fn all_inputs(function: &Function, random: &mut Random) -> Vec<Inputs> {

@@ -27,10 +27,13 @@ mod quantity;
 mod record_changes;
 mod record_fields;
 mod record_forms;
+mod record_moisture;
+mod record_range;
 mod record_values;
 mod records;
 mod rule_calls;
 mod warmth;
+mod words;
 
 #[path = "../../vectors/rules/exponents.rs"]
 mod exponents;

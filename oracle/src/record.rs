@@ -1,10 +1,12 @@
-//! The mast record, read as document 01's section and document 02's requests K3 and K12 say. It is built twice, as a
-//! child of the stock source and of the one with our rules, whose station functions it takes. The stock one is
+//! The mast record, read as document 01's section and document 02's requests K3, K11 and K12 say. It is built twice,
+//! as a child of the stock source and of the one with our rules, whose station functions it takes. The stock one is
 //! only timed.
 
+use super::density_vapor;
 use super::station::refusal;
 use super::*;
 use std::collections::BTreeMap;
+use std::ops::RangeInclusive;
 
 /// What a record is judged by.
 const FIRST_BYTES: usize = 256;
@@ -23,8 +25,21 @@ const PRESSURES: [u8; 3] = [PRESSURE, QNH, MEASURED_PRESSURE];
 /// What stands with no density altitude.
 const NOT_WITH_DENSITY_ALTITUDE: [u8; 4] = [ALTITUDE, PRESSURE, QNH, MEASURED_PRESSURE];
 
-/// Altitude, temperature, pressure, density, sound speed, pressure altitude, matched altitude.
-pub type Figures = [f64; 7];
+/// The range that CIPM-2007 states, °C and hPa, ends included.
+const STATED_TEMPERATURES: RangeInclusive<f64> = 15.0..=27.0;
+const STATED_PRESSURES: RangeInclusive<f64> = 600.0..=1100.0;
+
+/// Altitude, temperature, pressure, density, sound speed, pressure altitude, matched altitude, and the vapour mole
+/// fraction that the density uses.
+pub type Figures = [f64; 8];
+
+/// What a record that is not refused gives.
+#[derive(Clone, Copy, Debug, PartialEq)]
+pub struct Answer {
+    pub figures: Figures,
+    /// The mark: the shown temperature and pressure lie in the stated range.
+    pub in_range: bool,
+}
 
 /// A number of document 01's table, and the values that the table names after it.
 #[derive(Debug)]
@@ -36,19 +51,13 @@ pub struct Refusal {
 /// Values by tag. A map goes through them by rising tag, as the checks of the values do.
 type Fields = BTreeMap<u8, f64>;
 
-pub fn read(record: &[u8]) -> Result<Figures, Refusal> {
+pub fn read(record: &[u8]) -> Result<Answer, Refusal> {
     let fields = fields(&record[..record.len().min(FIRST_BYTES)])?;
     check_tags(&fields)?;
-    let figures = match fields.get(&DENSITY_ALTITUDE) {
-        Some(density_altitude) => figures_by_density_altitude(*density_altitude, &fields)?,
-        None => figures_by_altitude(&fields)?,
-    };
-    let [_, _, pressure, density, sound_speed, _, _] = figures;
-    let above_0 = [pressure, density, sound_speed].iter().all(|x| *x > 0.0);
-    if !(figures.iter().all(|x| x.is_finite()) && above_0) {
-        return refused(15, &[]);
+    match fields.get(&DENSITY_ALTITUDE) {
+        Some(density_altitude) => by_density_altitude(*density_altitude, &fields),
+        None => by_altitude(&fields),
     }
-    Ok(figures)
 }
 
 fn refused<T>(number: u64, values: &[f64]) -> Result<T, Refusal> {
@@ -97,7 +106,7 @@ fn check_tags(fields: &Fields) -> Result<(), Refusal> {
 
 /// With 06. The source's own function refuses 1 to 4, in document 01's order; the humidity, which it does not
 /// take, is looked at after that.
-fn figures_by_density_altitude(density_altitude: f64, fields: &Fields) -> Result<Figures, Refusal> {
+fn by_density_altitude(density_altitude: f64, fields: &Fields) -> Result<Answer, Refusal> {
     let given = fields.get(&TEMPERATURE).copied();
     let resolved = station_for_density_altitude(density_altitude, given);
     let (altitude, temperature, pressure) = match resolved {
@@ -110,13 +119,12 @@ fn figures_by_density_altitude(density_altitude: f64, fields: &Fields) -> Result
     };
     let humidity = humidity(fields);
     check_value(HUMIDITY, humidity)?;
-    check_vapor(temperature, pressure, humidity)?;
-    let air = calculate_atmosphere(altitude, Some(temperature), Some(pressure), humidity);
-    Ok(figures(altitude, temperature, pressure, humidity, air))
+    let given = (Some(temperature), Some(pressure));
+    answer(altitude, given, (temperature, pressure), humidity)
 }
 
 /// Without 06.
-fn figures_by_altitude(fields: &Fields) -> Result<Figures, Refusal> {
+fn by_altitude(fields: &Fields) -> Result<Answer, Refusal> {
     for (tag, value) in fields {
         check_value(*tag, *value)?;
     }
@@ -137,21 +145,12 @@ fn figures_by_altitude(fields: &Fields) -> Result<Figures, Refusal> {
     let (standard_kelvin, standard_pascals) = calculate_icao_standard_atmosphere(altitude);
     let temperature = resolved_temperature.unwrap_or(standard_kelvin - 273.15);
     let pressure = resolved_pressure.unwrap_or(standard_pascals / 100.0);
-    check_vapor(temperature, pressure, humidity)?;
-    let air = calculate_atmosphere(altitude, resolved_temperature, resolved_pressure, humidity);
-    Ok(figures(altitude, temperature, pressure, humidity, air))
+    let given = (resolved_temperature, resolved_pressure);
+    answer(altitude, given, (temperature, pressure), humidity)
 }
 
 fn humidity(fields: &Fields) -> f64 {
     fields.get(&HUMIDITY).copied().unwrap_or(0.0)
-}
-
-/// Of the shown temperature and pressure: 14.
-fn check_vapor(temperature: f64, pressure: f64, humidity: f64) -> Result<(), Refusal> {
-    if water_vapor_mole_fraction_uncapped(temperature, pressure, humidity) > 1.0 {
-        return refused(14, &[]);
-    }
-    Ok(())
 }
 
 /// One field's value, all of a record without 06 and the humidity with it: 2, 3, 11, 12 and 13.
@@ -167,15 +166,20 @@ fn check_value(tag: u8, value: f64) -> Result<(), Refusal> {
     refused(number, &[value])
 }
 
-/// The last two come from the figures shown, the air (density and sound speed) from the resolved options.
-fn figures(
+/// What good readings give, or 14 or 15. Density, sound speed and mole fraction come from the given temperature and
+/// pressure, where there are any; the two altitudes and the mark from those that are shown.
+fn answer(
     altitude: f64,
-    temperature: f64,
-    pressure: f64,
+    given: (Option<f64>, Option<f64>),
+    shown: (f64, f64),
     humidity: f64,
-    (density, sound_speed): (f64, f64),
-) -> Figures {
-    [
+) -> Result<Answer, Refusal> {
+    let (temperature, pressure) = shown;
+    if water_vapor_mole_fraction_uncapped(temperature, pressure, humidity) > 1.0 {
+        return refused(14, &[]);
+    }
+    let (density, sound_speed) = calculate_atmosphere(altitude, given.0, given.1, humidity);
+    let figures = [
         altitude,
         temperature,
         pressure,
@@ -183,5 +187,13 @@ fn figures(
         sound_speed,
         pressure_altitude_m(pressure),
         density_matched_altitude_m(temperature, pressure, humidity),
-    ]
+        density_vapor::arguments(altitude, given.0, given.1, humidity).mole_fraction(),
+    ];
+    let above_0 = [pressure, density, sound_speed].iter().all(|x| *x > 0.0);
+    if !(figures.iter().all(|x| x.is_finite()) && above_0) {
+        return refused(15, &[]);
+    }
+    let in_range =
+        STATED_TEMPERATURES.contains(&temperature) && STATED_PRESSURES.contains(&pressure);
+    Ok(Answer { figures, in_range })
 }

@@ -2,5 +2,4 @@
 pub mod LayerNumber
 pub mod LayerFrom
 pub mod Chained
-pub mod Overrides
 pub mod AltitudeOrder

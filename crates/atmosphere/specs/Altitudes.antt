@@ -1,19 +1,18 @@
--- Pressure altitude, density altitude and density-matched altitude: the National Weather Service's formula, the FAA's rule, and the heights of a pressure
+-- Pressure altitude and density altitude: the National Weather Service's formula, the FAA's rule, and the heights of a pressure
 -- and of a density in the layers of ICAO Doc 7488, Manual of the ICAO Standard Atmosphere. The manual and the FAA's publications are cited without
 -- sections, which were not at hand. Constants and rounding order are those of src/atmosphere.rs; places is the number of places of exp, ln and power.
 -- Definitions only.
 use Prim.Native.Nat.{ℕ, zero, suc}
 use mathlib.Core.Bool.{Bool, _&&_, _||_, cond}
 use lib.Ieee.{Float, neg, le, isNan}
-use Rattle.elementary.specs.Decimals.{decimal, nought, one, hundred}
+use Rattle.elementary.specs.Decimals.{decimal, one, hundred}
 use Rattle.elementary.specs.Operators.{_⊕_, _⊖_, _⊗_, _⊘_}
 use Rattle.elementary.specs.Exponents.{ofDouble, g₀, Rd, lapse, pressureExponent, temperatureExponent, densityExponent, troposphereExponent, nwsExponent}
 use Rattle.elementary.specs.Power.{power}
 use Rattle.elementary.specs.Exp.{exp}
 use Rattle.elementary.specs.Ln.{ln}
-use Rattle.atmosphere.specs.declared.station.Reading.the-variants.{Given}
 use Rattle.atmosphere.specs.Layers.{lowestHeight, baseHeight, baseTemperature, basePressure, gradient, isothermal}
-use Rattle.atmosphere.specs.Station.{standardPressure, standardTemperature, atmosphere}
+use Rattle.atmosphere.specs.Station.{standardPressure}
 
 -- ---- National Weather Service, "Pressure Altitude" (weather.gov/media/epz/wxcalc/pressureAltitude.pdf), of a station pressure p in hPa
 -- h = 145366.45 ft (1 - (p / 1013.25)^n), with the exponent n = 0.190284 of elementary's table
@@ -117,18 +116,3 @@ heightOfRatio places x = heightFrom places (λ (i : ℕ). power places (ofDouble
 -- in the troposphere: T₀ / lapse (1 - x^(1/n))
 abbrev pub troposphereHeight : ℕ → Float → Float
 troposphereHeight places x = baseTemperature 0 ⊘ lapse ⊗ (one ⊖ power places (ofDouble (one ⊘ troposphereExponent)) x)
-
--- ---- the density-matched altitude of air at t °C, p hPa and h percent
-abbrev pub density : ℕ → Float → Float → Float → Float
-density places t p h = atmosphere places nought (Given t) (Given p) h .«density_kg_m3»
-
--- the density at sea level is that of dry air at 15 °C and 1013.25 hPa, by the same formula
-unfoldable pub seaLevelDensity : ℕ → Float
-seaLevelDensity places = density places standardTemperature standardPressure nought
-
--- the troposphere's height up to 11,000 m, and where it is NaN; else the height in the layers above
-unfoldable pub densityMatchedAltitude : ℕ → Float → Float → Float → Float
-densityMatchedAltitude places t p h =
-    let x = density places t p h ⊘ seaLevelDensity places in
-    let H = troposphereHeight places x in
-    cond (isNan H || le H tropopause) H (heightOfRatio places x)

@@ -1,19 +1,16 @@
--- The air at a station: what stands for a reading that is absent or a default, the reduction of an altimeter setting, and density and sound speed.
--- Temperatures t in °C, pressures p in hPa, altitudes in m, humidities h in percent; `places` is the number of places of exp and power. Definitions only.
+-- The readings of a station: what stands for one that is absent or a default, and the reduction of an altimeter setting.
+-- Temperatures t in °C, pressures p in hPa, altitudes in m; `places` is the number of places of exp and power. Definitions only.
 use Prim.Native.Nat.{ℕ}
 use mathlib.Core.Bool.{Bool, _&&_, cond}
 use lib.Ieee.{Float, lt}
-use Rattle.elementary.specs.Decimals.{decimal, nought, one, hundred}
+use Rattle.elementary.specs.Decimals.{decimal, one, hundred}
 use Rattle.elementary.specs.Operators.{_⊕_, _⊖_, _⊗_, _⊘_}
 use Rattle.elementary.specs.Exponents.{ofDouble, pressureExponent}
 use Rattle.elementary.specs.Power.{power}
-use Rattle.humid_air.specs.Doubles.{clampDouble, absDouble}
-use Rattle.humid_air.specs.MoistAir.{icePoint, airDensity}
-use Rattle.humid_air.specs.Sound.{soundSpeed}
+use Rattle.humid_air.specs.Doubles.{absDouble}
 use Rattle.atmosphere.specs.declared.station.Reading.{Reading}
 use Rattle.atmosphere.specs.declared.station.Reading.the-variants.{Given, FromLayer}
-use Rattle.atmosphere.specs.declared.station.Air.{Air}
-use Rattle.atmosphere.specs.Layers.{baseTemperature, basePressure, gradient, standardHeight, standardAir}
+use Rattle.atmosphere.specs.Layers.{baseTemperature, basePressure, gradient, standardHeight}
 
 -- ---- the default bands: within 0.5 hPa of 1013.25 hPa, and within 0.1 °C of 15 °C
 abbrev pub standardPressure : Float
@@ -45,21 +42,3 @@ reducedQnh places qnh altitude =
     let q = pressureExponent (gradient 0) in
     qnh
     ⊗ power places (ofDouble q) (one ⊕ gradient 0 ⊗ standardHeight altitude ⊘ baseTemperature 0 ⊗ power places (ofDouble (one ⊘ q)) (basePressure 0 ⊘ hundred ⊘ qnh))
-
--- ---- density and sound speed, of a temperature in K and a pressure in Pa
-abbrev pub airOf : ℕ → Float → Float → Float → Air
-airOf places T p h =
-    let h′ = clampDouble h nought hundred in
-    record { «density_kg_m3» = airDensity places (T ⊖ icePoint) (p ⊘ hundred) h′; «speed_of_sound_mps» = soundSpeed places T p h′ }
-
--- a temperature or a pressure that is given, or else the standard atmosphere's at the altitude
-abbrev pub kelvins : ℕ → Float → Reading → Float
-kelvins places altitude (Given t) = t ⊕ icePoint
-kelvins places altitude FromLayer = standardAir places altitude .«temperature_k»
-
-abbrev pub pascals : ℕ → Float → Reading → Float
-pascals places altitude (Given p) = p ⊗ hundred
-pascals places altitude FromLayer = standardAir places altitude .«pressure_pa»
-
-unfoldable pub atmosphere : ℕ → Float → Reading → Reading → Float → Air
-atmosphere places altitude t p h = airOf places (kelvins places altitude t) (pascals places altitude p) h

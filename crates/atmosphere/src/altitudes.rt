@@ -1,17 +1,14 @@
-// Pressure altitude, density altitude and density-matched altitude: the National Weather Service's
-// formula, the FAA's rule, and the heights of a pressure and of a density in the standard atmosphere's
-// layers.
+// Pressure altitude and density altitude: the National Weather Service's formula, the FAA's rule, and the
+// heights of a pressure and of a ratio of densities in the standard atmosphere's layers.
 ghost use mathlib.Core.Path.{_≡_};
 ghost use Prim.Native.Nat.{_<_, _-_};
 ghost use lib.ListN.{getD};
 ghost use lib.Ieee.{nan};
 ghost use Rattle.elementary.specs.Power.{powerAt};
-ghost use Rattle.atmosphere.specs.Altitudes.{nwsAltitude, faaDensityAltitude, layerFrom, heightIn, heightOfPressure, pressureAltitude, heightOfRatio, densityMatchedAltitude};
+ghost use Rattle.atmosphere.specs.Altitudes.{nwsAltitude, faaDensityAltitude, layerFrom, heightIn, heightOfPressure, pressureAltitude, heightOfRatio};
 ghost use Rattle.elementary.specs.Places.{places};
 use super::layers::G_ACCEL_MPS2;
 use super::layers::ICAO_LAYERS;
-use super::station::Reading;
-use super::station::calculate_atmosphere;
 use elementary::ln::ln;
 use elementary::power::power;
 use humid_air::doubles::abs;
@@ -34,7 +31,7 @@ pub const DA_FT_TO_M: f64 = 0.3048;
 
 const LOWEST_PRESSURE_ALTITUDE_M: f64 = -5000.0;
 
-const TROPOSPHERE_TOP_M: f64 = 11000.0;
+pub const TROPOSPHERE_TOP_M: f64 = 11000.0;
 
 // The pressure (Pa) at each layer's base, chained from the layer below by that layer's formula.
 const CHAINED_PRESSURES: [f64; 7] = [
@@ -50,16 +47,6 @@ const CHAINED_PRESSURES: [f64; 7] = [
 // The number in elementary's table of each layer's exponent, -lapse rate * R_AIR / G_ACCEL_MPS2. A lapse
 // rate of zero has none: 27 is the table's length.
 const TEMPERATURE_EXPONENTS: [usize; 7] = [6, 27, 7, 8, 27, 9, 10];
-
-const ISA_SEA_LEVEL_TEMP_K: f64 = 288.15;
-
-const ISA_LAPSE_K_PER_M: f64 = 0.0065;
-
-// The density (kg/m3) of dry air at 15 degrees Celsius and 1013.25 hPa, by `calculate_atmosphere`.
-const REFERENCE_DENSITY: f64 = 1.225521344728071;
-
-// the number in elementary's table of 1 / n, n = G_ACCEL_MPS2 / (R_AIR * ISA_LAPSE_K_PER_M) - 1
-const TROPOSPHERE_EXPONENT_RECIPROCAL: usize = 14;
 
 // The density at each layer's base, over that at sea level: at the tropopause by the temperatures to
 // the troposphere's power n, and above it chained from the layer below by that layer's formula.
@@ -164,28 +151,4 @@ pub fn standard_altitude_above_tropopause_m(ratio: f64) -> f64
         CHAINED_RATIOS[number],
         ratio,
     )
-}
-
-// The geopotential height, m, at which the standard atmosphere has the density of this air.
-pub fn density_matched_altitude_m(
-    temperature_c: f64,
-    station_pressure_hpa: f64,
-    humidity_percent: f64,
-) -> f64
-    ensures { λ r. ⌜ r ≡ densityMatchedAltitude places «temperature_c» «station_pressure_hpa» «humidity_percent» ⌝ }
-{
-    let air = calculate_atmosphere(
-        0.0,
-        Reading::Given(temperature_c),
-        Reading::Given(station_pressure_hpa),
-        humidity_percent,
-    );
-    let ratio = air.density_kg_m3 / REFERENCE_DENSITY;
-    let troposphere = (ISA_SEA_LEVEL_TEMP_K / ISA_LAPSE_K_PER_M)
-        * (1.0 - power(ratio, TROPOSPHERE_EXPONENT_RECIPROCAL));
-    // only a NaN differs from itself
-    if troposphere != troposphere || troposphere <= TROPOSPHERE_TOP_M {
-        return troposphere;
-    }
-    standard_altitude_above_tropopause_m(ratio)
 }

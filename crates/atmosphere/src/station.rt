@@ -1,16 +1,11 @@
-// The air at a station: readings that are absent or defaults, the altimeter setting, and density and
-// sound speed.
+// The readings of a station: what is absent or a default, and the altimeter setting.
 ghost use mathlib.Core.Path.{_≡_};
-ghost use Rattle.atmosphere.specs.Station.{inPressureBand, inTemperatureBand, resolved, stationPressure, stationTemperature, reducedQnh, airOf, atmosphere};
+ghost use Rattle.atmosphere.specs.Station.{inPressureBand, inTemperatureBand, resolved, stationPressure, stationTemperature, reducedQnh};
 ghost use Rattle.elementary.specs.Places.{places};
 use super::layers::ICAO_LAYERS;
-use super::layers::calculate_icao_standard_atmosphere;
 use super::layers::standard_geopotential_height_m;
 use elementary::power::power;
 use humid_air::doubles::abs;
-use humid_air::doubles::clamp;
-use humid_air::humid::calculate_air_density_cimp;
-use humid_air::humid::moist_speed_of_sound;
 
 // The numbers in elementary's table of the lowest layer's exponent, -G_ACCEL_MPS2 / (lapse rate *
 // R_AIR), and of its reciprocal.
@@ -22,11 +17,6 @@ const QNH_EXPONENT_RECIPROCAL: usize = 5;
 pub enum Reading {
     Given(f64),
     FromLayer,
-}
-
-pub struct Air {
-    pub density_kg_m3: f64,
-    pub speed_of_sound_mps: f64,
 }
 
 // Whether a pressure lies less than 0.5 hPa from the default, 1013.25 hPa.
@@ -87,58 +77,4 @@ pub fn reduce_qnh_to_station_pressure(qnh_hpa: f64, altitude_m: f64) -> f64
     let sea_level_hpa = layer[2] / 100.0;
     let setting_term = power(sea_level_hpa / qnh_hpa, QNH_EXPONENT_RECIPROCAL);
     qnh_hpa * power(1.0 + height_term * setting_term, QNH_EXPONENT)
-}
-
-// The density and the speed of sound, of K, Pa and percent.
-fn air_of(temp_k: f64, pressure_pa: f64, humidity_percent: f64) -> Air
-    ensures { λ r. ⌜ r ≡ airOf places «temp_k» «pressure_pa» «humidity_percent» ⌝ }
-{
-    let humidity_clamped = clamp(humidity_percent, 0.0, 100.0);
-    let temp_c = temp_k - 273.15;
-    Air {
-        density_kg_m3: calculate_air_density_cimp(temp_c, pressure_pa / 100.0, humidity_clamped),
-        speed_of_sound_mps: moist_speed_of_sound(temp_k, pressure_pa, humidity_clamped),
-    }
-}
-
-// The density and the speed of sound of the air at an altitude: a temperature in degrees Celsius or a
-// pressure in hPa that is given takes the place of the standard atmosphere's.
-pub fn calculate_atmosphere(
-    altitude_m: f64,
-    temp_override_c: Reading,
-    press_override_hpa: Reading,
-    humidity_percent: f64,
-) -> Air
-    ensures { λ r. ⌜ r ≡ atmosphere places «altitude_m» «temp_override_c» «press_override_hpa» «humidity_percent» ⌝ }
-{
-    match temp_override_c {
-        Reading::Given(temp_c) => match press_override_hpa {
-            Reading::Given(pressure_hpa) => {
-                air_of(temp_c + 273.15, pressure_hpa * 100.0, humidity_percent)
-            }
-            Reading::FromLayer => {
-                let standard = calculate_icao_standard_atmosphere(altitude_m);
-                air_of(temp_c + 273.15, standard.pressure_pa, humidity_percent)
-            }
-        },
-        Reading::FromLayer => {
-            let standard = calculate_icao_standard_atmosphere(altitude_m);
-            match press_override_hpa {
-                Reading::Given(pressure_hpa) => {
-                    air_of(
-                        standard.temperature_k,
-                        pressure_hpa * 100.0,
-                        humidity_percent,
-                    )
-                }
-                Reading::FromLayer => {
-                    air_of(
-                        standard.temperature_k,
-                        standard.pressure_pa,
-                        humidity_percent,
-                    )
-                }
-            }
-        }
-    }
 }

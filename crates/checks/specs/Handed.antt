@@ -1,6 +1,6 @@
 -- What a function of the C interface hands out, as a line has it. Definitions only.
 use Prim.Native.Nat.{ℕ, _+_}
-use mathlib.Core.Bool.{Bool, _&&_}
+use mathlib.Core.Bool.{Bool, false, _&&_, cond}
 use mathlib.Core.List.{List}
 use lib.Dec.{eqb}
 use lib.ListN.{length, replicate}
@@ -10,7 +10,7 @@ use Rattle.elementary.specs.Decimals.{nought}
 use Rattle.atmosphere.specs.Layers.{standardAir}
 use Rattle.density_altitude.specs.Inverse.{station}
 use Rattle.mast.specs.Judge.{judge}
-use Rattle.exports.specs.Lent.{Told, told, handedOut, reading, standardValues, stationValues, figureValues}
+use Rattle.exports.specs.Lent.{Told, told, handedOut, reading, standardValues, stationValues, figureValues, markOr}
 use Rattle.checks.specs.Line.{wordOf, standOn}
 
 -- the doubles xs stand on the words from number `first` on
@@ -28,5 +28,9 @@ standardAgrees s altitude = stand s 2 (standardValues (standardAir places altitu
 abbrev pub stationAgrees : List ℕ → Float → Bool → Float → Bool
 stationAgrees s d given celsius = handed s 4 3 (told stationValues (station places d (reading given celsius)))
 
+abbrev pub markNumber : Bool → ℕ
+markNumber mark = cond mark 1 0
+
+-- the mark of a refusal is 0
 abbrev pub recordAgrees : List ℕ → List ℕ → Bool
-recordAgrees s bytes = handed s 0 7 (told figureValues (judge bytes))
+recordAgrees s bytes = handed s 0 8 (told figureValues (judge bytes)) && eqb (wordOf s 9) (markNumber (markOr false (judge bytes)))

@@ -36,7 +36,7 @@ use humid_air::humid::moist_speed_of_sound;
 use humid_air::humid::vapor_mole_fraction;
 use record::bits::double;
 
-pub(crate) fn layers_agrees(line: &[u8; 153]) -> bool {
+pub(crate) fn layers_agrees(line: &[u8; 187]) -> bool {
     let altitude = double(word(line, 1));
     match word(line, 0) {
         0x00 => same(geometric_to_geopotential_height_m(altitude), word(line, 2)),
@@ -45,7 +45,7 @@ pub(crate) fn layers_agrees(line: &[u8; 153]) -> bool {
     }
 }
 
-fn standard_agrees(line: &[u8; 153], altitude_m: f64) -> bool
+fn standard_agrees(line: &[u8; 187], altitude_m: f64) -> bool
     ensures { λ r. ⌜ r ≡ standardAgrees (now (line .entry)) «altitude_m» ⌝ }
 {
     let mut lent = [0.0; 2];
@@ -53,7 +53,7 @@ fn standard_agrees(line: &[u8; 153], altitude_m: f64) -> bool
     (status == 0) & stand_on(line, 2, &lent)
 }
 
-pub(crate) fn humid_agrees(line: &[u8; 153]) -> bool {
+pub(crate) fn humid_agrees(line: &[u8; 187]) -> bool {
     let number = word(line, 0);
     let x = double(word(line, 1));
     let y = double(word(line, 2));
@@ -89,7 +89,7 @@ fn humid_of_three(number: u64, x: f64, y: f64, z: f64) -> f64 {
     }
 }
 
-pub(crate) fn station_agrees(line: &[u8; 153]) -> bool {
+pub(crate) fn station_agrees(line: &[u8; 187]) -> bool {
     let x = double(word(line, 1));
     let y = double(word(line, 2));
     let answer = word(line, 3);
@@ -105,7 +105,7 @@ pub(crate) fn station_agrees(line: &[u8; 153]) -> bool {
     }
 }
 
-fn atmosphere_agrees(line: &[u8; 153]) -> bool {
+fn atmosphere_agrees(line: &[u8; 187]) -> bool {
     let temperature_given = word(line, 2);
     let pressure_given = word(line, 4);
     let mut lent = [0.0; 2];
@@ -142,7 +142,7 @@ fn truth_agrees(answer: bool, word: u64) -> bool {
     if answer { word == 1 } else { word == 0 }
 }
 
-pub(crate) fn altitudes_agrees(line: &[u8; 153]) -> bool {
+pub(crate) fn altitudes_agrees(line: &[u8; 187]) -> bool {
     let x = double(word(line, 1));
     let y = double(word(line, 2));
     let answer = word(line, 2);
@@ -160,7 +160,7 @@ pub(crate) fn altitudes_agrees(line: &[u8; 153]) -> bool {
     }
 }
 
-pub(crate) fn inverse_agrees(line: &[u8; 153]) -> bool {
+pub(crate) fn inverse_agrees(line: &[u8; 187]) -> bool {
     let d = double(word(line, 1));
     let given = word(line, 2);
     let bits = word(line, 3);
@@ -172,7 +172,7 @@ pub(crate) fn inverse_agrees(line: &[u8; 153]) -> bool {
 }
 
 fn resolved_agrees(
-    line: &[u8; 153],
+    line: &[u8; 187],
     density_altitude_m: f64,
     given: bool,
     temperature_c: f64,
@@ -190,7 +190,7 @@ fn resolved_agrees(
 
 // An answer is 0 and the figures, or a refusal's number and its values, and 0 for those that it has not.
 fn station_found_agrees(
-    line: &[u8; 153],
+    line: &[u8; 187],
     density_altitude_m: f64,
     given: bool,
     temperature_c: f64,

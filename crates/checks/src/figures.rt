@@ -12,7 +12,7 @@ use humid_air::humid::enhanced_saturation_vapor_pressure;
 use humid_air::humid::moist_speed_of_sound;
 use record::bits::double;
 
-pub(crate) fn figure_agrees(line: &[u8; 153]) -> bool {
+pub(crate) fn figure_agrees(line: &[u8; 187]) -> bool {
     let x = double(word(line, 1));
     let y = double(word(line, 2));
     let z = double(word(line, 3));

@@ -7,8 +7,8 @@ use crate::double::same;
 use crate::line::word;
 
 // Whether the values stand on the line, from word number `first` on.
-pub(crate) fn stand_on(line: &[u8; 153], first: usize, values: &[f64]) -> bool
-    requires { ⌜ first + length (now values) ≤ 9 ⌝ }
+pub(crate) fn stand_on(line: &[u8; 187], first: usize, values: &[f64]) -> bool
+    requires { ⌜ first + length (now values) ≤ 11 ⌝ }
     ensures { λ r. ⌜ r ≡ standOn (now (line .entry)) first (now (values .entry)) (length (now (values .entry))) ⌝ }
 {
     let mut all = true;

@@ -1,4 +1,4 @@
-// A line of a list: up to nine words of 16 hex digits in lower case, a blank between, a newline last.
+// A line of a list: up to eleven words of 16 hex digits in lower case, a blank between, a newline last.
 ghost use mathlib.Core.Path.{_≡_};
 ghost use Prim.Native.Nat.{_≤_, _<_};
 ghost use Rattle.checks.specs.Line.{digitOf, wordOf, inPlace, isLine};
@@ -21,8 +21,8 @@ pub(crate) fn digit(b: u8) -> u64
 }
 
 // The word number n, from 0.
-pub(crate) fn word(line: &[u8; 153], n: usize) -> u64
-    requires { ⌜ n < 9 ⌝ }
+pub(crate) fn word(line: &[u8; 187], n: usize) -> u64
+    requires { ⌜ n < 11 ⌝ }
     ensures { λ r. ⌜ r ≡ wordOf (now (line .entry)) n ⌝ }
 {
     let mut value = 0;
@@ -48,8 +48,8 @@ fn is_in_place(b: u8, i: usize, width: usize) -> bool
     }
 }
 
-pub(crate) fn is_line(line: &[u8; 153], width: usize) -> bool
-    requires { ⌜ width ≤ 153 ⌝ }
+pub(crate) fn is_line(line: &[u8; 187], width: usize) -> bool
+    requires { ⌜ width ≤ 187 ⌝ }
     ensures { λ r. ⌜ r ≡ isLine (now (line .entry)) width ⌝ }
 {
     let mut i = 0;

@@ -99,7 +99,7 @@ fn next_outcome(fd: i32, list: List) -> Outcome {
 }
 
 fn next_line(fd: i32, function: Function, exact: bool) -> Outcome {
-    let mut line = [0u8; 153];
+    let mut line = [0u8; 187];
     let width = 17 * words(function, exact);
     let n = io::read_full(fd, &mut line[..width]);
     if n == 0 {
@@ -124,7 +124,7 @@ fn words(function: Function, exact: bool) -> usize
     }
 }
 
-fn agrees(line: &[u8; 153], function: Function, exact: bool) -> bool {
+fn agrees(line: &[u8; 187], function: Function, exact: bool) -> bool {
     let first = word(line, 0);
     let second = word(line, 1);
     let third = word(line, 2);

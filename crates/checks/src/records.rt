@@ -1,7 +1,7 @@
 // A list of mast records: a line of words with a record's answer and length, and a line with its bytes.
 // The answer and its text are both held to the first line. `vectors/README.md` has the form.
 ghost use mathlib.Core.Path.{_≡_};
-ghost use Rattle.checks.specs.Handed.{recordAgrees};
+ghost use Rattle.checks.specs.Handed.{markNumber, recordAgrees};
 ghost use Prim.Native.Nat.{_+_, _*_, _≤_, _<_};
 ghost use lib.ListN.{length};
 use crate::lent::stand_on;
@@ -13,15 +13,15 @@ use exports::stations::station_air_judge;
 use text::answer;
 
 pub(crate) fn next_record(fd: i32) -> Outcome {
-    let mut line = [0u8; 153];
+    let mut line = [0u8; 187];
     let n = io::read_full(fd, &mut line);
     if n == 0 {
         return Outcome::End;
     }
-    if n < 153 || !is_line(&line, 153) {
+    if n < 187 || !is_line(&line, 187) {
         return Outcome::Differs;
     }
-    let length = word(&line, 8);
+    let length = word(&line, 10);
     if length > 300 {
         return Outcome::Differs;
     }
@@ -33,7 +33,7 @@ pub(crate) fn next_record(fd: i32) -> Outcome {
 }
 
 // Reads the second line, of a record of `count` bytes, and compares what we answer with the first.
-fn record_agrees(fd: i32, line: &[u8; 153], count: usize) -> bool
+fn record_agrees(fd: i32, line: &[u8; 187], count: usize) -> bool
     requires { ⌜ count ≤ 300 ⌝ }
 {
     let mut digits = [0u8; 601];
@@ -60,7 +60,7 @@ fn is_hex(digits: &[u8; 601], count: usize) -> bool
 }
 
 // Compares what we answer to the record of the first `count` bytes that the digits spell.
-fn spelled_agrees(line: &[u8; 153], digits: &[u8; 601], count: usize) -> bool
+fn spelled_agrees(line: &[u8; 187], digits: &[u8; 601], count: usize) -> bool
     requires { ⌜ count ≤ 300 ⌝ }
 {
     let mut bytes = [0u8; 300];
@@ -81,16 +81,25 @@ fn byte(digits: &[u8; 601], n: usize) -> u8
     (16 * high + low) as u8
 }
 
-// The status and the figures or values; a place that nothing is handed out to is 0.
-fn figures_agree(line: &[u8; 153], record: &[u8]) -> bool
+// The status, the figures or values, and the mark; a place that nothing is handed out to is 0.
+fn figures_agree(line: &[u8; 187], record: &[u8]) -> bool
     ensures { λ r. ⌜ r ≡ recordAgrees (now (line .entry)) (now («record» .entry)) ⌝ }
 {
-    let mut figures = [0.0; 7];
-    let status = station_air_judge(record, &mut figures);
-    (word(line, 0) == status as u64) & stand_on(line, 1, &figures)
+    let mut figures = [0.0; 8];
+    let mut in_range = false;
+    let status = station_air_judge(record, &mut figures, &mut in_range);
+    (word(line, 0) == status as u64)
+        & stand_on(line, 1, &figures)
+        & (word(line, 9) == mark_number(in_range))
 }
 
-fn text_agrees(line: &[u8; 153], record: &[u8]) -> bool {
+fn mark_number(mark: bool) -> u64
+    ensures { λ r. ⌜ r ≡ markNumber mark ⌝ }
+{
+    if mark { 1 } else { 0 }
+}
+
+fn text_agrees(line: &[u8; 187], record: &[u8]) -> bool {
     let text = answer(record);
     let bytes = text.bytes;
     let len = text.len;
@@ -101,19 +110,22 @@ fn text_agrees(line: &[u8; 153], record: &[u8]) -> bool {
     }
 }
 
-// Three words of the line after `station`, four after `air`, each with the blank before it.
-fn is_figures_text(line: &[u8; 153], text: &[u8; 131], len: usize) -> bool {
-    len == 131
+// Three words of the line after `station`, five after `air`, each with the blank before it, and the last
+// digit of the mark's word.
+fn is_figures_text(line: &[u8; 187], text: &[u8; 150], len: usize) -> bool {
+    len == 150
         && stands_at(text, 0, b"station")
         && are_words_at(text, 7, line, 1, 3)
         && text[58] == b'\n'
         && stands_at(text, 59, b"air")
-        && are_words_at(text, 62, line, 4, 4)
-        && text[130] == b'\n'
+        && are_words_at(text, 62, line, 4, 5)
+        && text[147] == b' '
+        && text[148] == line[168]
+        && text[149] == b'\n'
 }
 
 // The number is below 16, so that the last digit of the line's first word is all of it.
-fn is_refusal_text(line: &[u8; 153], text: &[u8; 131], len: usize) -> bool {
+fn is_refusal_text(line: &[u8; 187], text: &[u8; 150], len: usize) -> bool {
     let last = line[15];
     if !stands_at(text, 0, b"refused ") {
         return false;
@@ -125,8 +137,8 @@ fn is_refusal_text(line: &[u8; 153], text: &[u8; 131], len: usize) -> bool {
     }
 }
 
-fn stands_at(text: &[u8; 131], at: usize, bytes: &[u8]) -> bool
-    requires { ⌜ at + length (now bytes) ≤ 131 ⌝ }
+fn stands_at(text: &[u8; 150], at: usize, bytes: &[u8]) -> bool
+    requires { ⌜ at + length (now bytes) ≤ 150 ⌝ }
 {
     let mut i = 0;
     while i < bytes.len() {
@@ -140,8 +152,8 @@ fn stands_at(text: &[u8; 131], at: usize, bytes: &[u8]) -> bool
 
 // Whether `count` words of the line, from number `first` on, stand in the text: a blank before each, and
 // its digits in upper case.
-fn are_words_at(text: &[u8; 131], at: usize, line: &[u8; 153], first: usize, count: usize) -> bool
-    requires { ⌜ (at + 17 * count ≤ 131) × ((1 ≤ first) × (first + count ≤ 9)) ⌝ }
+fn are_words_at(text: &[u8; 150], at: usize, line: &[u8; 187], first: usize, count: usize) -> bool
+    requires { ⌜ (at + 17 * count ≤ 150) × ((1 ≤ first) × (first + count ≤ 11)) ⌝ }
 {
     let from = 17 * first - 1;
     let width = 17 * count;

@@ -19,7 +19,7 @@ pub enum Part {
 }
 
 pub(crate) fn next_line(fd: i32, part: Part) -> Outcome {
-    let mut line = [0u8; 153];
+    let mut line = [0u8; 187];
     let head = io::read_full(fd, &mut line[..17]);
     if head == 0 {
         return Outcome::End;
@@ -50,7 +50,7 @@ fn words(number: u64) -> usize
     }
 }
 
-fn agrees(line: &[u8; 153], part: Part) -> bool {
+fn agrees(line: &[u8; 187], part: Part) -> bool {
     match part {
         Part::Layers => layers_agrees(line),
         Part::Humid => humid_agrees(line),

@@ -1,4 +1,4 @@
--- What a function leaves in a lent array of doubles, and the status that it returns. Definitions only.
+-- What a function leaves in a lent array of doubles and in a lent mark, and the status that it returns. Definitions only.
 use Prim.Native.Nat.{ℕ}
 use mathlib.Core.Bool.{Bool, true, false, cond}
 use mathlib.Core.List.{List, [], _∷_, _++_}
@@ -6,12 +6,12 @@ use lib.Dec.{ltb}
 use lib.ListN.{length, drop}
 use lib.Ieee.{Float}
 use Rattle.atmosphere.specs.declared.layers.StandardAir.{StandardAir}
-use Rattle.atmosphere.specs.declared.station.Air.{Air}
+use Rattle.air.specs.declared.station.Air.{Air}
 use Rattle.atmosphere.specs.declared.station.Reading.{Reading}
 use Rattle.atmosphere.specs.declared.station.Reading.the-variants.{Given, FromLayer}
 use Rattle.density_altitude.specs.declared.inverse.Station.{Station}
 use Rattle.refusal.specs.Outcomes.{Outcome, accepted, refused}
-use Rattle.mast.specs.declared.figures.Figures.{Figures}
+use Rattle.station.specs.declared.figures.Figures.{Figures}
 
 -- ---- an outcome as a status and the doubles that are handed out: 0 and the figures, or the number of a refusal and its values
 pub record Told : Type 0 where
@@ -55,4 +55,14 @@ stationValues s = s .«altitude_m» ∷ s .«temperature_c» ∷ s .«pressure_h
 
 abbrev pub figureValues : Figures → List Float
 figureValues f =
-    f .«altitude_m» ∷ f .«temperature_c» ∷ f .«pressure_hpa» ∷ f .«density_kg_m3» ∷ f .«speed_of_sound_mps» ∷ f .«pressure_altitude_m» ∷ f .«density_matched_altitude_m» ∷ []
+    f .«altitude_m» ∷ f .«temperature_c» ∷ f .«pressure_hpa» ∷ f .«density_kg_m3» ∷ f .«speed_of_sound_mps» ∷ f .«pressure_altitude_m» ∷ f .«density_matched_altitude_m» ∷
+    f .«vapor_mole_fraction» ∷ []
+
+-- ---- a lent mark: that of the figures; a refusal leaves it as it was
+abbrev pub markOr : Bool → Outcome Figures → Bool
+markOr before (accepted f) = f .«in_cipm_range»
+markOr before (refused n vs) = before
+
+-- and so does an array with fewer places
+abbrev pub markIn : ℕ → List Float → Bool → Outcome Figures → Bool
+markIn most lent before o = cond (ltb (length lent) most) before (markOr before o)

@@ -6,11 +6,11 @@ ghost use lib.ListN.{length};
 ghost use Rattle.refusal.specs.Refusals.{numberOf, valuesOf, listed};
 ghost use Rattle.exports.specs.Lent.{handedOut, stationValues, figureValues};
 use density_altitude::inverse::Station;
-use mast::figures::Figures;
 use refusal::Refusal;
 use refusal::Values;
 use refusal::handed_out;
 use refusal::number;
+use station::figures::Figures;
 
 pub(crate) fn put_one(lent: &mut [f64], a: f64)
     requires { ⌜ 1 ≤ length (now lent) ⌝ }
@@ -37,7 +37,7 @@ pub(crate) fn put_station(lent: &mut [f64], station: Station)
 }
 
 pub(crate) fn put_figures(lent: &mut [f64], figures: Figures)
-    requires { ⌜ 7 ≤ length (now lent) ⌝ }
+    requires { ⌜ 8 ≤ length (now lent) ⌝ }
     ensures { λ _. ⌜ now (lent .exit) ≡ handedOut (figureValues figures) (now (lent .entry)) ⌝ }
 {
     lent[0] = figures.altitude_m;
@@ -47,6 +47,7 @@ pub(crate) fn put_figures(lent: &mut [f64], figures: Figures)
     lent[4] = figures.speed_of_sound_mps;
     lent[5] = figures.pressure_altitude_m;
     lent[6] = figures.density_matched_altitude_m;
+    lent[7] = figures.vapor_mole_fraction;
 }
 
 fn put_values(lent: &mut [f64], values: Values)

@@ -4,18 +4,18 @@
 ghost use mathlib.Core.Path.{_≡_};
 ghost use Rattle.elementary.specs.Places.{places};
 ghost use Rattle.atmosphere.specs.Layers.{standardAir};
-ghost use Rattle.atmosphere.specs.Station.{atmosphere};
+ghost use Rattle.air.specs.Station.{atmosphere};
 ghost use Rattle.refusal.specs.Outcomes.{accepted};
 ghost use Rattle.density_altitude.specs.Inverse.{station};
 ghost use Rattle.mast.specs.Judge.{judge};
-ghost use Rattle.exports.specs.Lent.{reading, told, statusIn, leftIn, standardValues, airValues, stationValues, figureValues};
+ghost use Rattle.exports.specs.Lent.{reading, told, statusIn, leftIn, standardValues, airValues, stationValues, figureValues, markIn};
 use super::lent::put_figures;
 use super::lent::put_refusal;
 use super::lent::put_station;
 use super::lent::put_two;
+use air::station::calculate_atmosphere;
 use atmosphere::layers::calculate_icao_standard_atmosphere;
 use atmosphere::station::Reading;
-use atmosphere::station::calculate_atmosphere;
 use density_altitude::inverse;
 use density_altitude::inverse::station_for_density_altitude;
 use mast::judge;
@@ -108,19 +108,22 @@ pub extern "C" fn station_air_for_density_altitude(
     }
 }
 
-// The seven figures of a record, or the refusal. The record is left as it was.
+// The eight figures of a record, with their mark in `in_range`, or the refusal. The record is left as it
+// was, and so is the mark by a refusal.
 #[no_mangle]
-pub extern "C" fn station_air_judge(record: &[u8], lent: &mut [f64]) -> u32
-    ensures { λ r. ⌜ r ≡ statusIn 7 (now (lent .entry)) (told figureValues (judge (now («record» .entry)))) ⌝ }
-    ensures { λ _. ⌜ now (lent .exit) ≡ leftIn 7 (now (lent .entry)) (told figureValues (judge (now («record» .entry)))) ⌝ }
+pub extern "C" fn station_air_judge(record: &[u8], lent: &mut [f64], in_range: &mut bool) -> u32
+    ensures { λ r. ⌜ r ≡ statusIn 8 (now (lent .entry)) (told figureValues (judge (now («record» .entry)))) ⌝ }
+    ensures { λ _. ⌜ now (lent .exit) ≡ leftIn 8 (now (lent .entry)) (told figureValues (judge (now («record» .entry)))) ⌝ }
+    ensures { λ _. ⌜ now («in_range» .exit) ≡ markIn 8 (now (lent .entry)) (now («in_range» .entry)) (judge (now («record» .entry))) ⌝ }
     ensures { λ _. ⌜ now («record» .exit) ≡ now («record» .entry) ⌝ }
 {
-    if lent.len() < 7 {
+    if lent.len() < 8 {
         return TOO_SHORT;
     }
     match judge::judge(record) {
         judge::Answer::Figures(figures) => {
             put_figures(lent, figures);
+            *in_range = figures.in_cipm_range;
             FIGURES
         }
         judge::Answer::Refused(refusal) => put_refusal(lent, refusal),

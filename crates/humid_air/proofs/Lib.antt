@@ -1,2 +1,3 @@
 -- The laws of the definitions, a file for each idea.
 pub mod NotANumber
+pub mod Needed

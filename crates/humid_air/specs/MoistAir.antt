@@ -44,9 +44,17 @@ capped x = cond (lt one x) one x
 abbrev pub divisor : Float → Float
 divisor p = maxDouble p (decimal "2.2250738585072014e-308")
 
+-- from the saturation pressure, °C, Pa and percent
+abbrev pub moleFractionOf : Float → Float → Float → Float → Float
+moleFractionOf psv t p h = moleFraction psv (enhancementFactor p t) h (divisor p)
+
 -- T and t are the same temperature in K and °C
 abbrev pub moleFractionAt : ℕ → Float → Float → Float → Float → Float
-moleFractionAt n T t p h = moleFraction (saturationPressure n T) (enhancementFactor p t) h (divisor p)
+moleFractionAt n T t p h = moleFractionOf (saturationPressure n T) t p h
+
+-- what is asked of the saturation pressure: nothing at 0 percent, where 0 stands for it
+unfoldable pub neededPressure : ℕ → Float → Float → Float
+neededPressure n T h = cond (eq (clampDouble h nought hundred) nought) nought (saturationPressure n T)
 
 -- from °C and hPa
 abbrev pub moleFractionCelsius : ℕ → Float → Float → Float → Float
@@ -119,10 +127,17 @@ molarGasConstant = decimal "8.314472"
 abbrev pub molarMassRatio : Float → Float
 molarMassRatio xv = one ⊖ xv ⊗ (one ⊖ Mv ⊘ Ma)
 
--- in kg m^-3, from °C and hPa
-unfoldable pub airDensity : ℕ → Float → Float → Float → Float
-airDensity n t hPa h =
+-- in kg m^-3, from °C, hPa and x_v
+unfoldable pub airDensityAt : Float → Float → Float → Float
+airDensityAt t hPa xv =
     let T = t ⊕ icePoint in
     let p = divisor (hPa ⊗ hundred) in
-    let xv = capped (moleFractionCelsius n t hPa h) in
     p ⊗ Ma ⊘ (compressibilityFactor p T xv ⊗ molarGasConstant ⊗ T) ⊗ molarMassRatio xv
+
+-- the x_v that it uses, from °C, hPa and percent
+abbrev pub densityMoleFraction : ℕ → Float → Float → Float → Float
+densityMoleFraction n t hPa h = capped (moleFractionCelsius n t hPa h)
+
+-- in kg m^-3, from °C, hPa and percent
+abbrev pub airDensity : ℕ → Float → Float → Float → Float
+airDensity n t hPa h = airDensityAt t hPa (densityMoleFraction n t hPa h)

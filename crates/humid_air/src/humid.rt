@@ -2,7 +2,7 @@
 // and the speed of sound.
 ghost use mathlib.Core.Path.{_≡_};
 ghost use Rattle.humid_air.specs.Saturation.{saturationPressure};
-ghost use Rattle.humid_air.specs.MoistAir.{enhancementFactor, moleFraction, capped, moleFractionAt, moleFractionCelsius, moleFractionKelvin, compressibilityFactor, molarMassRatio, airDensity};
+ghost use Rattle.humid_air.specs.MoistAir.{enhancementFactor, moleFraction, capped, neededPressure, moleFractionOf, moleFractionAt, moleFractionCelsius, moleFractionKelvin, compressibilityFactor, molarMassRatio, airDensityAt, airDensity};
 ghost use Rattle.humid_air.specs.Sound.{soundSpeedAt, soundSpeed};
 ghost use Rattle.elementary.specs.Places.{places};
 use super::doubles::clamp;
@@ -138,19 +138,38 @@ pub fn capped_vapor_mole_fraction(mole_fraction_vapor: f64) -> f64
     }
 }
 
-// The mole fraction of vapour, uncapped. The temperature stands in K and in degrees Celsius, as the two
-// callers round it. Dry air asks for no
-// saturation pressure, by far the longest step, so there any number serves.
-fn vapor_mole_fraction_at(t_k: f64, temp_c: f64, pressure_pa: f64, humidity_percent: f64) -> f64
-    ensures { λ r. ⌜ r ≡ moleFractionAt places «t_k» «temp_c» «pressure_pa» «humidity_percent» ⌝ }
+// The saturation pressure, hPa, that air of a humidity in percent asks for at a temperature in K. Dry air
+// asks for none, and 0 stands for it: the pressure is by far the longest step.
+pub fn needed_saturation_pressure(t_k: f64, humidity_percent: f64) -> f64
+    ensures { λ r. ⌜ r ≡ neededPressure places «t_k» «humidity_percent» ⌝ }
+{
+    if clamp(humidity_percent, 0.0, 100.0) == 0.0 {
+        return 0.0;
+    }
+    enhanced_saturation_vapor_pressure(t_k)
+}
+
+// The mole fraction of vapour, uncapped, of a saturation pressure in hPa, degrees Celsius, Pa and percent.
+pub fn vapor_mole_fraction_of(
+    p_sv_hpa: f64,
+    temp_c: f64,
+    pressure_pa: f64,
+    humidity_percent: f64,
+) -> f64
+    ensures { λ r. ⌜ r ≡ moleFractionOf «p_sv_hpa» «temp_c» «pressure_pa» «humidity_percent» ⌝ }
 {
     let f = enhanced_enhancement_factor(pressure_pa, temp_c);
     let p_pa = max(pressure_pa, MIN_POSITIVE);
-    if clamp(humidity_percent, 0.0, 100.0) == 0.0 {
-        return vapor_mole_fraction(0.0, f, humidity_percent, p_pa);
-    }
-    let p_sv = enhanced_saturation_vapor_pressure(t_k);
-    vapor_mole_fraction(p_sv, f, humidity_percent, p_pa)
+    vapor_mole_fraction(p_sv_hpa, f, humidity_percent, p_pa)
+}
+
+// The mole fraction of vapour, uncapped. The temperature stands in K and in degrees Celsius, as the two
+// callers round it.
+fn vapor_mole_fraction_at(t_k: f64, temp_c: f64, pressure_pa: f64, humidity_percent: f64) -> f64
+    ensures { λ r. ⌜ r ≡ moleFractionAt places «t_k» «temp_c» «pressure_pa» «humidity_percent» ⌝ }
+{
+    let p_sv = needed_saturation_pressure(t_k, humidity_percent);
+    vapor_mole_fraction_of(p_sv, temp_c, pressure_pa, humidity_percent)
 }
 
 // The mole fraction of vapour, uncapped, of degrees Celsius, hPa and percent.
@@ -181,19 +200,26 @@ pub fn moist_molar_mass_ratio(mole_fraction_vapor: f64) -> f64
     1.0 - mole_fraction_vapor * (1.0 - M_V / M_A)
 }
 
+// The density of moist air, kg/m3, of degrees Celsius, hPa and the mole fraction of vapour.
+pub fn air_density_at_mole_fraction(temp_c: f64, pressure_hpa: f64, x_v: f64) -> f64
+    ensures { λ r. ⌜ r ≡ airDensityAt «temp_c» «pressure_hpa» «x_v» ⌝ }
+{
+    let t_k = temp_c + 273.15;
+    let p_pa = max(pressure_hpa * 100.0, MIN_POSITIVE);
+    let z = enhanced_compressibility_factor(p_pa, t_k, x_v);
+    ((p_pa * M_A) / (z * R * t_k)) * moist_molar_mass_ratio(x_v)
+}
+
 // The density of moist air, kg/m3, of degrees Celsius, hPa and percent.
 pub fn calculate_air_density_cimp(temp_c: f64, pressure_hpa: f64, humidity_percent: f64) -> f64
     ensures { λ r. ⌜ r ≡ airDensity places «temp_c» «pressure_hpa» «humidity_percent» ⌝ }
 {
-    let t_k = temp_c + 273.15;
-    let p_pa = max(pressure_hpa * 100.0, MIN_POSITIVE);
     let x_v = capped_vapor_mole_fraction(water_vapor_mole_fraction_uncapped(
         temp_c,
         pressure_hpa,
         humidity_percent,
     ));
-    let z = enhanced_compressibility_factor(p_pa, t_k, x_v);
-    ((p_pa * M_A) / (z * R * t_k)) * moist_molar_mass_ratio(x_v)
+    air_density_at_mole_fraction(temp_c, pressure_hpa, x_v)
 }
 
 // The speed of sound in moist air, m/s, of K and the mole fraction of vapour.

@@ -24,10 +24,11 @@ use Rattle.record.specs.declared.readings.Entry.the-variants.{Absent, Present}
 use Rattle.record.specs.declared.readings.Readings.{Readings}
 use Rattle.record.specs.Fields.{temperature, humidity, densityAltitude}
 use Rattle.record.specs.Readings.{isPresent, entryOf}
-use Rattle.mast.specs.declared.figures.Figures.{Figures}
-use Rattle.mast.specs.declared.figures.Resolved.{Resolved}
+use Rattle.station.specs.declared.figures.Figures.{Figures}
+use Rattle.station.specs.declared.resolved.Resolved.{Resolved}
 use Rattle.mast.specs.Checks.{has, isClash, humidityRows, present}
-use Rattle.mast.specs.Figures.{givenTemperature, valueOrZero, shownTemperature, shownPressure, figuresOf}
+use Rattle.station.specs.Resolved.{givenTemperature, valueOrZero}
+use Rattle.station.specs.Figures.{shownTemperature, shownPressure, figuresOf}
 use Rattle.mast.specs.Judge.{airRows, wayRows, resolvedBy, judged}
 use Rattle.mast.specs.Laws.{Dry, without, NotWith06}
 

@@ -12,9 +12,10 @@ use Rattle.record.specs.declared.readings.Entry.the-variants.{Absent, Present}
 use Rattle.record.specs.declared.readings.Readings.{Readings}
 use Rattle.record.specs.Fields.{altitude, temperature, stationPressure, qnh, humidity, densityAltitude, measuredPressure}
 use Rattle.record.specs.Readings.{entryOf}
-use Rattle.mast.specs.declared.figures.Figures.{Figures}
-use Rattle.mast.specs.declared.figures.Resolved.{Resolved}
-use Rattle.mast.specs.Figures.{unmeasuredPressure, measuredOr, pressureOf, resolvedTemperature, resolvedPressure, valueOrZero, givenTemperature, ordinary, shownCelsius, shownHectopascals, figuresWith, figuresOf}
+use Rattle.station.specs.declared.figures.Figures.{Figures}
+use Rattle.station.specs.declared.resolved.Resolved.{Resolved}
+use Rattle.station.specs.Resolved.{unmeasuredPressure, measuredOr, pressureOf, resolvedTemperature, resolvedPressure, valueOrZero, givenTemperature, ordinary}
+use Rattle.station.specs.Figures.{shownCelsius, shownHectopascals, figuresWith, figuresOf}
 use Rattle.mast.specs.Judge.{readingRows, resolvedBy, resolved, judged}
 use Rattle.mast.specs.Humidity.{DifferOnlyInHumidity, SameStation, HumidityLeavesTheStation}
 

@@ -17,7 +17,8 @@ use Rattle.record.proofs.FirstBytes.{first-bytes}
 use Rattle.record.proofs.Following.{nothing-after}
 use Rattle.record.proofs.Exchange.{exchange}
 use Rattle.mast.specs.Checks.{finiteRows, pressureRows, humidityRows, present}
-use Rattle.mast.specs.Figures.{givenTemperature, figuresOf}
+use Rattle.station.specs.Resolved.{givenTemperature}
+use Rattle.station.specs.Figures.{figuresOf}
 use Rattle.mast.specs.Judge.{airRows, wayRows, resolved, readingRows, judged, judge}
 use Rattle.mast.specs.Laws.{FirstBytes, NothingAfter, AnyOrder}
 

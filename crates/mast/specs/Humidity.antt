@@ -7,7 +7,7 @@ use Rattle.refusal.specs.Outcomes.{accepted}
 use Rattle.record.specs.declared.readings.Readings.{Readings}
 use Rattle.record.specs.Fields.{humidity}
 use Rattle.record.specs.Readings.{entryOf}
-use Rattle.mast.specs.declared.figures.Figures.{Figures}
+use Rattle.station.specs.declared.figures.Figures.{Figures}
 use Rattle.mast.specs.Judge.{judged}
 
 abbrev pub DifferOnlyInHumidity : Readings → Readings → Type 0

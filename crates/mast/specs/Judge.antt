@@ -1,4 +1,4 @@
--- The judge of a mast record, document 01: seven figures, or the number of one refusal with its values, by a fixed order of checks. Definitions only.
+-- The judge of a mast record, document 01: the figures, or the number of one refusal with its values, by a fixed order of checks. Definitions only.
 use Prim.Native.Nat.{ℕ}
 use mathlib.Core.Bool.{not}
 use mathlib.Core.List.{List, [], _∷_, _++_}
@@ -15,12 +15,13 @@ use Rattle.record.specs.declared.readings.Entry.the-variants.{Absent, Present}
 use Rattle.record.specs.declared.readings.Readings.{Readings}
 use Rattle.record.specs.Fields.{temperature, humidity, densityAltitude}
 use Rattle.record.specs.Readings.{entryOf, readRows, readings, readRecord}
-use Rattle.mast.specs.declared.figures.Figures.{Figures}
-use Rattle.mast.specs.declared.figures.Resolved.{Resolved}
+use Rattle.station.specs.declared.figures.Figures.{Figures}
+use Rattle.station.specs.declared.resolved.Resolved.{Resolved}
 use Rattle.mast.specs.declared.judge.Answer.{Answer}
 use Rattle.mast.specs.declared.judge.Answer.the-variants as answer
 use Rattle.mast.specs.Checks.{isClash, humidityRows, present, ordinaryRows}
-use Rattle.mast.specs.Figures.{ordinary, givenTemperature, atStation, shownTemperature, shownPressure, figuresOf, isAir}
+use Rattle.station.specs.Resolved.{ordinary, givenTemperature, atStation}
+use Rattle.station.specs.Figures.{shownTemperature, shownPressure, figuresOf, isAir}
 
 -- what each case of the code's answer stands for
 abbrev pub outcome : Answer → Outcome Figures

@@ -14,7 +14,7 @@ use Rattle.record.specs.declared.readings.Readings.{Readings}
 use Rattle.record.specs.Fields.{sizeOf, densityAltitude, humidity}
 use Rattle.record.specs.Readings.{readRecord}
 use Rattle.mast.specs.Checks.{has}
-use Rattle.mast.specs.Figures.{figuresOf}
+use Rattle.station.specs.Figures.{figuresOf}
 use Rattle.mast.specs.Judge.{resolved, readingRows, judged, judge}
 
 -- ---- dry air

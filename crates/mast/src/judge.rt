@@ -1,22 +1,12 @@
-// The judge: seven figures, or one refusal, by a fixed order of checks.
+// The judge: eight figures and their mark, or one refusal, by a fixed order of checks.
 ghost use mathlib.Core.Path.{_≡_};
 ghost use Rattle.mast.specs.Judge.{outcome, airOutcome, ordinaryOutcome, humidOutcome, stationOutcome, judged, judge};
 use super::checks::check_humidity;
 use super::checks::check_ordinary;
 use super::checks::is_clash;
-use super::figures::Figures;
-use super::figures::Resolved;
-use super::figures::at_station;
-use super::figures::figures_with;
-use super::figures::given_temperature;
-use super::figures::is_air;
-use super::figures::ordinary;
-use super::figures::shown_pressure;
-use super::figures::shown_temperature;
 use density_altitude::inverse;
 use density_altitude::inverse::Station;
 use density_altitude::inverse::station_for_density_altitude;
-use humid_air::humid::water_vapor_mole_fraction_uncapped;
 use record::fields::DENSITY_ALTITUDE;
 use record::fields::HUMIDITY;
 use record::fields::TEMPERATURE;
@@ -26,27 +16,29 @@ use record::readings::entry_of;
 use record::readings::read_record;
 use refusal::Check;
 use refusal::Refusal;
+use station::figures::Figures;
+use station::figures::figures_of;
+use station::figures::is_air;
+use station::resolved::Resolved;
+use station::resolved::at_station;
+use station::resolved::given_temperature;
+use station::resolved::ordinary;
 
 pub enum Answer {
     Figures(Figures),
     Refused(Refusal),
 }
 
-// The figures of a station, where there is no more vapour than air and they are air's.
-fn air(resolved: Resolved) -> Answer
+// The figures of a station and their mark, or the refusal 14 or 15: there is more vapour than air, or the
+// figures are not air's.
+pub fn air(resolved: Resolved) -> Answer
     ensures { λ r. ⌜ outcome r ≡ airOutcome resolved ⌝ }
 {
-    let temperature_c = shown_temperature(resolved);
-    let pressure_hpa = shown_pressure(resolved);
-    let fraction = water_vapor_mole_fraction_uncapped(
-        temperature_c,
-        pressure_hpa,
-        resolved.humidity_percent,
-    );
-    if fraction > 1.0 {
+    let found = figures_of(resolved);
+    if found.uncapped_vapor_mole_fraction > 1.0 {
         return Answer::Refused(Refusal::TooMuchVapor);
     }
-    let figures = figures_with(resolved, temperature_c, pressure_hpa);
+    let figures = found.figures;
     if !is_air(figures) {
         return Answer::Refused(Refusal::NotAir);
     }
@@ -84,7 +76,7 @@ fn station_air(density_altitude_m: f64, readings: Readings) -> Answer
     }
 }
 
-// What readings give: their seven figures, or one refusal, a cause 1 to 4 or 9 to 15.
+// What readings give: their figures and mark, or one refusal, a cause 1 to 4 or 9 to 15.
 pub fn judge_readings(readings: Readings) -> Answer
     ensures { λ r. ⌜ outcome r ≡ judged readings ⌝ }
 {
@@ -97,7 +89,7 @@ pub fn judge_readings(readings: Readings) -> Answer
     }
 }
 
-// What the bytes of a record give: its seven figures, or one refusal. The record is left as it was.
+// What the bytes of a record give: its figures and mark, or one refusal. The record is left as it was.
 pub fn judge(bytes: &[u8]) -> Answer
     ensures judged { λ r. ⌜ outcome r ≡ judge (now (bytes .entry)) ⌝ }
     ensures kept { λ _. ⌜ now (bytes .exit) ≡ now (bytes .entry) ⌝ }

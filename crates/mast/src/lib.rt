@@ -1,4 +1,3 @@
-// The judge of a mast's readings: a fixed order of checks, and the seven figures or one refusal.
+// The judge of a mast's readings: a fixed order of checks, and the figures or one refusal.
 pub mod checks;
-pub mod figures;
 pub mod judge;

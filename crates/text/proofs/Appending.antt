@@ -25,7 +25,7 @@ pub from-none : {t r : Text} {xs : List ℕ} → written t ≡ [] → Appended t
 from-none {xs = xs} e a = a .text ∙ ap (λ (w : List ℕ). w ++ xs) e
 
 -- a text in an array of as many bytes as the array has
-pub holds : (t : Text) {xs : List ℕ} → written t ≡ xs → t .len ≤ 131 → length (map (λ (b : ℕ). b) (t .bytes)) ≡ 131 → Holds t xs
+pub holds : (t : Text) {xs : List ℕ} → written t ≡ xs → t .len ≤ 150 → length (map (λ (b : ℕ). b) (t .bytes)) ≡ 150 → Holds t xs
 holds t e short array =
     let within : t .len ≤ length (t .bytes) = omega (arith, length-map (t .bytes) (λ (b : ℕ). b)) in
     record { text = e; within = within; counted = sym (length-take-le (t .len) (t .bytes) within) }

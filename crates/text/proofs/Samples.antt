@@ -6,19 +6,22 @@ use Rattle.elementary.specs.Exp.{exp}
 use Rattle.elementary.specs.Sqrt.{sqrt}
 use Rattle.humid_air.specs.Doubles.{absDouble, isFinite}
 use Rattle.humid_air.specs.Saturation.{saturationPressure}
-use Rattle.humid_air.specs.MoistAir.{moleFraction, compressibilityFactor, airDensity}
+use Rattle.humid_air.specs.MoistAir.{moleFraction, compressibilityFactor, airDensityAt}
 use Rattle.humid_air.specs.Sound.{soundSpeed}
 use Rattle.atmosphere.specs.Layers.{standardAir}
-use Rattle.atmosphere.specs.Station.{atmosphere}
-use Rattle.atmosphere.specs.Altitudes.{pressureAltitude, densityMatchedAltitude, seaLevelDensity}
+use Rattle.atmosphere.specs.Altitudes.{pressureAltitude}
+use Rattle.air.specs.Moist.{densityOf}
+use Rattle.air.specs.Station.{atmosphere}
+use Rattle.air.specs.Matched.{heightOfDensity, densityMatchedAltitude, seaLevelDensity}
 use Rattle.record.specs.Bytes.{wordAt}
 use Rattle.record.specs.Fields.{field, headRows}
 use Rattle.record.specs.Readings.{rowsFrom, readingsFrom}
-use Rattle.mast.specs.Figures.{ordinary, figuresWith}
+use Rattle.station.specs.Resolved.{ordinary}
+use Rattle.station.specs.Figures.{figuresWith}
 use Rattle.mast.specs.Judge.{judged, judge}
 use Rattle.text.specs.Text.{hexDigits, stationLine, airLine, refusalLine}
 use Rattle.text.specs.Samples.{Samples}
 
 pub samples : Samples
-unfolding ofBits toBits le isNan isFinite absDouble powerAt exp sqrt standardAir saturationPressure moleFraction compressibilityFactor airDensity soundSpeed atmosphere pressureAltitude densityMatchedAltitude seaLevelDensity wordAt field headRows rowsFrom readingsFrom ordinary figuresWith judged judge hexDigits stationLine airLine refusalLine
-samples = record { unknown-tag = refl; cut = refl; empty = refl; sea-level = refl; hot = refl }
+unfolding ofBits toBits le isNan isFinite absDouble powerAt exp sqrt standardAir saturationPressure moleFraction compressibilityFactor airDensityAt soundSpeed densityOf atmosphere pressureAltitude heightOfDensity densityMatchedAltitude seaLevelDensity wordAt field headRows rowsFrom readingsFrom ordinary figuresWith judged judge hexDigits stationLine airLine refusalLine
+samples = record { unknown-tag = refl; cut = refl; empty = refl; sea-level = refl; sea-level-end = refl; hot = refl }

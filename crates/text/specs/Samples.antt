@@ -6,7 +6,7 @@ use mathlib.Core.Path.{_≡_}
 use mathlib.Core.List.{List, _++_}
 use mathlib.Core.List as list
 use lib.Ieee.{Float, binary64, toBits}
-use lib.ListN.{take}
+use lib.ListN.{take, drop}
 use Rattle.elementary.specs.Decimals.{decimal}
 use Rattle.mast.specs.Judge.{judge}
 use Rattle.text.specs.Text.{answerText}
@@ -38,5 +38,7 @@ pub record Samples : Type 0 where
   pub empty : textOf list.[] ≡ ascii "refused 10\n"
   -- the altitude 0 m: the first line
   pub sea-level : take 59 (textOf (bytes 11 0x0100080000000000000000)) ≡ ascii "station 0000000000000000 402E000000000000 408FAA0000000000\n"
+  -- and how the second line ends: dry air, in the range of CIPM-2007
+  pub sea-level-end : drop 131 (textOf (bytes 11 0x0100080000000000000000)) ≡ ascii "0000000000000000 1\n"
   -- 0 m, 1,000 °C, 1013.5 hPa and 50 percent
   pub hot : textOf (fieldWith 1 (decimal "0") ++ fieldWith 2 (decimal "1000") ++ fieldWith 3 (decimal "1013.5") ++ fieldWith 5 (decimal "50")) ≡ ascii "refused 15\n"

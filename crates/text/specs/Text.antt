@@ -1,14 +1,14 @@
--- The text of an answer, as bytes in ASCII: `station` and the first three figures, then on a second line `air` and the other four, each as the double's 16
--- hex digits, blank between; or `refused` and the number. Definitions only.
+-- The text of an answer, as bytes in ASCII: `station` and the first three figures, then on a second line `air` and the other five, each as the double's 16
+-- hex digits, and the mark, 0 or 1, blank between; or `refused` and the number. Definitions only.
 use Prim.Native.Nat.{ℕ, zero, suc, _+_, _*_, _/_, _%_, _^_, _≤_}
 use mathlib.Core.Path.{_≡_}
-use mathlib.Core.Bool.{cond}
+use mathlib.Core.Bool.{Bool, cond}
 use mathlib.Core.List.{List, [], _∷_, _++_}
 use lib.Dec.{ltb}
 use lib.Ieee.{Float, binary64, toBits}
 use lib.ListN.{length, take}
 use Rattle.refusal.specs.Outcomes.{Outcome, accepted, refused}
-use Rattle.mast.specs.declared.figures.Figures.{Figures}
+use Rattle.station.specs.declared.figures.Figures.{Figures}
 use Rattle.text.specs.declared.Text.{Text}
 
 -- ---- numbers
@@ -25,6 +25,10 @@ hexDigits (suc k) n = hexDigit (n / 2 ^ (4 * k) % 16) ∷ hexDigits k n
 abbrev pub cell : Float → List ℕ
 cell x = 32 ∷ hexDigits 16 (toBits binary64 x)
 
+-- a blank and the mark
+abbrev pub markCell : Bool → List ℕ
+markCell mark = 32 ∷ cond mark 49 48 ∷ []
+
 -- a number below 100
 abbrev pub decimal : ℕ → List ℕ
 decimal n = cond (ltb n 10) ((48 + n) ∷ []) ((48 + n / 10) ∷ (48 + n % 10) ∷ [])
@@ -35,7 +39,7 @@ unfoldable pub stationLine : Figures → List ℕ
 stationLine f =
     (115 ∷ 116 ∷ 97 ∷ 116 ∷ 105 ∷ 111 ∷ 110 ∷ []) ++ cell (f .«altitude_m») ++ cell (f .«temperature_c») ++ cell (f .«pressure_hpa») ++ (10 ∷ [])
 
--- `air`, four figures, a newline
+-- `air`, five figures, the mark, a newline
 unfoldable pub airLine : Figures → List ℕ
 airLine f =
     (97 ∷ 105 ∷ 114 ∷ [])
@@ -43,6 +47,8 @@ airLine f =
     ++ cell (f .«speed_of_sound_mps»)
     ++ cell (f .«pressure_altitude_m»)
     ++ cell (f .«density_matched_altitude_m»)
+    ++ cell (f .«vapor_mole_fraction»)
+    ++ markCell (f .«in_cipm_range»)
     ++ (10 ∷ [])
 
 -- `refused`, a blank, the number, a newline

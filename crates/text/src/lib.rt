@@ -1,21 +1,21 @@
-// The text of an answer: two lines with the seven figures, or `refused` and the number.
+// The text of an answer: two lines with the eight figures and their mark, or `refused` and the number.
 ghost use mathlib.Core.Path.{_≡_};
 ghost use Prim.Native.Nat.{_+_, _≤_, _<_};
 ghost use mathlib.Core.List.{[], _∷_};
 ghost use lib.ListN.{length, take};
 ghost use Rattle.refusal.specs.Refusals.{numberOf};
 ghost use Rattle.mast.specs.Judge.{outcome, judge};
-ghost use Rattle.text.specs.Text.{Appended, Holds, written, hexDigit, hexDigits, cell, decimal, stationLine, airLine, refusalLine, answerText};
-use mast::figures::Figures;
+ghost use Rattle.text.specs.Text.{Appended, Holds, written, hexDigit, hexDigits, cell, markCell, decimal, stationLine, airLine, refusalLine, answerText};
 use mast::judge::Answer;
 use mast::judge::judge;
 use record::bits::pattern;
 use refusal::Refusal;
 use refusal::number;
+use station::figures::Figures;
 
-// The first `len` bytes are the text: at most 131, the two lines'.
+// The first `len` bytes are the text: at most 150, the two lines'.
 pub struct Text {
-    pub bytes: [u8; 131],
+    pub bytes: [u8; 150],
     pub len: usize,
 }
 
@@ -23,13 +23,13 @@ fn no_text() -> Text
     ensures { λ r. ⌜ (written r ≡ []) × (r .len ≡ 0) ⌝ }
 {
     Text {
-        bytes: [0; 131],
+        bytes: [0; 150],
         len: 0,
     }
 }
 
 fn with_byte(text: Text, b: u8) -> Text
-    requires { ⌜ text .len < 131 ⌝ }
+    requires { ⌜ text .len < 150 ⌝ }
     ensures { λ r. ⌜ Appended text (b ∷ []) r ⌝ }
 {
     let at = text.len;
@@ -40,7 +40,7 @@ fn with_byte(text: Text, b: u8) -> Text
 }
 
 fn with_word(text: Text, word: &[u8]) -> Text
-    requires { ⌜ text .len + length (now word) ≤ 131 ⌝ }
+    requires { ⌜ text .len + length (now word) ≤ 150 ⌝ }
     ensures { λ r. ⌜ Appended text (now (word .entry)) r ⌝ }
 {
     let mut longer = text;
@@ -59,7 +59,7 @@ fn hex_digit(digit: u8) -> u8
 }
 
 fn with_hex_digits(text: Text, n: u64) -> Text
-    requires { ⌜ text .len + 16 ≤ 131 ⌝ }
+    requires { ⌜ text .len + 16 ≤ 150 ⌝ }
     ensures { λ r. ⌜ Appended text (hexDigits 16 n) r ⌝ }
 {
     let mut longer = text;
@@ -73,14 +73,26 @@ fn with_hex_digits(text: Text, n: u64) -> Text
 
 // A blank and a double.
 fn with_cell(text: Text, x: f64) -> Text
-    requires { ⌜ text .len + 17 ≤ 131 ⌝ }
+    requires { ⌜ text .len + 17 ≤ 150 ⌝ }
     ensures { λ r. ⌜ Appended text (cell x) r × (r .len ≡ text .len + 17) ⌝ }
 {
     with_hex_digits(with_byte(text, b' '), pattern(x))
 }
 
+// A blank and 1, or 0 where there is no mark.
+fn with_mark(text: Text, mark: bool) -> Text
+    requires { ⌜ text .len + 2 ≤ 150 ⌝ }
+    ensures { λ r. ⌜ Appended text (markCell mark) r ⌝ }
+{
+    let blank = with_byte(text, b' ');
+    if mark {
+        return with_byte(blank, b'1');
+    }
+    with_byte(blank, b'0')
+}
+
 fn with_number(text: Text, n: u8) -> Text
-    requires { ⌜ (n < 100) × (text .len + 2 ≤ 131) ⌝ }
+    requires { ⌜ (n < 100) × (text .len + 2 ≤ 150) ⌝ }
     ensures { λ r. ⌜ Appended text (decimal n) r × (r .len ≤ text .len + 2) ⌝ }
 {
     if n < 10 {
@@ -101,18 +113,19 @@ fn station_line(figures: Figures) -> Text
 
 fn with_air_line(text: Text, figures: Figures) -> Text
     requires { ⌜ text .len ≡ 59 ⌝ }
-    ensures { λ r. ⌜ Appended text (airLine figures) r × (r .len ≡ 131) ⌝ }
+    ensures { λ r. ⌜ Appended text (airLine figures) r × (r .len ≡ 150) ⌝ }
 {
     let word = with_word(text, b"air");
     let density = with_cell(word, figures.density_kg_m3);
     let sound = with_cell(density, figures.speed_of_sound_mps);
     let pressure_altitude = with_cell(sound, figures.pressure_altitude_m);
     let matched_altitude = with_cell(pressure_altitude, figures.density_matched_altitude_m);
-    with_byte(matched_altitude, b'\n')
+    let fraction = with_cell(matched_altitude, figures.vapor_mole_fraction);
+    with_byte(with_mark(fraction, figures.in_cipm_range), b'\n')
 }
 
 fn refusal_line(refusal: Refusal) -> Text
-    ensures { λ r. ⌜ (written r ≡ refusalLine (numberOf refusal)) × (r .len ≤ 131) ⌝ }
+    ensures { λ r. ⌜ (written r ≡ refusalLine (numberOf refusal)) × (r .len ≤ 150) ⌝ }
 {
     let word = with_word(no_text(), b"refused ");
     with_byte(with_number(word, number(refusal)), b'\n')

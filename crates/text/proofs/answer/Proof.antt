@@ -5,7 +5,7 @@ use borrow.Author.Needs.{needs}
 use lib.ListN.{length-take}
 use lib.Seq.{take-all}
 use Rattle.refusal.specs.Outcomes.{Outcome}
-use Rattle.mast.specs.declared.figures.Figures.{Figures}
+use Rattle.station.specs.declared.figures.Figures.{Figures}
 use Rattle.mast.specs.Judge.{judge}
 use Rattle.text.specs.declared.Text.{Text}
 use Rattle.text.specs.Text.{Holds, answerText}

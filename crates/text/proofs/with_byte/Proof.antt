@@ -9,7 +9,7 @@ use Rattle.text.proofs.with_byte.Statement.{statement}
 use Rattle.text.proofs.with_byte.Tie as tie
 
 -- what owning the array tells
-room : (c : tie.Start) → length (c .args .text .bytes) ≡ 131
+room : (c : tie.Start) → length (c .args .text .bytes) ≡ 150
 room c = simp length-map at (c .good .0 .1 .1 .0 .1 .0 .1)
 
 returns : tie.Need-returns

@@ -37,13 +37,13 @@ part-line-start : tie.Need-part-line-start
 part-line-start c = search needs
 
 -- an array whose first k elements were written has room for nine words
-room : (k w : ℕ) (s t : List ℕ) → length s ≡ length (take k t) → length t ≡ 153 → w ≤ 9 → 17 * w ≤ length (s ++ drop k t)
+room : (k w : ℕ) (s t : List ℕ) → length s ≡ length (take k t) → length t ≡ 187 → w ≤ 9 → 17 * w ≤ length (s ++ drop k t)
 room k w s t e n h = rw (length-append, e, length-take, length-drop) (omega (arith, n))
 
 part-line-end : tie.Need-part-line-end
 part-line-end c =
     let back = c .before .before .before .before in
-    room 17 _ (back .before .read-full .last .1 .0) (replicate 153 0) (back .line2 .given) (length-replicate {A = ℕ} 153 0) (c .words .ensures .1)
+    room 17 _ (back .before .read-full .last .1 .0) (replicate 187 0) (back .line2 .given) (length-replicate {A = ℕ} 187 0) (c .words .ensures .1)
 
 read-full-requires-2 : tie.Need-read-full-requires-2
 read-full-requires-2 c κs = search needs

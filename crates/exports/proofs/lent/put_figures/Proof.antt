@@ -15,11 +15,12 @@ put-figures-spec =
     tie.close
     (tie.spec
     (λ c. search needs)
-    (λ c. le-trans {m = 7} (lit≤ tt) (search needs))
-    (λ c. le-trans {m = 7} (lit≤ tt) (search needs))
-    (λ c. le-trans {m = 7} (lit≤ tt) (search needs))
-    (λ c. le-trans {m = 7} (lit≤ tt) (search needs))
-    (λ c. le-trans {m = 7} (lit≤ tt) (search needs))
+    (λ c. le-trans {m = 8} (lit≤ tt) (search needs))
+    (λ c. le-trans {m = 8} (lit≤ tt) (search needs))
+    (λ c. le-trans {m = 8} (lit≤ tt) (search needs))
+    (λ c. le-trans {m = 8} (lit≤ tt) (search needs))
+    (λ c. le-trans {m = 8} (lit≤ tt) (search needs))
+    (λ c. le-trans {m = 8} (lit≤ tt) (search needs))
     (λ c. search needs)
     (λ c. search needs)
     returns)

@@ -2,9 +2,9 @@
 use borrow.Author.Needs.{needs}
 use mathlib.Core.Path.{refl, ap, _∙_}
 use Rattle.refusal.specs.Outcomes.{accepted}
-use Rattle.atmosphere.specs.declared.station.Air.{Air}
+use Rattle.air.specs.declared.station.Air.{Air}
 use Rattle.atmosphere.specs.declared.station.Reading.{Reading}
-use Rattle.atmosphere.specs.Station.{atmosphere}
+use Rattle.air.specs.Station.{atmosphere}
 use Rattle.exports.specs.Lent.{told, airValues, reading}
 use Rattle.exports.proofs.Statuses.{too-short, answered}
 use Rattle.exports.proofs.stations.station_air_calculate_atmosphere.Statement.{statement}

@@ -1,44 +1,35 @@
--- `mast::judge::air` meets its contract: its tests are the rows. Assumes nothing.
+-- `mast::judge::air` meets its contract, by the tests of the vapour and of the figures. Assumes nothing.
 use mathlib.Core.Path.{_≡_, refl, sym, ap, ap₂, _∙_}
 use mathlib.Core.Bool.{Bool, not, cond}
-use mathlib.Core.List.{[], _∷_}
-use lib.Ieee.{Float, lt}
-use Rattle.elementary.specs.Places.{places}
+use mathlib.Core.List.{[]}
+use lib.Ieee.{lt}
 use Rattle.elementary.specs.Decimals.{one}
-use Rattle.humid_air.specs.MoistAir.{moleFractionCelsius}
-use Rattle.refusal.specs.Outcomes.{accepted, refused}
-use Rattle.mast.specs.declared.figures.Figures.{Figures}
-use Rattle.mast.specs.declared.figures.Resolved.{Resolved}
-use Rattle.mast.specs.Figures.{shownTemperature, shownPressure, figuresWith, isAir}
+use Rattle.refusal.specs.Outcomes.{Outcome, accepted, refused}
+use Rattle.station.specs.declared.figures.Figures.{Figures}
+use Rattle.station.specs.declared.figures.StationFigures.{StationFigures}
+use Rattle.station.specs.declared.resolved.Resolved.{Resolved}
+use Rattle.station.specs.Figures.{stationFigures, isAir}
 use Rattle.mast.specs.Judge.{airOutcome}
 use borrow.Author.Needs.{needs}
 use Rattle.mast.proofs.judge.air.Statement.{statement}
 use Rattle.mast.proofs.judge.air.Tie as tie
 
--- by the tests of what is shown, t and p
-tested : (a : Resolved) {t p : Float} {b d : Bool} → lt one (moleFractionCelsius places t p (a .«humidity_percent»)) ≡ b → not (isAir (figuresWith a t p)) ≡ d → t ≡ shownTemperature a → p ≡ shownPressure a
-    → cond b (refused 14 []) (cond d (refused 15 []) (accepted (figuresWith a t p))) ≡ airOutcome a
+-- the answer of the figures f, by the tests
+abbrev by : Bool → Bool → StationFigures → Outcome Figures
+by steam not-air f = cond steam (refused 14 []) (cond not-air (refused 15 []) (accepted (f .figures)))
+
+tested : (a : Resolved) (f : StationFigures) {steam not-air : Bool} → f ≡ stationFigures a → lt one (f .«uncapped_vapor_mole_fraction») ≡ steam → not (isAir (f .figures)) ≡ not-air → by steam not-air f ≡ airOutcome a
 unfolding airOutcome
-tested a {t} {p} e f et ep =
-    ap₂ (λ (b d : Bool). cond b (refused 14 []) (cond d (refused 15 []) (accepted (figuresWith a t p)))) (sym e) (sym f)
-    ∙ ap₂ (λ (t p : Float). cond (lt one (moleFractionCelsius places t p (a .«humidity_percent»))) (refused 14 []) (cond (not (isAir (figuresWith a t p))) (refused 15 []) (accepted (figuresWith a t p)))) et ep
+tested a f e first second =
+    ap₂ (λ (b d : Bool). by b d f) (sym first) (sym second) ∙ ap (λ (g : StationFigures). by (lt one (g .«uncapped_vapor_mole_fraction»)) (not (isAir (g .figures))) g) e
 
 returns : tie.Need-returns
-returns c =
-    let read = c .before in
-    tested (read .before .before .before .args .resolved) (ap (lt one) (sym (read .water-vapor-mole-fraction-uncapped .ensures)) ∙ c .if1 .taken) refl (read .before .before .shown-temperature .ensures) (read .before .shown-pressure .ensures)
+returns c = tested _ _ (c .before .before .figures-of .ensures) (c .if1 .taken) refl
 
--- past the first test: the figures, and what the second test says of them
-figured : {d : Bool} (c : tie.After-is-air) → let read = c .before .before .before in let f = c .before .figures-with .result in
-    not (c .is-air .result) ≡ d → cond d (refused 15 []) (accepted f) ≡ airOutcome (read .before .before .before .args .resolved)
-figured {d} c e =
-    let test = c .before .before in
-    let read = test .before in
-    let a = read .before .before .before .args .resolved in
-    let f = c .before .figures-with .ensures in
-    ap (λ (g : Figures). cond d (refused 15 []) (accepted g)) f
-    ∙ tested a (ap (lt one) (sym (read .water-vapor-mole-fraction-uncapped .ensures)) ∙ test .if1 .left) (ap not (ap isAir (sym f) ∙ sym (c .is-air .ensures)) ∙ e)
-    (read .before .before .shown-temperature .ensures) (read .before .shown-pressure .ensures)
+-- past the first test
+figured : {d : Bool} (c : tie.After-is-air) → not (c .is-air .result) ≡ d
+    → let found = c .before .before .before .before in cond d (refused 15 []) (accepted (found .figures-of .result .figures)) ≡ airOutcome (found .before .args .resolved)
+figured c e = let test = c .before .before in tested _ _ (test .before .before .figures-of .ensures) (test .if1 .left) (ap not (sym (c .is-air .ensures)) ∙ e)
 
 returns-2 : tie.Need-returns-2
 returns-2 c = figured (c .before) (c .if2 .taken)
@@ -51,10 +42,7 @@ air-spec =
     tie.close
     (tie.spec
     (λ c κs. search needs)
-    (λ c κs. search needs)
-    (λ c κs. search needs)
     returns
-    (λ c κs. search needs)
     (λ c κs. search needs)
     returns-2
     returns-3)

@@ -9,7 +9,7 @@ use Rattle.record.specs.declared.readings.Readings.{Readings}
 use Rattle.record.specs.Fields.{humidity}
 use Rattle.record.specs.Readings.{entryOf}
 use Rattle.mast.specs.Checks.{humidityRows, present}
-use Rattle.mast.specs.Figures.{atStation}
+use Rattle.station.specs.Resolved.{atStation}
 use Rattle.mast.specs.Judge.{airOutcome, humidOutcome}
 use borrow.Author.Needs.{needs}
 use Rattle.mast.proofs.judge.humid_air.Statement.{statement}

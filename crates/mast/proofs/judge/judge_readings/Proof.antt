@@ -12,9 +12,10 @@ use Rattle.record.specs.declared.readings.Entry.the-variants.{Absent, Present}
 use Rattle.record.specs.declared.readings.Readings.{Readings}
 use Rattle.record.specs.Fields.{temperature, densityAltitude}
 use Rattle.record.specs.Readings.{entryOf}
-use Rattle.mast.specs.declared.figures.Figures.{Figures}
+use Rattle.station.specs.declared.figures.Figures.{Figures}
 use Rattle.mast.specs.Checks.{isClash, ordinaryRows}
-use Rattle.mast.specs.Figures.{ordinary, givenTemperature, figuresOf}
+use Rattle.station.specs.Resolved.{ordinary, givenTemperature}
+use Rattle.station.specs.Figures.{figuresOf}
 use Rattle.mast.specs.Judge.{airRows, airOutcome, wayRows, resolvedBy, judged, ordinaryOutcome, stationOutcome}
 use borrow.Author.Needs.{needs}
 use Rattle.mast.proofs.judge.judge_readings.Statement.{statement}

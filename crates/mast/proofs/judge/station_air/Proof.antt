@@ -13,7 +13,7 @@ use Rattle.record.specs.declared.readings.Readings.{Readings}
 use Rattle.record.specs.Fields.{temperature, humidity}
 use Rattle.record.specs.Readings.{entryOf}
 use Rattle.mast.specs.Checks.{humidityRows, present}
-use Rattle.mast.specs.Figures.{givenTemperature, atStation}
+use Rattle.station.specs.Resolved.{givenTemperature, atStation}
 use Rattle.mast.specs.Judge.{airOutcome, humidOutcome, stationOutcome}
 use borrow.Author.Needs.{needs}
 use Rattle.mast.proofs.judge.station_air.Statement.{statement}

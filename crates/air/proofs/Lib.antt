@@ -1,0 +1,3 @@
+-- The laws of the definitions, a file for each idea.
+pub mod Overrides
+pub mod Served

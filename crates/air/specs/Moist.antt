@@ -1,0 +1,27 @@
+-- Moist air with one saturation pressure at hand. Temperatures T in K, pressures p in Pa, humidities h in percent. Definitions only.
+use Prim.Native.Nat.{ℕ}
+use mathlib.Core.Path.{_≡_}
+use lib.Ieee.{Float}
+use Rattle.elementary.specs.Places.{places}
+use Rattle.elementary.specs.Decimals.{nought, hundred}
+use Rattle.elementary.specs.Operators.{_⊖_, _⊘_}
+use Rattle.humid_air.specs.Doubles.{clampDouble}
+use Rattle.humid_air.specs.MoistAir.{icePoint, neededPressure, densityMoleFraction, airDensity}
+use Rattle.air.specs.declared.moist.Saturation.{Saturation}
+use Rattle.air.specs.declared.moist.MoistDensity.{MoistDensity}
+
+-- the pressure at hand
+abbrev pub saturationAt : ℕ → Float → Float → Saturation
+saturationAt n T h = record { «temp_k» = T; «pressure_hpa» = neededPressure n T h }
+
+-- it serves air of the humidity h
+abbrev pub Serves : Saturation → Float → Type 0
+Serves s h = s .«pressure_hpa» ≡ neededPressure places (s .«temp_k») h
+
+-- the density by °C and hPa, and the mole fraction that it uses
+unfoldable pub densityOf : ℕ → Float → Float → Float → MoistDensity
+densityOf n T p h =
+    let h′ = clampDouble h nought hundred in
+    let t = T ⊖ icePoint in
+    let hPa = p ⊘ hundred in
+    record { «density_kg_m3» = airDensity n t hPa h′; «vapor_mole_fraction» = densityMoleFraction n t hPa h′ }

@@ -1,0 +1,129 @@
+// The eight figures of a station and their mark: what is shown of what is resolved, and the figures.
+ghost use mathlib.Core.Path.{_≡_};
+ghost use Rattle.elementary.specs.Places.{places};
+ghost use Rattle.elementary.specs.Decimals.{nought};
+ghost use Rattle.density_altitude.specs.Inverse.{isFiniteAbove};
+ghost use Rattle.station.specs.Figures.{shownTemperature, shownPressure, inCipmRange, stationFiguresWith, stationFigures, isAir};
+use super::resolved::Resolved;
+use air::figures::air_figures;
+use atmosphere::altitudes::pressure_altitude_m;
+use atmosphere::layers::calculate_icao_standard_atmosphere;
+use atmosphere::station::Reading;
+use humid_air::doubles::is_finite;
+
+// The figures, and whether the shown temperature and pressure lie in the range of CIPM-2007.
+pub struct Figures {
+    pub altitude_m: f64,
+    pub temperature_c: f64,
+    pub pressure_hpa: f64,
+    pub density_kg_m3: f64,
+    pub speed_of_sound_mps: f64,
+    pub pressure_altitude_m: f64,
+    pub density_matched_altitude_m: f64,
+    pub vapor_mole_fraction: f64,
+    pub in_cipm_range: bool,
+}
+
+// The figures of a station, with the mole fraction of vapour, uncapped, of the shown temperature and
+// pressure.
+pub struct StationFigures {
+    pub figures: Figures,
+    pub uncapped_vapor_mole_fraction: f64,
+}
+
+fn shown_temperature(resolved: Resolved) -> f64
+    ensures { λ r. ⌜ r ≡ shownTemperature resolved ⌝ }
+{
+    let temperature = resolved.temperature;
+    match temperature {
+        Reading::Given(t) => t,
+        Reading::FromLayer => {
+            calculate_icao_standard_atmosphere(resolved.altitude_m).temperature_k - 273.15
+        }
+    }
+}
+
+fn shown_pressure(resolved: Resolved) -> f64
+    ensures { λ r. ⌜ r ≡ shownPressure resolved ⌝ }
+{
+    let pressure = resolved.pressure;
+    match pressure {
+        Reading::Given(p) => p,
+        Reading::FromLayer => {
+            calculate_icao_standard_atmosphere(resolved.altitude_m).pressure_pa / 100.0
+        }
+    }
+}
+
+// Whether CIPM-2007 covers air at a temperature and a pressure.
+fn in_cipm_range(temperature_c: f64, pressure_hpa: f64) -> bool
+    ensures { λ r. ⌜ r ≡ inCipmRange «temperature_c» «pressure_hpa» ⌝ }
+{
+    (temperature_c >= 15.0)
+        & (temperature_c <= 27.0)
+        & (pressure_hpa >= 600.0)
+        & (pressure_hpa <= 1100.0)
+}
+
+// Density, sound speed and mole fraction are those of the readings; the two altitudes and the mark are
+// those of what is shown.
+fn figures_with(resolved: Resolved, temperature_c: f64, pressure_hpa: f64) -> StationFigures
+    ensures { λ r. ⌜ r ≡ stationFiguresWith resolved «temperature_c» «pressure_hpa» ⌝ }
+{
+    let temperature = resolved.temperature;
+    let pressure = resolved.pressure;
+    let shown = air_figures(
+        resolved.altitude_m,
+        temperature,
+        pressure,
+        resolved.humidity_percent,
+        temperature_c,
+        pressure_hpa,
+    );
+    let air = shown.air;
+    StationFigures {
+        figures: Figures {
+            altitude_m: resolved.altitude_m,
+            temperature_c,
+            pressure_hpa,
+            density_kg_m3: air.density_kg_m3,
+            speed_of_sound_mps: air.speed_of_sound_mps,
+            pressure_altitude_m: pressure_altitude_m(pressure_hpa),
+            density_matched_altitude_m: shown.density_matched_altitude_m,
+            vapor_mole_fraction: air.vapor_mole_fraction,
+            in_cipm_range: in_cipm_range(temperature_c, pressure_hpa),
+        },
+        uncapped_vapor_mole_fraction: shown.uncapped_vapor_mole_fraction,
+    }
+}
+
+// The figures of a station and their mark, and the mole fraction of vapour, uncapped, of what is shown.
+pub fn figures_of(resolved: Resolved) -> StationFigures
+    ensures { λ r. ⌜ r ≡ stationFigures resolved ⌝ }
+{
+    figures_with(
+        resolved,
+        shown_temperature(resolved),
+        shown_pressure(resolved),
+    )
+}
+
+fn is_positive(x: f64) -> bool
+    ensures { λ r. ⌜ r ≡ isFiniteAbove nought x ⌝ }
+{
+    is_finite(x) & (x > 0.0)
+}
+
+// Whether all figures are finite, and pressure, density and sound speed above 0.
+pub fn is_air(figures: Figures) -> bool
+    ensures { λ r. ⌜ r ≡ isAir figures ⌝ }
+{
+    is_finite(figures.altitude_m)
+        & is_finite(figures.temperature_c)
+        & is_positive(figures.pressure_hpa)
+        & is_positive(figures.density_kg_m3)
+        & is_positive(figures.speed_of_sound_mps)
+        & is_finite(figures.pressure_altitude_m)
+        & is_finite(figures.density_matched_altitude_m)
+        & is_finite(figures.vapor_mole_fraction)
+}
