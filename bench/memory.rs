@@ -1,6 +1,6 @@
 //! Peak memory and stack of `station_air`, by the length of its record. Linux only.
 
-use crate::record_fields::record;
+use crate::field::record;
 use std::fs::{self, File};
 use std::io::{self, Read, Write};
 use std::process::Command;

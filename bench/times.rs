@@ -2,9 +2,9 @@
 //! integers, and the stock source, on the same inputs in one run.
 
 use crate::exponents::EXPONENTS;
+use crate::field::{record, Field};
 use crate::places::places;
 use crate::random::Random;
-use crate::record_fields::{record, Field};
 use crate::rules;
 use crate::{exports, ruled, stock};
 use std::hint::black_box;

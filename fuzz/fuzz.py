@@ -24,10 +24,25 @@ def value(random):
     return random.choice(VALUES) if random.random() < 0.5 else random.uniform(-500, 5000)
 
 
+COUNTS = [0, 1, 5_000, 15_050, 100_000, 1_013_100, 1_013_250, -273_150, -273_149, 2**31 - 1, -(2**31)]
+
+
+def count(random):
+    return random.choice(COUNTS) if random.random() < 0.5 else random.randrange(-500_000, 5_000_000)
+
+
 def field(random):
-    tag = random.randrange(1, 8) if random.random() < 0.95 else random.randrange(256)
-    length = 8 if random.random() < 0.95 else random.randrange(65536)
-    data = pack(">d", value(random)) if random.random() < 0.9 else random.randbytes(8)
+    """A double's or a count's."""
+    meaning = random.randrange(1, 8)
+    if random.random() < 0.6:
+        tag, data = meaning, pack(">d", value(random))
+    else:
+        tag, data = 0x10 + meaning, pack(">i", count(random))
+    if random.random() < 0.05:
+        tag = random.randrange(256)
+    length = len(data) if random.random() < 0.95 else random.choice([4, 8, random.randrange(65536)])
+    if random.random() < 0.1:
+        data = random.randbytes(len(data))
     return bytes([tag]) + length.to_bytes(2, "big") + data
 
 

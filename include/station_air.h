@@ -13,11 +13,11 @@
  * true or false, in C 1 or 0.
  *
  * Given: no function allocates, keeps anything from one call to the next, or calls anything else,
- * so several threads may call at once, each with a lent array of its own. Every call ends.
+ * so several threads may call at once, each with lent arrays and numbers of its own. Every call ends.
  *
  * Arrays. An array goes as a pointer and the number of its elements, and the pointer points to that
- * many elements; with the number 0 it may be NULL. What a call takes and what it is lent do not
- * overlap.
+ * many elements; with the number 0 it may be NULL. Arrays and numbers that a call writes overlap
+ * nothing else that it takes. An array that is only read is left as it was.
  *
  * Names. "Density altitude" is the FAA's: of station_air_for_density_altitude,
  * station_air_faa_density_altitude_ft and a record's tag 06. The seventh figure is the
@@ -34,13 +34,13 @@ extern "C" {
 #endif
 
 /* Grows whenever an answer to some call can differ from before. */
-#define STATION_AIR_VERSION 5
+#define STATION_AIR_VERSION 6
 
 /* ---- several numbers, with a status ---- */
 
-/* A function that hands out several numbers writes them to the first places of a lent array, and
- * returns a status. A status says what the first places hold; those that it does not name, and all
- * others, keep what they held. More refusals may come between 15 and 255. */
+/* A function that hands out several numbers, or bytes, writes them to the first places of a lent
+ * array, and returns a status. A status says what the first places hold; those that it does not name,
+ * and all others, keep what they held. Test for 0: more refusals may come between 22 and 254. */
 enum station_air_status {
     /* the figures */
     STATION_AIR_FIGURES = 0,
@@ -76,15 +76,32 @@ enum station_air_status {
     STATION_AIR_TOO_MUCH_VAPOR = 14,
     /* a figure is not finite, or pressure, density or speed of sound is not above 0 */
     STATION_AIR_NOT_AIR = 15,
-    /* no refusal: the lent array has fewer places than the function needs, whatever the other
-     * arguments, and nothing is written */
+    /* the page has fewer than 1,530 bytes */
+    STATION_AIR_PAGE_TOO_SHORT = 16,
+    /* a figure of the setting sheet is wider than its column */
+    STATION_AIR_TOO_WIDE = 17,
+    /* the buffer is shorter than the record that is to be written */
+    STATION_AIR_BUFFER_TOO_SHORT = 18,
+    /* to the strict judge: a tag is below the one before it */
+    STATION_AIR_TAG_FALLS = 19,
+    /* no count of thousandths in the signed 32-bit range gives exactly this double */
+    STATION_AIR_NO_COUNT = 20,
+    /* a field is in one or two of three records */
+    STATION_AIR_FIELD_NOT_IN_ALL = 21,
+    /* an accepted record has no temperature or no measured station pressure */
+    STATION_AIR_NO_READING_TO_CHANGE = 22,
+    /* no refusal: a reading's form is unknown, and nothing is written */
+    STATION_AIR_UNKNOWN_FORM = 254,
+    /* no refusal: an array has fewer places than the function needs, whatever the other arguments,
+     * and nothing is written */
     STATION_AIR_TOO_SHORT = 255
 };
 
-/* The places of a refusal's values. */
+/* The places of a refusal's values. From 16 on a refusal has none. */
 enum station_air_value { STATION_AIR_VALUE = 0, STATION_AIR_RESOLVED_ALTITUDE_M = 1 };
 
-/* The places of station_air_judge; station_air_for_density_altitude has the first three. */
+/* The places of station_air_judge, station_air_judge_strictly and station_air_vote;
+ * station_air_for_density_altitude has the first three. */
 enum station_air_figure {
     STATION_AIR_ALTITUDE_M = 0,
     STATION_AIR_TEMPERATURE_C = 1,
@@ -102,13 +119,44 @@ enum station_air_standard { STATION_AIR_STANDARD_TEMPERATURE_K = 0, STATION_AIR_
 /* The places of station_air_calculate_atmosphere. */
 enum station_air_air { STATION_AIR_AIR_DENSITY_KG_M3 = 0, STATION_AIR_AIR_SPEED_OF_SOUND_MPS = 1 };
 
+/* The places of the readings that station_air_write takes: a field's tag less 1. */
+enum station_air_reading {
+    STATION_AIR_READING_ALTITUDE_M = 0,
+    STATION_AIR_READING_TEMPERATURE_C = 1,
+    STATION_AIR_READING_STATION_PRESSURE_HPA = 2,
+    STATION_AIR_READING_QNH_HPA = 3,
+    STATION_AIR_READING_HUMIDITY_PERCENT = 4,
+    STATION_AIR_READING_DENSITY_ALTITUDE_M = 5,
+    STATION_AIR_READING_MEASURED_PRESSURE_HPA = 6
+};
+
+/* The form of a reading. */
+enum station_air_form { STATION_AIR_FORM_ABSENT = 0, STATION_AIR_FORM_DOUBLE = 1, STATION_AIR_FORM_COUNT = 2 };
+
+/* The places of the answer of station_air_next_trim_class. */
+enum station_air_trim {
+    STATION_AIR_TRIM_CLASS = 0,
+    STATION_AIR_TRIM_TAG = 1,
+    STATION_AIR_TRIM_TENTHS = 2,
+    STATION_AIR_TRIM_NEW_CLASS = 3
+};
+
 /* How many places each function needs. */
 enum station_air_places {
     STATION_AIR_JUDGE_PLACES = 8,
     STATION_AIR_FOR_DENSITY_ALTITUDE_PLACES = 3,
     STATION_AIR_STANDARD_ATMOSPHERE_PLACES = 2,
-    STATION_AIR_CALCULATE_ATMOSPHERE_PLACES = 2
+    STATION_AIR_CALCULATE_ATMOSPHERE_PLACES = 2,
+    /* of the forms, and of the values */
+    STATION_AIR_WRITE_PLACES = 7,
+    STATION_AIR_VOTE_PLACES = 8,
+    STATION_AIR_NEXT_TRIM_CLASS_PLACES = 2,
+    STATION_AIR_NEXT_TRIM_CLASS_ANSWER_PLACES = 4,
+    STATION_AIR_SETTING_SHEET_PLACES = 1
 };
+
+/* How many bytes a setting sheet has, and how many a record that is written has at most. */
+enum station_air_bytes { STATION_AIR_SETTING_SHEET_BYTES = 1530, STATION_AIR_RECORD_BYTES_AT_MOST = 77 };
 
 /* Judges a mast record, all of its bytes (docs/RECORD.md has the form of a record). Needs 8 places.
  * 0: altitude m, temperature degrees Celsius, station pressure hPa, density kg/m3, speed of sound
@@ -121,6 +169,74 @@ enum station_air_places {
  * left as it was. */
 uint32_t station_air_judge(const uint8_t *record, size_t record_length, double *places, size_t places_length,
                            bool *in_range);
+
+/* As station_air_judge, of a record whose tags rise, as station_air_write writes them. 19: a tag is below
+ * the one before it; in each field it is checked after 8. Every other record has the status, the
+ * figures, the values and the mark that station_air_judge gives. */
+uint32_t station_air_judge_strictly(const uint8_t *record, size_t record_length, double *places, size_t places_length,
+                                    bool *in_range);
+
+/* Judges three masts' records as one. Each field takes the middle of the three values, minus zero
+ * before plus zero, and the voted record is judged as station_air_judge does it. Needs 8 places. 0: the
+ * figures, and the mark in `in_range`, as station_air_judge has them. 1 to 15: the refusal of the first
+ * record that station_air_judge refuses by itself, or that of the voted record. 21: no record is
+ * refused, but a field is in one or two of them. `mast` points to a number that is then set to the
+ * mast whose record is refused, 1 to 3, and to 0 where none is, with 0 and 21 too. 255: fewer than 8
+ * places; it leaves `mast`. Every status but 0 leaves `in_range` as it was. */
+uint32_t station_air_vote(const uint8_t *first, size_t first_length, const uint8_t *second, size_t second_length,
+                          const uint8_t *third, size_t third_length, double *places, size_t places_length,
+                          bool *in_range, uint32_t *mast);
+
+/* How close the next trim class is: the smallest change of a record's temperature or measured station
+ * pressure that gives another class. The class is how many of the densities 1.00, 1.05, 1.10, 1.15,
+ * 1.20 and 1.25 kg/m3 are at or below the record's. A change is k tenths of a degree or of a
+ * hectopascal, k from 1 to 200, up or down: +-k / 10 is added to the value, and the record is judged
+ * again; one that is refused does not count. Of equal k temperature comes before pressure, up before
+ * down. Needs 2 places and 4 of the answer. 0: the answer is the class, the tag of the field to change,
+ * 2 or 7, the tenths with their sign, and the class that they give; where none of the changes gives
+ * another, the tag and the tenths are 0 and the fourth number is the class again. The places keep what
+ * they held. 1 to 15: station_air_judge refuses the record, with these values. 22: it is accepted, but
+ * has no temperature or no measured pressure. A refusal leaves the answer. 255: fewer places of the one
+ * or the other. */
+uint32_t station_air_next_trim_class(const uint8_t *record, size_t record_length, double *places, size_t places_length,
+                                     int32_t *answer, size_t answer_length);
+
+/* Writes the record of readings to the start of `out`: the fields that are there, rising by tag. Forms
+ * values and counts have a place for each reading; the form says whether it is absent, 0, a double, 1,
+ * whose value counts, or a count of thousandths, 2, whose count counts; the other numbers of the reading
+ * count for nothing. Any readings may be written, such as station_air_judge refuses too; NaN is written
+ * as 7FF8000000000000. 0: `length` points to a number that is set to how many bytes the record has, 0
+ * where all are absent. 18: `out` has fewer. 254: one of the first 7 forms is none of these. 255: fewer
+ * than 7 forms, 7 values or 7 counts. Every status but 0 leaves `out` and `length` as they were, and 0 the
+ * bytes after the record. */
+uint32_t station_air_write(const uint8_t *forms, size_t forms_length, const double *values, size_t values_length,
+                           const int32_t *counts, size_t counts_length, uint8_t *out, size_t out_length,
+                           size_t *length);
+
+/* Writes a record converted to counts, or to doubles, to the start of `out`, its fields in their old order;
+ * a field that is in the asked form stays as it is. 0: `length` points to a number that is set to how many
+ * bytes the record has now. 5 to 8: the record is unreadable. 20, to counts only: no count of the signed
+ * 32-bit range gives exactly one of its doubles; minus zero, NaN and the infinities have none. Last, 18:
+ * `out` has fewer bytes. Every status but 0 leaves `out` and `length` as they were, and 0 the bytes after
+ * the record. station_air_judge answers the same before and after. `out` and the record do not overlap. */
+uint32_t station_air_to_counts(const uint8_t *record, size_t record_length, uint8_t *out, size_t out_length,
+                               size_t *length);
+uint32_t station_air_to_doubles(const uint8_t *record, size_t record_length, uint8_t *out, size_t out_length,
+                                size_t *length);
+
+/* Writes the setting sheet of a station to the first 1,530 bytes of `page`, in ASCII: 51 rows, from -10 to
+ * 40 degrees Celsius by whole degrees. A row is 30 bytes: temperature in 6 places with one decimal,
+ * density kg/m3 in 7 with four, speed of sound m/s in 6 with one, density-matched altitude in 7 as whole
+ * metres, at the right of their places, a blank between two of them and a newline last. Each is the
+ * figure's exact value, rounded to nearest, halves away from zero; one that rounds to zero has no sign.
+ * The figures are those of station_air_judge, with temperature and pressure as given, no defaults.
+ * Needs 1 place. 0: the sheet is written. 16: the page has fewer than 1,530 bytes, whatever the inputs.
+ * 11: altitude, pressure or humidity is not finite. 12: the pressure is at most 0. 13: the humidity is
+ * below 0 or above 100. Of these the first, input by input, counts, and places[STATION_AIR_VALUE] is the
+ * value. 14, 15, 17: by the first row that has one, in this order. Every status but 0 leaves the page as
+ * it was, and 0 the bytes after the sheet. 255: no place. */
+uint32_t station_air_setting_sheet(double altitude_m, double pressure_hpa, double humidity_percent, uint8_t *page,
+                                   size_t page_length, double *places, size_t places_length);
 
 /* The station whose air has a density altitude by the FAA's rule, with the temperature that is given
  * or, where `temperature_given` is false, the standard one; `temperature_c` then counts for nothing.

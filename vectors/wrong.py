@@ -14,6 +14,9 @@ UNIT = 1 << 52  # of a log word's whole part
 INPUTS = {0x03: 2, 0x04: 3, 0x05: 4, 0x07: 3, 0x08: 3, 0x0A: 3, 0x0B: 2, 0x0C: 3, 0x0D: 6, 0x10: 2, 0x11: 2, 0x12: 2, 0x16: 2, 0x17: 3, 0x19: 3, 0x1A: 3}
 FLAGS = {0x0D: [2, 4], 0x19: [2], 0x1A: [2]}
 
+# 0, and the refusals of documents 01 and 02.
+NUMBERS = 23
+
 
 def text(words):
     return " ".join(f"{word:016x}" for word in words) + "\n"
@@ -114,25 +117,143 @@ def source(lines, other):
     yield lines[0][:-1]
 
 
-def records(lines):
-    """Each refusal's number and words, figures and mark; the record's digits out of form."""
+def with_bytes(lines, kind_of):
+    """Pairs of a line of words and one of bytes, by kind."""
     kinds = {}
     for line, data in zip(lines[::2], lines[1::2]):
-        words = words_of(line)
-        kinds.setdefault((words[0], words[9]), []).append((line, data))
-    for kind in kinds.values():
+        kinds.setdefault(kind_of(words_of(line)), []).append((line, data))
+    return kinds.values()
+
+
+def broken_bytes(kind):
+    """The bytes out of form: no digit, no newline."""
+    line, data = next((pair for pair in kind if len(pair[1]) > 1), kind[0])
+    if len(data) > 1:
+        yield line + "g" + data[1:]
+    yield line + data[:-1] + "0"
+
+
+def records(lines):
+    """Each refusal's number and words, figures and mark; the record's digits out of form."""
+    for kind in with_bytes(lines, lambda words: (words[0], words[9])):
         for line, data in picked(kind):
             words = words_of(line)
             for at in range(9):
                 yield with_word(words, at, changed(words[at])) + data
-            yield with_word(words, 0, (words[0] + 1) % 16) + data
+            yield with_word(words, 0, (words[0] + 1) % NUMBERS) + data
             yield with_word(words, 9, words[9] ^ 1) + data
             yield with_word(words, 9, words[9] + 2) + data
-        line, data = next((pair for pair in kind if len(pair[1]) > 1), kind[0])
-        if len(data) > 1:
-            yield line + "g" + data[1:]
-        yield line + data[:-1] + "0"
+        yield from broken_bytes(kind)
     yield line + data[:-1]
+
+
+def other_byte(data, at):
+    """The byte at a place with its last bit changed."""
+    return data[: 2 * at] + f"{int(data[2 * at : 2 * at + 2], 16) ^ 1:02x}" + data[2 * at + 2 :]
+
+
+def other_buffers(buffer, length):
+    """The buffer's first and last byte changed, and the two on either side of the record's end."""
+    room = len(buffer) // 2
+    for at in sorted({0, length - 1, length, room - 1}):
+        if 0 <= at < room:
+            yield other_byte(buffer, at)
+
+
+def writes(lines):
+    """Status, length and buffer; an unknown form."""
+    for kind in with_bytes(lines, lambda words: (words[1], words[3:10].count(0))):
+        for line, data in picked(kind):
+            words = words_of(line)
+            yield with_word(words, 1, (words[1] + 1) % NUMBERS) + data
+            yield with_word(words, 2, words[2] + 1) + data
+            yield with_word(words, 3, 3) + data
+            for other in other_buffers(data, words[2]):
+                yield line + other
+        yield from broken_bytes(kind)
+    yield line + data[:-1]
+
+
+def votes(lines):
+    """Status, mast, figures or values, and mark; the records' digits out of form."""
+    kinds = {}
+    for i in range(0, len(lines), 4):
+        words = words_of(lines[i])
+        kinds.setdefault((words[0], words[10]), []).append((lines[i], "".join(lines[i + 1 : i + 4])))
+    for kind in kinds.values():
+        for line, data in picked(kind):
+            words = words_of(line)
+            yield with_word(words, 0, (words[0] + 1) % NUMBERS) + data
+            yield with_word(words, 1, (words[1] + 1) % 4) + data
+            for at in range(2, 10):
+                yield with_word(words, at, changed(words[at])) + data
+            yield with_word(words, 10, words[10] ^ 1) + data
+            yield with_word(words, 10, words[10] + 2) + data
+        yield from broken_bytes(kind)
+    yield line + data[:-1]
+
+
+def trims(lines):
+    """Status, classes, tag and tenths, or values; the tenths' sign; the record's digits out of form."""
+    for kind in with_bytes(lines, lambda words: tuple(words[:3])):
+        # one of those without a change, which cost 801 judgements
+        for line, data in picked(kind) if words_of(kind[0][0])[2] else kind[:1]:
+            words = words_of(line)
+            yield with_word(words, 0, (words[0] + 1) % NUMBERS) + data
+            for at in range(1, 5):
+                yield with_word(words, at, changed(words[at])) + data
+            if words[0] == 0 and words[3]:
+                yield with_word(words, 3, -words[3] % 2**64) + data
+        yield from broken_bytes(kind)
+    yield line + data[:-1]
+
+
+def sheets(lines):
+    """Status, value and page; the first byte, the last of the page, and the last of the buffer."""
+    for kind in with_bytes(lines, lambda words: words[4]):
+        for line, page in picked(kind):
+            words = words_of(line)
+            yield with_word(words, 4, (words[4] + 1) % NUMBERS) + page
+            yield with_word(words, 5, changed(words[5])) + page
+            for other in other_buffers(page, 1530):
+                yield line + other
+        yield from broken_bytes(kind)
+    yield line + page[:-1]
+
+
+def decimals(lines):
+    """A byte more, a byte less, another number of decimals, and each byte of the text."""
+    for kind in with_bytes(lines, lambda words: (words[0], words[2])):
+        line, data = kind[len(kind) // 2]
+        words = words_of(line)
+        yield with_word(words, 2, words[2] + 1) + data[:-1] + "30\n"
+        if words[2] > 0:
+            yield with_word(words, 2, words[2] - 1) + data[:-3] + "\n"
+            yield with_word(words, 0, (words[0] + 1) % 7) + data
+        for at in range(words[2]):
+            yield line + other_byte(data, at)
+    yield from broken_bytes(kind)
+    yield line + data[:-1]
+
+
+def conversions(lines):
+    """Status, length and buffer; a conversion that there is none; the record's and the buffer's digits out of form."""
+    kinds = {}
+    for line, record, buffer in zip(lines[::3], lines[1::3], lines[2::3]):
+        words = words_of(line)
+        kinds.setdefault((words[0], words[3]), []).append((line, record, buffer))
+    for kind in kinds.values():
+        for line, record, buffer in picked(kind):
+            words = words_of(line)
+            yield with_word(words, 0, words[0] + 2) + record + buffer
+            yield with_word(words, 3, (words[3] + 1) % NUMBERS) + record + buffer
+            yield with_word(words, 4, words[4] + 1) + record + buffer
+            for other in other_buffers(buffer, words[4]):
+                yield line + record + other
+        for broken_record in broken_bytes([(line, record)]):
+            yield broken_record + buffer
+        yield from broken_bytes([(line + record, buffer)])
+    yield line + record + buffer[:-1]
 
 
 def main(folder):
@@ -151,7 +272,14 @@ def main(folder):
     parts = ["layers", "humid", "station", "altitudes", "inverse"]
     for part, other in zip(parts, parts[1:] + parts[:1]):
         write(f"source_{part}", source(lines(f"source_{part}"), lines(f"source_{other}")[0]))
-    write("records", records(lines("records")))
+    for name in ["records", "strict"]:
+        write(name, records(lines(name)))
+    write("writes", writes(lines("writes")))
+    write("conversions", conversions(lines("conversions")))
+    write("sheets", sheets(lines("sheets")))
+    write("decimals", decimals(lines("decimals")))
+    write("votes", votes(lines("votes")))
+    write("trims", trims(lines("trims")))
     for name in ["published", "round_trips"]:
         wrong = [line for kind in by_number(lines(name)).values() for line in ends(kind, 4)]
         write(name, [line for line in wrong if line.endswith("\n") or line.endswith(" ")] + [wrong[-1]])

@@ -5,6 +5,7 @@
 
 #include <math.h>
 #include <stdio.h>
+#include <string.h>
 
 #define UNTOUCHED -1.5
 
@@ -32,10 +33,20 @@ static void clear(double *places, size_t length) {
     }
 }
 
-int main(void) {
-    static const uint8_t sea_level[11] = {1, 0, 8};
-    static const uint8_t unknown_tag[3] = {8, 0, 8};
-    enum { ROOM = STATION_AIR_JUDGE_PLACES + 1 };
+enum { ROOM = STATION_AIR_JUDGE_PLACES + 1 };
+
+static const uint8_t sea_level[11] = {1, 0, 8};
+static const uint8_t unknown_tag[3] = {8, 0, 8};
+/* 02 before 01 */
+static const uint8_t falling[22] = {2, 0, 8, 0x40, 0x34, 0, 0, 0, 0, 0, 0, 1, 0, 8};
+/* 0 m, 20 degrees, 1,000 hPa measured */
+static const uint8_t measured[33] = {
+    1, 0, 8, 0,    0,    0,    0, 0, 0, 0, 0, /* altitude */
+    2, 0, 8, 0x40, 0x34, 0,    0, 0, 0, 0, 0, /* temperature */
+    7, 0, 8, 0x40, 0x8F, 0x40, 0, 0, 0, 0, 0, /* measured pressure */
+};
+
+static void judge(void) {
     double places[ROOM];
     bool in_range = true;
 
@@ -46,9 +57,6 @@ int main(void) {
     expect(station_air_judge(sea_level, sizeof sea_level, NULL, 0, &in_range) == STATION_AIR_TOO_SHORT,
            "judge, no places at NULL");
     expect(station_air_judge(NULL, 0, NULL, 0, &in_range) == STATION_AIR_TOO_SHORT, "judge, both at NULL");
-    expect(station_air_for_density_altitude(0, false, 0, NULL, 0) == STATION_AIR_TOO_SHORT, "density altitude, NULL");
-    expect(station_air_standard_atmosphere(0, NULL, 0) == STATION_AIR_TOO_SHORT, "standard atmosphere, NULL");
-    expect(station_air_calculate_atmosphere(0, false, 0, false, 0, 0, NULL, 0) == STATION_AIR_TOO_SHORT, "air, NULL");
 
     expect(station_air_judge(unknown_tag, sizeof unknown_tag, places, STATION_AIR_JUDGE_PLACES - 1, &in_range)
                == STATION_AIR_TOO_SHORT,
@@ -64,7 +72,173 @@ int main(void) {
            "the standard atmosphere at sea level");
     expect(places[STATION_AIR_VAPOR_MOLE_FRACTION] == 0 && in_range, "dry air in the range of CIPM-2007");
     expect(untouched(places, STATION_AIR_JUDGE_PLACES, ROOM), "the places past the figures");
+}
 
+static void judge_strictly(void) {
+    double places[ROOM];
+    bool in_range = true;
+
+    clear(places, ROOM);
+    expect(station_air_judge_strictly(NULL, 0, places, ROOM, &in_range) == STATION_AIR_NO_ALTITUDE,
+           "strictly, an empty record at NULL");
+    expect(station_air_judge_strictly(NULL, 0, NULL, 0, &in_range) == STATION_AIR_TOO_SHORT, "strictly, both at NULL");
+    expect(station_air_judge_strictly(falling, sizeof falling, places, STATION_AIR_JUDGE_PLACES - 1, &in_range)
+               == STATION_AIR_TOO_SHORT,
+           "strictly, a place too few");
+    expect(station_air_judge_strictly(falling, sizeof falling, places, ROOM, &in_range) == STATION_AIR_TAG_FALLS,
+           "a tag that falls");
+    expect(untouched(places, 0, ROOM) && in_range, "a tag that falls writes nothing");
+    expect(station_air_judge(falling, sizeof falling, places, ROOM, &in_range) == STATION_AIR_FIGURES,
+           "a tag that falls, to the first judge");
+    clear(places, ROOM);
+    in_range = false;
+    expect(station_air_judge_strictly(measured, sizeof measured, places, ROOM, &in_range) == STATION_AIR_FIGURES,
+           "rising tags");
+    expect(places[STATION_AIR_PRESSURE_HPA] == 1000 && in_range, "and their figures");
+}
+
+static void write_record(void) {
+    uint8_t forms[STATION_AIR_WRITE_PLACES] = {0};
+    double values[STATION_AIR_WRITE_PLACES] = {0};
+    uint8_t out[STATION_AIR_RECORD_BYTES_AT_MOST + 1];
+    const int32_t counts[7] = {0};
+    size_t length = 5;
+
+    memset(out, 0xAA, sizeof out);
+    expect(station_air_write(NULL, 0, values, 7, counts, 7, out, sizeof out, &length) == STATION_AIR_TOO_SHORT, "forms at NULL");
+    expect(station_air_write(forms, 7, NULL, 0, counts, 7, out, sizeof out, &length) == STATION_AIR_TOO_SHORT, "values at NULL");
+    expect(station_air_write(forms, 7, values, 6, counts, 7, out, sizeof out, &length) == STATION_AIR_TOO_SHORT,
+           "a value too few");
+    expect(station_air_write(forms, 7, values, 7, NULL, 0, out, sizeof out, &length) == STATION_AIR_TOO_SHORT,
+           "counts at NULL");
+    forms[STATION_AIR_READING_MEASURED_PRESSURE_HPA] = 255;
+    expect(station_air_write(forms, 7, values, 7, counts, 7, out, sizeof out, &length) == STATION_AIR_UNKNOWN_FORM,
+           "an unknown form");
+    forms[STATION_AIR_READING_MEASURED_PRESSURE_HPA] = STATION_AIR_FORM_ABSENT;
+    forms[STATION_AIR_READING_ALTITUDE_M] = STATION_AIR_FORM_DOUBLE;
+    expect(station_air_write(forms, 7, values, 7, counts, 7, NULL, 0, &length) == STATION_AIR_BUFFER_TOO_SHORT,
+           "a buffer at NULL");
+    expect(station_air_write(forms, 7, values, 7, counts, 7, out, 10, &length) == STATION_AIR_BUFFER_TOO_SHORT, "a byte too few");
+    expect(length == 5 && out[0] == 0xAA && out[9] == 0xAA, "buffer and length are left as they were");
+    expect(station_air_write(forms, 7, values, 7, counts, 7, out, 11, &length) == STATION_AIR_FIGURES, "a record that just fits");
+    expect(length == 11 && memcmp(out, sea_level, 11) == 0 && out[11] == 0xAA, "its bytes, and the byte after them");
+    memset(forms, STATION_AIR_FORM_DOUBLE, sizeof forms);
+    expect(station_air_write(forms, 7, values, 7, counts, 7, out, sizeof out, &length) == STATION_AIR_FIGURES, "all readings");
+    expect(length == STATION_AIR_RECORD_BYTES_AT_MOST && out[66] == 7 && out[77] == 0xAA, "the longest record");
+    memset(forms, STATION_AIR_FORM_ABSENT, sizeof forms);
+    expect(station_air_write(forms, 7, values, 7, counts, 7, NULL, 0, &length) == STATION_AIR_FIGURES && length == 0,
+           "no reading, at NULL");
+    forms[STATION_AIR_READING_ALTITUDE_M] = STATION_AIR_FORM_COUNT;
+    expect(station_air_write(forms, 7, values, 7, counts, 7, out, 7, &length) == STATION_AIR_FIGURES && length == 7,
+           "a count that just fits");
+    expect(out[0] == 0x11 && out[2] == 4, "its tag and its length");
+}
+
+static void convert(void) {
+    const uint8_t counted[7] = {0x11, 0, 4, 0, 0, 0, 0};
+    uint8_t out[11];
+    size_t length = 5;
+
+    memset(out, 0xAA, sizeof out);
+    expect(station_air_to_counts(NULL, 0, NULL, 0, &length) == STATION_AIR_FIGURES && length == 0,
+           "the empty record, at NULL");
+    length = 5;
+    expect(station_air_to_counts(sea_level, 11, out, 6, &length) == STATION_AIR_BUFFER_TOO_SHORT && length == 5,
+           "an output that is a byte short");
+    expect(station_air_to_counts(sea_level, 10, out, 11, &length) == STATION_AIR_CUT && out[0] == 0xAA,
+           "a record that is cut");
+    expect(station_air_to_counts(sea_level, 11, out, 7, &length) == STATION_AIR_FIGURES && length == 7 &&
+               memcmp(out, counted, 7) == 0 && out[7] == 0xAA,
+           "a record in counts, and the byte after it");
+    expect(station_air_to_doubles(counted, 7, out, 11, &length) == STATION_AIR_FIGURES && length == 11 &&
+               memcmp(out, sea_level, 11) == 0,
+           "and back");
+}
+
+static void vote(void) {
+    double places[ROOM];
+    bool in_range = false;
+    uint32_t mast = 9;
+
+    clear(places, ROOM);
+    expect(station_air_vote(NULL, 0, NULL, 0, NULL, 0, NULL, 0, &in_range, &mast) == STATION_AIR_TOO_SHORT,
+           "vote, all at NULL");
+    expect(station_air_vote(sea_level, 11, sea_level, 11, sea_level, 11, places, 7, &in_range, &mast)
+               == STATION_AIR_TOO_SHORT,
+           "vote, a place too few");
+    expect(mast == 9 && !in_range && untouched(places, 0, ROOM), "and nothing is written");
+    expect(station_air_vote(sea_level, 11, unknown_tag, 3, NULL, 0, places, ROOM, &in_range, &mast)
+                   == STATION_AIR_UNKNOWN_TAG
+               && mast == 2,
+           "the first mast that is refused");
+    expect(station_air_vote(sea_level, 11, sea_level, 11, NULL, 0, places, ROOM, &in_range, &mast)
+                   == STATION_AIR_NO_ALTITUDE
+               && mast == 3,
+           "the third mast, at NULL");
+    expect(station_air_vote(sea_level, 11, sea_level, 11, measured, 33, places, ROOM, &in_range, &mast)
+                   == STATION_AIR_FIELD_NOT_IN_ALL
+               && mast == 0,
+           "fields that are not in all three");
+    expect(!in_range && untouched(places, 0, ROOM), "refusals without a value write nothing");
+    expect(station_air_vote(sea_level, 11, sea_level, 11, sea_level, 11, places, ROOM, &in_range, &mast)
+                   == STATION_AIR_FIGURES
+               && mast == 0,
+           "three times sea level");
+    expect(places[STATION_AIR_PRESSURE_HPA] == 1013.25 && in_range, "and its figures");
+    expect(untouched(places, STATION_AIR_VOTE_PLACES, ROOM), "the places past the figures, after a vote");
+}
+
+static void next_trim_class(void) {
+    double places[ROOM];
+    int32_t answer[5] = {9, 9, 9, 9, 9};
+
+    clear(places, ROOM);
+    expect(station_air_next_trim_class(NULL, 0, NULL, 0, NULL, 0) == STATION_AIR_TOO_SHORT, "trim class, all at NULL");
+    expect(station_air_next_trim_class(measured, sizeof measured, places, 1, answer, 4) == STATION_AIR_TOO_SHORT,
+           "trim class, a place too few");
+    expect(station_air_next_trim_class(measured, sizeof measured, places, 2, answer, 3) == STATION_AIR_TOO_SHORT,
+           "trim class, a number too few");
+    expect(station_air_next_trim_class(NULL, 0, places, 2, answer, 4) == STATION_AIR_NO_ALTITUDE,
+           "trim class, an empty record at NULL");
+    expect(station_air_next_trim_class(sea_level, sizeof sea_level, places, 2, answer, 4)
+               == STATION_AIR_NO_READING_TO_CHANGE,
+           "nothing to change");
+    expect(answer[0] == 9 && answer[3] == 9 && untouched(places, 0, ROOM), "and nothing is written");
+    expect(station_air_next_trim_class(measured, sizeof measured, places, 2, answer, 4) == STATION_AIR_FIGURES,
+           "a class and the next one");
+    expect(answer[STATION_AIR_TRIM_CLASS] == 4 && answer[STATION_AIR_TRIM_TAG] == 2
+               && answer[STATION_AIR_TRIM_TENTHS] < 0 && answer[STATION_AIR_TRIM_NEW_CLASS] == 5,
+           "colder air is denser");
+    expect(answer[4] == 9 && untouched(places, 0, ROOM), "the number past the answer, and the places");
+}
+
+static void setting_sheet(void) {
+    static uint8_t page[STATION_AIR_SETTING_SHEET_BYTES + 1];
+    double place = UNTOUCHED;
+
+    memset(page, 0xAA, sizeof page);
+    expect(station_air_setting_sheet(0, 1013.25, 0, page, sizeof page, NULL, 0) == STATION_AIR_TOO_SHORT,
+           "sheet, no place at NULL");
+    expect(station_air_setting_sheet(NAN, 0, 0, NULL, 0, &place, 1) == STATION_AIR_PAGE_TOO_SHORT,
+           "sheet, no page at NULL");
+    expect(station_air_setting_sheet(0, 1013.25, 0, page, 1529, &place, 1) == STATION_AIR_PAGE_TOO_SHORT,
+           "sheet, a byte too few");
+    expect(place == UNTOUCHED, "a refusal without a value");
+    expect(station_air_setting_sheet(0, -1, 101, page, 1530, &place, 1) == STATION_AIR_PRESSURE_NOT_POSITIVE,
+           "sheet, a pressure below 0");
+    expect(place == -1 && page[0] == 0xAA && page[1529] == 0xAA, "its value, and the page as it was");
+    expect(station_air_setting_sheet(0, 1013.25, 0, page, 1530, &place, 1) == STATION_AIR_FIGURES, "a good sheet");
+    expect(memcmp(page, " -10.0 ", 7) == 0 && page[29] == '\n' && memcmp(page + 1500, "  40.0 ", 7) == 0
+               && page[1529] == '\n' && page[1530] == 0xAA,
+           "its first and last row, and the byte after them");
+}
+
+static void others(void) {
+    double places[ROOM];
+
+    expect(station_air_for_density_altitude(0, false, 0, NULL, 0) == STATION_AIR_TOO_SHORT, "density altitude, NULL");
+    expect(station_air_standard_atmosphere(0, NULL, 0) == STATION_AIR_TOO_SHORT, "standard atmosphere, NULL");
+    expect(station_air_calculate_atmosphere(0, false, 0, false, 0, 0, NULL, 0) == STATION_AIR_TOO_SHORT, "air, NULL");
     clear(places, ROOM);
     expect(station_air_for_density_altitude(INFINITY, false, 0, places, ROOM)
                == STATION_AIR_DENSITY_ALTITUDE_NOT_FINITE,
@@ -76,5 +250,16 @@ int main(void) {
            "and its two values");
 
     expect(station_air_power(1, 26) == 1 && isnan(station_air_power(1, 27)), "exponents by number");
+}
+
+int main(void) {
+    judge();
+    judge_strictly();
+    write_record();
+    convert();
+    vote();
+    next_trim_class();
+    setting_sheet();
+    others();
     return failures == 0 ? 0 : 1;
 }

@@ -2,15 +2,17 @@
 //! in documents 01 and 02, held against the reader.
 
 use crate::draw::mixed;
+use crate::field::{record, Field};
 use crate::function::{named, word, Function};
+use crate::load;
 use crate::random::Random;
-use crate::record_fields::{record, Field};
 use crate::record_values::{AS_MEASURED, AS_STATION_PRESSURE, HOT_HUMID_AIR};
 use crate::records::number;
 use crate::ruled::density_vapor::arguments;
 use crate::ruled::record::{read, Figures};
 use crate::ruled::station::FUNCTIONS;
 use crate::ruled::{resolve_station_conditions_with_pressure_mode, PressureReferenceMode};
+use crate::sheet;
 
 pub fn hold(functions: &[Function]) {
     let at = |name: &str, inputs: &[f64]| -> Vec<u64> {
@@ -91,6 +93,8 @@ pub fn hold_reader() {
     hold_shown_pair();
     hold_moisture();
     hold_range();
+    hold_sheet();
+    hold_load();
 }
 
 fn shown(fields: &[Field]) -> Figures {
@@ -177,4 +181,32 @@ fn hold_range() {
     assert!(!given(15.0f64.next_down(), 800.0) && !given(27.0f64.next_up(), 800.0));
     assert!(!given(20.0, 600.0f64.next_down()) && !given(20.0, 1100.0f64.next_up()));
     assert!(!mark(&[(1, 1000.0), (2, 15.05)]) && mark(&[(1, 1.0), (2, 15.05)]));
+}
+
+/// Rows of 30 bytes, by whole degrees; the 15 °C row is 15 °C, where a record would have a default.
+fn hold_sheet() {
+    let row = |altitude: f64, pressure: f64, degrees: usize| {
+        let mut page = [0; sheet::PAGE];
+        sheet::write(altitude, pressure, 0.0, &mut page).expect("a sheet");
+        let row = &page[30 * (degrees + 10)..][..30];
+        String::from_utf8(row.to_vec()).expect("a text")
+    };
+    assert_eq!(row(0.0, 1013.25, 15), "  15.0  1.2255  340.3       0\n");
+    assert_eq!(row(1000.0, 1013.25, 15), row(0.0, 1013.25, 15));
+    assert_eq!(&row(0.0, 1013.25, 40)[..6], "  40.0");
+}
+
+/// SplitMix64 from state 0, as published, and the load's records one after the other and by number.
+fn hold_load() {
+    let random = &mut Random(0);
+    let published = [
+        0xE220_A839_7B1D_CDAF,
+        0x6E78_9E6A_A1B9_65F4,
+        0x06C4_5D18_8009_454F,
+    ];
+    assert_eq!(published.map(|_| random.next()), published);
+    let random = &mut Random(0);
+    for number in 0..20 {
+        assert_eq!(load::next_record(random), load::record(number));
+    }
 }

@@ -1,8 +1,23 @@
 //! The proved functions against the rules and the source with our rules, call by call and bit for bit.
 
-use crate::compare_records::{self, NUMBERS};
+use crate::compare_records::{Numbers, JUDGE, STRICT_JUDGE};
 use crate::compare_row::Row;
-use crate::{compare_lent, compare_rules, compare_station};
+use crate::{
+    compare_conversions, compare_lent, compare_rules, compare_sheets,
+    compare_station, compare_trims, compare_votes, compare_writes,
+};
+
+/// One strict judgement to so many of the first judge: it shares all but the order of the tags with it.
+const STRICT_SHARE: u64 = 4;
+
+/// One sheet to so many records: it has 51 rows, each of which costs as much as a record.
+const SHEET_SHARE: u64 = 500;
+
+/// One vote to so many records: it judges four.
+const VOTE_SHARE: u64 = 10;
+
+/// One trim class to so many records: it judges up to 801.
+const TRIM_SHARE: u64 = 2000;
 
 /// Prints a row for each function, and says whether nothing differs.
 pub fn compare(calls: u64, records: u64) -> bool {
@@ -14,17 +29,29 @@ pub fn compare(calls: u64, records: u64) -> bool {
         rows.push(pair.row(each, seed));
     }
     let called: u64 = rows.iter().map(|row| row.calls).sum();
-    let (judged, numbers) = compare_records::row(records);
-    let records = judged.calls;
-    rows.extend([judged, compare_lent::row()]);
+    let (judged, numbers) = JUDGE.row(records);
+    let (judged_strictly, strict_numbers) = STRICT_JUDGE.row(records / STRICT_SHARE);
+    let with_records = [
+        judged,
+        judged_strictly,
+        compare_writes::row(records),
+        compare_conversions::row(records),
+        compare_sheets::row(records / SHEET_SHARE),
+        compare_votes::row(records / VOTE_SHARE),
+        compare_trims::row(records / TRIM_SHARE),
+    ];
+    let records: u64 = with_records.iter().map(|row| row.calls).sum();
+    rows.extend(with_records);
+    rows.push(compare_lent::row());
 
     println!("{:<36}{:>12}{:>13}", "function", "calls", "differences");
     for row in &rows {
         println!("{:<36}{:>12}{:>13}", row.name, row.calls, row.differences);
     }
     println!("records by number, 0 accepted: {}", by_number(&numbers));
+    println!("strictly: {}", by_number(&strict_numbers));
     let differences: u64 = rows.iter().map(|row| row.differences).sum();
-    println!("{called} function calls and {records} records, {differences} differences");
+    println!("{called} calls of functions, {records} with records, {differences} differences");
     for row in &rows {
         if let Some([inputs, ours, theirs]) = &row.first {
             println!("first difference of {}, at {inputs}", row.name);
@@ -34,8 +61,8 @@ pub fn compare(calls: u64, records: u64) -> bool {
     differences == 0
 }
 
-fn by_number(numbers: &[u64; NUMBERS]) -> String {
-    let numbers = numbers.iter().enumerate();
-    let counts = numbers.map(|(number, count)| format!("{number}: {count}"));
+fn by_number(numbers: &Numbers) -> String {
+    let counts = numbers.iter();
+    let counts = counts.map(|(number, count)| format!("{number}: {count}"));
     counts.collect::<Vec<String>>().join(", ")
 }

@@ -1,9 +1,11 @@
 //! Lent arrays by their length: one with too few places gets status 255 and is left as it was, and so is the mark;
 //! in any other, and behind it, the places past the answer are.
 
+use crate::buffer::filled;
 use crate::compare_row::{Hex, Row};
 use crate::exports;
-use crate::record_fields::record;
+use crate::field::record;
+use crate::sheet::PAGE;
 
 const TOO_SHORT: u64 = 255;
 
@@ -60,18 +62,34 @@ pub fn row() -> Row {
             exports::for_density_altitude(d, t, lent)
         });
     }
+    for (altitude, room) in [(0.0, PAGE), (f64::NAN, PAGE), (0.0, 0)] {
+        check("setting_sheet", 1, &|lent, _| {
+            exports::setting_sheet(altitude, 1000.0, 50.0, &mut filled(room), lent)
+        });
+    }
     for bytes in [
         record(&[(1, 0.0)]),
         record(&[(1, 1000.0)]),
+        record(&[(1, 0.0), (2, 20.0), (7, 1000.0)]),
         record(&[(6, 0.0)]),
         record(&[(6, 1e5)]),
-        record(&[(6, 0.0), (5, 50.0)]),
+        record(&[(5, 50.0), (6, 0.0)]),
         record(&[(6, 0.0), (5, 101.0)]),
         record(&[(1, f64::NAN)]),
         vec![8, 0, 8],
         vec![],
     ] {
         check("judge", 8, &|lent, mark| exports::judge(&bytes, lent, mark));
+        check("judge_strictly", 8, &|lent, mark| {
+            exports::judge_strictly(&bytes, lent, mark)
+        });
+        check("next_trim_class", 2, &|lent, _| {
+            exports::next_trim_class(&bytes, lent, &mut [0; 4])
+        });
+        let masts = [(); 3].map(|()| bytes.clone());
+        check("vote", 8, &|lent, mark| {
+            exports::vote(&masts, lent, mark, &mut 0)
+        });
     }
     row
 }

@@ -65,6 +65,67 @@ unsafe extern "C" {
         places: usize,
         in_range: &mut bool,
     ) -> u32;
+    fn station_air_judge_strictly(
+        record: *const u8,
+        bytes: usize,
+        lent: *mut f64,
+        places: usize,
+        in_range: &mut bool,
+    ) -> u32;
+    fn station_air_write(
+        forms: *const u8,
+        forms_places: usize,
+        values: *const f64,
+        values_places: usize,
+        counts: *const i32,
+        counts_places: usize,
+        out: *mut u8,
+        room: usize,
+        length: &mut usize,
+    ) -> u32;
+    fn station_air_to_counts(
+        record: *const u8,
+        bytes: usize,
+        out: *mut u8,
+        room: usize,
+        length: &mut usize,
+    ) -> u32;
+    fn station_air_to_doubles(
+        record: *const u8,
+        bytes: usize,
+        out: *mut u8,
+        room: usize,
+        length: &mut usize,
+    ) -> u32;
+    fn station_air_vote(
+        first: *const u8,
+        first_bytes: usize,
+        second: *const u8,
+        second_bytes: usize,
+        third: *const u8,
+        third_bytes: usize,
+        lent: *mut f64,
+        places: usize,
+        in_range: &mut bool,
+        mast: &mut u32,
+    ) -> u32;
+    fn station_air_next_trim_class(
+        record: *const u8,
+        bytes: usize,
+        lent: *mut f64,
+        places: usize,
+        answer: *mut i32,
+        answer_places: usize,
+    ) -> u32;
+    fn station_air_setting_sheet(
+        altitude_m: f64,
+        pressure_hpa: f64,
+        humidity_percent: f64,
+        page: *mut u8,
+        bytes: usize,
+        lent: *mut f64,
+        places: usize,
+    ) -> u32;
 }
 
 /// A value that is not given. No answer depends on it.
@@ -114,4 +175,98 @@ pub fn for_density_altitude(
 pub fn judge(record: &[u8], lent: &mut [f64], in_range: &mut bool) -> u32 {
     let (places, lent) = (lent.len(), lent.as_mut_ptr());
     unsafe { station_air_judge(record.as_ptr(), record.len(), lent, places, in_range) }
+}
+
+pub fn judge_strictly(record: &[u8], lent: &mut [f64], in_range: &mut bool) -> u32 {
+    let (places, lent) = (lent.len(), lent.as_mut_ptr());
+    unsafe { station_air_judge_strictly(record.as_ptr(), record.len(), lent, places, in_range) }
+}
+
+/// The three arrays are by meaning.
+pub fn write(
+    forms: &[u8],
+    values: &[f64],
+    counts: &[i32],
+    out: &mut [u8],
+    length: &mut usize,
+) -> u32 {
+    unsafe {
+        station_air_write(
+            forms.as_ptr(),
+            forms.len(),
+            values.as_ptr(),
+            values.len(),
+            counts.as_ptr(),
+            counts.len(),
+            out.as_mut_ptr(),
+            out.len(),
+            length,
+        )
+    }
+}
+
+pub fn to_counts(record: &[u8], out: &mut [u8], length: &mut usize) -> u32 {
+    let (room, out) = (out.len(), out.as_mut_ptr());
+    unsafe { station_air_to_counts(record.as_ptr(), record.len(), out, room, length) }
+}
+
+pub fn to_doubles(record: &[u8], out: &mut [u8], length: &mut usize) -> u32 {
+    let (room, out) = (out.len(), out.as_mut_ptr());
+    unsafe { station_air_to_doubles(record.as_ptr(), record.len(), out, room, length) }
+}
+
+pub fn setting_sheet(
+    altitude_m: f64,
+    pressure_hpa: f64,
+    humidity_percent: f64,
+    page: &mut [u8],
+    lent: &mut [f64],
+) -> u32 {
+    unsafe {
+        station_air_setting_sheet(
+            altitude_m,
+            pressure_hpa,
+            humidity_percent,
+            page.as_mut_ptr(),
+            page.len(),
+            lent.as_mut_ptr(),
+            lent.len(),
+        )
+    }
+}
+
+pub fn vote(
+    [first, second, third]: &[Vec<u8>; 3],
+    lent: &mut [f64],
+    in_range: &mut bool,
+    mast: &mut u32,
+) -> u32 {
+    unsafe {
+        station_air_vote(
+            first.as_ptr(),
+            first.len(),
+            second.as_ptr(),
+            second.len(),
+            third.as_ptr(),
+            third.len(),
+            lent.as_mut_ptr(),
+            lent.len(),
+            in_range,
+            mast,
+        )
+    }
+}
+
+/// The doubles are a refusal's values, the whole numbers the answer.
+pub fn next_trim_class(record: &[u8], lent: &mut [f64], answer: &mut [i32]) -> u32 {
+    unsafe {
+        station_air_next_trim_class(
+            record.as_ptr(),
+            record.len(),
+            lent.as_mut_ptr(),
+            lent.len(),
+            answer.as_mut_ptr(),
+            answer.len(),
+        )
+    }
 }

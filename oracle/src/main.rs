@@ -2,9 +2,14 @@
 //! rules for its `powf`, `exp` and `ln`. `README.md` has the commands. With `library` it is the driver too,
 //! over the static library of the proved functions. The variable PLACES is the number of the rules' places.
 
+mod buffer;
 mod cases;
 #[cfg(library)]
 mod compare;
+#[cfg(library)]
+mod compare_buffer;
+#[cfg(library)]
+mod compare_conversions;
 #[cfg(library)]
 mod compare_lent;
 #[cfg(library)]
@@ -14,26 +19,58 @@ mod compare_row;
 #[cfg(library)]
 mod compare_rules;
 #[cfg(library)]
+mod compare_sheets;
+#[cfg(library)]
 mod compare_station;
+#[cfg(library)]
+mod compare_trims;
+#[cfg(library)]
+mod compare_votes;
+#[cfg(library)]
+mod compare_writes;
+mod conversion;
+mod conversion_call;
+mod conversions;
+mod decimal;
+mod decimals;
 mod distance;
 mod draw;
 mod edges;
 #[cfg(library)]
 mod exports;
+mod field;
 mod function;
 mod gravity;
+mod judged_list;
 mod lists;
+mod load;
+mod promises;
 mod quantity;
 mod record_changes;
+mod record_counts;
 mod record_fields;
 mod record_forms;
 mod record_moisture;
 mod record_range;
+mod record_refused;
 mod record_values;
 mod records;
+mod refusal;
 mod rule_calls;
+mod sheet;
+mod sheet_call;
+mod sheets;
+mod strict;
+mod trim;
+mod trims;
+mod vote;
+mod vote_refused;
+mod votes;
 mod warmth;
 mod words;
+mod writer;
+mod writer_call;
+mod writes;
 
 #[path = "../../vectors/rules/exponents.rs"]
 mod exponents;
@@ -69,7 +106,7 @@ use std::io;
 use std::path::Path;
 use std::process::ExitCode;
 
-const USE: &str = "oracle lists FOLDER, oracle answers, oracle distance [POINTS], or oracle warmth [CASES]; driver compare CALLS RECORDS, or driver bench";
+const USE: &str = "oracle lists FOLDER, oracle answers, oracle load [COUNT], oracle distance [POINTS], or oracle warmth [CASES]; driver compare CALLS RECORDS, or driver bench";
 const POINTS: u64 = 100_000;
 const CASES: u64 = 1_000_000;
 
@@ -80,6 +117,7 @@ fn main() -> ExitCode {
     cases::hold(&stock::station::FUNCTIONS);
     cases::hold(&ruled::station::FUNCTIONS);
     cases::hold_reader();
+    promises::hold();
     let done = match arguments[..] {
         ["lists", folder] => match write_lists(Path::new(folder)) {
             Ok(()) => true,
@@ -95,6 +133,14 @@ fn main() -> ExitCode {
                 false
             }
         },
+        ["load"] => {
+            load::print(load::RECORDS);
+            true
+        }
+        ["load", count] => {
+            load::print(count.parse().expect(USE));
+            true
+        }
         ["distance"] => distance::measure(POINTS),
         ["distance", points] => distance::measure(points.parse().expect(USE)),
         ["warmth"] => warmth::measure(CASES),
@@ -123,5 +169,12 @@ fn main() -> ExitCode {
 
 fn write_lists(folder: &Path) -> io::Result<()> {
     lists::write(folder)?;
-    records::write(folder)
+    records::write(folder)?;
+    strict::write(folder)?;
+    writes::write(folder)?;
+    conversions::write(folder)?;
+    sheets::write(folder)?;
+    decimals::write(folder)?;
+    votes::write(folder)?;
+    trims::write(folder)
 }

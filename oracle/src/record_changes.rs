@@ -1,6 +1,6 @@
 //! Changes of the answer to a record between 0, 14 and 15, which only bisection finds.
 
-use crate::record_fields::Field;
+use crate::field::Field;
 
 /// As one field's value goes from one end to the other, the rest fixed, the answer's number changes.
 pub struct Change {

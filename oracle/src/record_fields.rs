@@ -1,13 +1,15 @@
 //! The fields from which the records of the list are made.
 
 use crate::draw::Draw;
+use crate::field::{Field, Stored, Value};
 use crate::function::Input::Given;
 use crate::quantity::Quantity;
 use crate::random::Random;
 
+/// Of doubles, which are the meanings too.
 pub const TAGS: [u8; 7] = [1, 2, 3, 4, 5, 6, 7];
 
-/// The sets of tags that are neither 9 nor 10.
+/// The sets of meanings that are neither 9 nor 10.
 pub const READINGS: [&[u8]; 20] = [
     &[1],
     &[1, 2],
@@ -31,15 +33,6 @@ pub const READINGS: [&[u8]; 20] = [
     &[2, 5, 6],
 ];
 
-/// A tag with its value.
-pub type Field = (u8, f64);
-
-/// The fields one after the other.
-pub fn record(fields: &[Field]) -> Vec<u8> {
-    let bytes = |(tag, value): &Field| [&[*tag, 0, 8], &value.to_be_bytes()[..]].concat();
-    fields.iter().flat_map(bytes).collect()
-}
-
 pub fn quantity(tag: u8) -> Quantity {
     match tag {
         1 => Quantity::Altitude,
@@ -56,6 +49,26 @@ pub fn drawn(tags: &[u8], draw: Draw, random: &mut Random) -> Vec<Field> {
     let value = |tag: u8, random: &mut Random| draw(Given(quantity(tag)), random);
     let field = |tag: &u8| (*tag, value(*tag, random).expect("a value"));
     tags.iter().map(field).collect()
+}
+
+/// As counts, each the nearest to its double.
+pub fn in_counts(fields: &[Field]) -> Vec<Stored> {
+    let count = |x: f64| Value::Count((x * 1000.0).round() as i32);
+    fields
+        .iter()
+        .map(|(meaning, x)| (*meaning, count(*x)))
+        .collect()
+}
+
+/// Each as it is or as a count.
+pub fn in_either_form(fields: &[Field], random: &mut Random) -> Vec<Stored> {
+    let mut stored = in_counts(fields);
+    for (place, (_, x)) in stored.iter_mut().zip(fields) {
+        if random.next() % 2 == 0 {
+            place.1 = Value::Double(*x);
+        }
+    }
+    stored
 }
 
 pub fn reversed<T: Copy>(items: &[T]) -> Vec<T> {

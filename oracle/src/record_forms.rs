@@ -1,13 +1,14 @@
 //! Records whose bytes decide the answer: tags and their orders, lengths, cuts, repeats, clashes.
 
 use crate::draw::{pattern, usual};
+use crate::field::{record, stored};
 use crate::random::Random;
 use crate::record_fields::{
-    drawn, orders, record, reversed, sets_of_tags, shuffled, READINGS, TAGS,
+    drawn, in_either_form, orders, reversed, sets_of_tags, shuffled, READINGS, TAGS,
 };
 
 const UNKNOWN_TAGS: [u8; 4] = [0, 8, 0x80, 0xff];
-const WRONG_LENGTHS: [u16; 6] = [0, 7, 9, 0x0108, 0x0800, 0xffff];
+const WRONG_LENGTHS: [u16; 7] = [0, 4, 7, 9, 0x0108, 0x0800, 0xffff];
 const RANDOM: usize = 150;
 const NEARLY_FIELDS: usize = 250;
 const CHANGED: usize = 500;
@@ -197,9 +198,14 @@ fn long(random: &mut Random) -> Vec<Vec<u8>> {
 pub fn nearly_fields(random: &mut Random) -> Vec<u8> {
     let mut record = Vec::new();
     for _ in 0..random.next() % 8 {
-        let tag = random.next() % 9;
-        let length = if random.next() % 8 == 0 { 9 } else { 8 };
-        record.extend([header(tag as u8, length), bytes(8, random)].concat());
+        let tag = random.next() as u8 % 9;
+        let (tag, length) = match random.next() % 2 {
+            0 => (tag, 8),
+            _ => (tag + 0x10, 4),
+        };
+        let off = u16::from(random.next() % 8 == 0);
+        let data = bytes(length.into(), random);
+        record.extend([header(tag, length + off), data].concat());
     }
     if random.next() % 2 == 0 {
         record.truncate(random.next() as usize % (record.len() + 1));
@@ -207,10 +213,11 @@ pub fn nearly_fields(random: &mut Random) -> Vec<u8> {
     record
 }
 
-/// A good record with one to three of its bytes changed.
+/// A good record, some of its fields in counts, with one to three of its bytes changed.
 pub fn changed(random: &mut Random) -> Vec<u8> {
     let tags = READINGS[random.next() as usize % READINGS.len()];
-    let mut record = record(&shuffled(&drawn(tags, usual, random), random));
+    let fields = in_either_form(&drawn(tags, usual, random), random);
+    let mut record = stored(&shuffled(&fields, random));
     for _ in 0..=random.next() % 3 {
         let place = random.next() as usize % record.len();
         record[place] ^= (1 + random.next() % 255) as u8;
@@ -218,7 +225,7 @@ pub fn changed(random: &mut Random) -> Vec<u8> {
     record
 }
 
-fn header(tag: u8, length: u16) -> Vec<u8> {
+pub fn header(tag: u8, length: u16) -> Vec<u8> {
     let [high, low] = length.to_be_bytes();
     vec![tag, high, low]
 }

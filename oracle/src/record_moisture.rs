@@ -2,10 +2,11 @@
 //! from that of check 14, where it is capped, and where it is a zero.
 
 use crate::draw::usual;
+use crate::field::{record, Field};
 use crate::function::named;
 use crate::quantity::{edge, near};
 use crate::random::Random;
-use crate::record_fields::{drawn, record, Field};
+use crate::record_fields::drawn;
 use crate::records::number;
 use crate::ruled::density_vapor::{arguments, kelvin_and_pascals};
 use crate::ruled::station::FUNCTIONS;

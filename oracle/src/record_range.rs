@@ -1,8 +1,8 @@
 //! Records on both sides of every end of the range that CIPM-2007 states, by each way to a temperature or pressure
 //! that is shown: the mark of request K11.
 
+use crate::field::{record, Field};
 use crate::quantity::{edge, near};
-use crate::record_fields::{record, Field};
 use crate::ruled::record::read;
 
 const TEMPERATURE_ENDS: [f64; 2] = [15.0, 27.0];

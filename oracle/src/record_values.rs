@@ -2,13 +2,12 @@
 
 use crate::draw::{mixed, pattern, usual, wide, Draw};
 use crate::edges::edges;
+use crate::field::{record, Field};
 use crate::function::named;
 use crate::quantity::{edge, near};
 use crate::random::Random;
 use crate::record_changes::CHANGES;
-use crate::record_fields::{
-    drawn, quantity, record, reversed, sets_of_tags, shuffled, Field, READINGS,
-};
+use crate::record_fields::{drawn, quantity, reversed, sets_of_tags, shuffled, READINGS};
 use crate::records::number;
 use crate::ruled::station::FUNCTIONS;
 

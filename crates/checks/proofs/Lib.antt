@@ -1,5 +1,2 @@
--- What the proofs of the functions use.
-mod Digits
-mod Places
-mod Handed
+-- Document 01's cases, proved.
 pub mod Cases

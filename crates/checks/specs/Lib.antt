@@ -1,5 +1,2 @@
--- What the contracts of `checks` cite, and document 01's cases.
-pub mod Doubles
-pub mod Line
-pub mod Handed
+-- Document 01's cases.
 pub mod Cases

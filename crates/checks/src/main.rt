@@ -1,20 +1,16 @@
 // Replays the lists of `data/` through our functions, and says of each list how
 // many lines it has and how many of them differ from our answers. `vectors/README.md` says where
 // the lists come from. A line that is not in its list's form counts as one that differs.
-mod calls;
-mod double;
-mod figures;
-mod lent;
-mod line;
-mod list;
-mod records;
-mod source;
-mod word;
+mod read;
 
 use libc::STDOUT_FILENO;
-use list::Function;
-use list::List;
-use source::Part;
+use lines::tally::Outcome;
+use lines::tally::Tally;
+use lines::tally::counted;
+use replay::list::Function;
+use replay::list::Kind;
+use replay::list::List;
+use replay::list::Part;
 
 fn main() {
     replay(b"rules_log.txt", List::Exact(Function::Log));
@@ -35,7 +31,12 @@ fn main() {
     replay(b"source_station.txt", List::Source(Part::Station));
     replay(b"source_altitudes.txt", List::Source(Part::Altitudes));
     replay(b"source_inverse.txt", List::Source(Part::Inverse));
-    replay(b"records.txt", List::Records);
+    replay(b"records.txt", List::Case(Kind::Records));
+    replay(b"strict.txt", List::Case(Kind::Strict));
+    replay(b"votes.txt", List::Case(Kind::Votes));
+    replay(b"trims.txt", List::Case(Kind::Trims));
+    replay(b"sheets.txt", List::Case(Kind::Sheets));
+    replay(b"decimals.txt", List::Case(Kind::Decimals));
     replay(b"published.txt", List::Ends(Function::Figure));
     replay(b"round_trips.txt", List::Ends(Function::Figure));
     replay(b"outside_saturation.txt", List::Ends(Function::Figure));
@@ -64,7 +65,12 @@ fn replay_wrong() {
     replay(b"wrong_source_station.txt", List::Source(Part::Station));
     replay(b"wrong_source_altitudes.txt", List::Source(Part::Altitudes));
     replay(b"wrong_source_inverse.txt", List::Source(Part::Inverse));
-    replay(b"wrong_records.txt", List::Records);
+    replay(b"wrong_records.txt", List::Case(Kind::Records));
+    replay(b"wrong_strict.txt", List::Case(Kind::Strict));
+    replay(b"wrong_votes.txt", List::Case(Kind::Votes));
+    replay(b"wrong_trims.txt", List::Case(Kind::Trims));
+    replay(b"wrong_sheets.txt", List::Case(Kind::Sheets));
+    replay(b"wrong_decimals.txt", List::Case(Kind::Decimals));
     replay(b"wrong_published.txt", List::Ends(Function::Figure));
     replay(b"wrong_round_trips.txt", List::Ends(Function::Figure));
 }
@@ -77,7 +83,7 @@ fn replay(name: &[u8], list: List) {
         io::write_all(STDOUT_FILENO, b": cannot be opened\n");
         return;
     }
-    let tally = list::compared(fd, list);
+    let tally = compared(fd, list);
     libc::close(fd);
     io::write_all(STDOUT_FILENO, b": ");
     io::print_decimal(STDOUT_FILENO, tally.lines);
@@ -89,4 +95,23 @@ fn replay(name: &[u8], list: List) {
         io::print_decimal(STDOUT_FILENO, tally.first);
     }
     io::write_all(STDOUT_FILENO, b"\n");
+}
+
+// More lines than a list has. A proved loop has to end, and nothing says that a file does.
+const MOST_LINES: u64 = 1_000_000;
+
+fn compared(fd: i32, list: List) -> Tally {
+    let mut tally = Tally {
+        lines: 0,
+        differ: 0,
+        first: 0,
+    };
+    for _ in 0..MOST_LINES {
+        let outcome = read::next_outcome(fd, list);
+        if let Outcome::End = outcome {
+            return tally;
+        }
+        tally = counted(tally, outcome);
+    }
+    tally
 }

@@ -16,16 +16,16 @@ use wide::words::shifted_right;
 
 // A double by its kind, with its sign, which is true where it is negative.
 // `Finite(s, q, k)` is q * 2^(k - 1074), or -q * 2^(k - 1074) where s is true.
-pub(crate) enum Parts {
+pub enum Parts {
     NotANumber,
     Infinite(bool),
     Zero(bool),
     Finite(bool, u64, u32),
 }
 
-// The sign, the exponent's field and the digits' field of x's bit pattern say which kind x is. A
-// field of 0 has no leading digit, and counts as a field of 1.
-pub(crate) fn take_apart(x: f64) -> Parts
+// The kind of x and its parts. The sign, the exponent's field and the digits' field of x's bit pattern
+// say which kind it is. A field of 0 has no leading digit, and counts as a field of 1.
+pub fn take_apart(x: f64) -> Parts
     ensures { λ r. ⌜ TakenApart x r ⌝ }
 {
     if x != x {

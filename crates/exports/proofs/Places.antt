@@ -5,19 +5,18 @@ use Prim.Native.Nat.{ℕ, suc, _≤_}
 use native.Mathlib.Omega.{arith}
 use mathlib.Core.List.{List, [], _∷_}
 use lib.ListN.{length, set}
-use lib.Ieee.{Float}
 use Rattle.exports.specs.Lent.{handedOut}
 
 -- the numbers, from place k on
-abbrev pub written : List Float → ℕ → List Float → List Float
+abbrev pub written : {A : Type 0} → List A → ℕ → List A → List A
 written [] k xs = xs
 written (v ∷ vs) k xs = written vs (suc k) (set xs k v)
 
-shifted : (vs : List Float) (k : ℕ) (x : Float) (xs : List Float) → written vs (suc k) (x ∷ xs) ≡ x ∷ written vs k xs
+shifted : {A : Type 0} (vs : List A) (k : ℕ) (x : A) (xs : List A) → written vs (suc k) (x ∷ xs) ≡ x ∷ written vs k xs
 shifted [] k x xs = refl
 shifted (v ∷ vs) k x xs = shifted vs (suc k) x (set xs k v)
 
-pub fills : (vs xs : List Float) → length vs ≤ length xs → written vs 0 xs ≡ handedOut vs xs
+pub fills : {A : Type 0} (vs xs : List A) → length vs ≤ length xs → written vs 0 xs ≡ handedOut vs xs
 fills [] xs room = refl
 fills (v ∷ vs) [] room = absurd (omega arith)
-fills (v ∷ vs) (x ∷ xs) room = shifted vs 0 v xs ∙ ap (λ (r : List Float). v ∷ r) (fills vs xs (omega (arith, room)))
+fills {A} (v ∷ vs) (x ∷ xs) room = shifted vs 0 v xs ∙ ap (λ (r : List A). v ∷ r) (fills vs xs (omega (arith, room)))

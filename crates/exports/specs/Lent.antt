@@ -24,7 +24,7 @@ told list (refused n vs) = record { status = n; values = vs }
 
 -- ---- a lent array, where `most` is how many doubles the function may hand out
 -- the first places hold what is handed out
-abbrev pub handedOut : List Float → List Float → List Float
+abbrev pub handedOut : {A : Type 0} → List A → List A → List A
 handedOut values lent = values ++ drop (length values) lent
 
 -- 255: the array has fewer places
@@ -42,6 +42,15 @@ reading given x = cond given (Given x) FromLayer
 abbrev pub isGiven : Reading → Bool
 isGiven (Given x) = true
 isGiven FromLayer = false
+
+-- ---- an outcome of which only a refusal hands out doubles: its status, and what it leaves in a lent array
+abbrev pub statusOf : {A : Type 0} → Outcome A → ℕ
+statusOf (accepted a) = 0
+statusOf (refused n vs) = n
+
+abbrev pub valuesAfter : {A : Type 0} → List Float → Outcome A → List Float
+valuesAfter lent (accepted a) = lent
+valuesAfter lent (refused n vs) = handedOut vs lent
 
 -- ---- what is handed out, in the order of the structs
 abbrev pub standardValues : StandardAir → List Float

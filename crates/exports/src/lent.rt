@@ -1,16 +1,25 @@
-// What is written to the first places of a lent array of doubles.
+// What is written to the first places of a lent array of doubles, and the statuses that are no number of
+// a refusal.
 ghost use mathlib.Core.Path.{_≡_};
 ghost use Prim.Native.Nat.{_≤_};
 ghost use mathlib.Core.List.{[], _∷_};
 ghost use lib.ListN.{length};
 ghost use Rattle.refusal.specs.Refusals.{numberOf, valuesOf, listed};
-ghost use Rattle.exports.specs.Lent.{handedOut, stationValues, figureValues};
+ghost use Rattle.mast.specs.Judge.{outcome};
+ghost use Rattle.exports.specs.Lent.{handedOut, told, statusIn, leftIn, stationValues, figureValues, markIn};
 use density_altitude::inverse::Station;
+use mast::judge::Answer;
 use refusal::Refusal;
 use refusal::Values;
 use refusal::handed_out;
 use refusal::number;
 use station::figures::Figures;
+
+// The status of figures.
+pub(crate) const FIGURES: u32 = 0;
+
+// The status of a lent array that is too short.
+pub(crate) const TOO_SHORT: u32 = 255;
 
 pub(crate) fn put_one(lent: &mut [f64], a: f64)
     requires { ⌜ 1 ≤ length (now lent) ⌝ }
@@ -61,7 +70,7 @@ fn put_values(lent: &mut [f64], values: Values)
     }
 }
 
-fn wide(n: u8) -> u32
+pub(crate) fn wide(n: u8) -> u32
     ensures { λ r. ⌜ r ≡ n ⌝ }
 {
     n as u32
@@ -75,4 +84,24 @@ pub(crate) fn put_refusal(lent: &mut [f64], refusal: Refusal) -> u32
 {
     put_values(lent, handed_out(refusal));
     wide(number(refusal))
+}
+
+// The status of what the judge answers, with its figures and their mark or its refusal's values. Too few
+// places leave all as it was.
+pub(crate) fn put_answer(lent: &mut [f64], in_range: &mut bool, answer: Answer) -> u32
+    ensures { λ r. ⌜ r ≡ statusIn 8 (now (lent .entry)) (told figureValues (outcome answer)) ⌝ }
+    ensures { λ _. ⌜ now (lent .exit) ≡ leftIn 8 (now (lent .entry)) (told figureValues (outcome answer)) ⌝ }
+    ensures { λ _. ⌜ now («in_range» .exit) ≡ markIn 8 (now (lent .entry)) (now («in_range» .entry)) (outcome answer) ⌝ }
+{
+    if lent.len() < 8 {
+        return TOO_SHORT;
+    }
+    match answer {
+        Answer::Figures(figures) => {
+            put_figures(lent, figures);
+            *in_range = figures.in_cipm_range;
+            FIGURES
+        }
+        Answer::Refused(refusal) => put_refusal(lent, refusal),
+    }
 }

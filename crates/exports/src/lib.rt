@@ -1,6 +1,10 @@
-// The functions for C and Rust to call. `include/station_air.h` is the header of `functions` and
-// `stations`, `include/station_air_rules.h` that of `rules`.
+// The functions for C and Rust to call. `include/station_air_rules.h` is the header of `rules`, and
+// `include/station_air.h` that of the other modules.
 pub mod functions;
 mod lent;
+pub mod records;
 pub mod rules;
+pub mod sheets;
 pub mod stations;
+pub mod trims;
+pub mod votes;

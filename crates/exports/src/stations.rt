@@ -9,7 +9,9 @@ ghost use Rattle.refusal.specs.Outcomes.{accepted};
 ghost use Rattle.density_altitude.specs.Inverse.{station};
 ghost use Rattle.mast.specs.Judge.{judge};
 ghost use Rattle.exports.specs.Lent.{reading, told, statusIn, leftIn, standardValues, airValues, stationValues, figureValues, markIn};
-use super::lent::put_figures;
+use super::lent::FIGURES;
+use super::lent::TOO_SHORT;
+use super::lent::put_answer;
 use super::lent::put_refusal;
 use super::lent::put_station;
 use super::lent::put_two;
@@ -19,12 +21,6 @@ use atmosphere::station::Reading;
 use density_altitude::inverse;
 use density_altitude::inverse::station_for_density_altitude;
 use mast::judge;
-
-// The status of figures.
-const FIGURES: u32 = 0;
-
-// The status of a lent array that is too short. It is no number of a refusal.
-const TOO_SHORT: u32 = 255;
 
 fn reading(given: bool, x: f64) -> Reading
     ensures { λ r. ⌜ r ≡ reading given x ⌝ }
@@ -117,15 +113,5 @@ pub extern "C" fn station_air_judge(record: &[u8], lent: &mut [f64], in_range: &
     ensures { λ _. ⌜ now («in_range» .exit) ≡ markIn 8 (now (lent .entry)) (now («in_range» .entry)) (judge (now («record» .entry))) ⌝ }
     ensures { λ _. ⌜ now («record» .exit) ≡ now («record» .entry) ⌝ }
 {
-    if lent.len() < 8 {
-        return TOO_SHORT;
-    }
-    match judge::judge(record) {
-        judge::Answer::Figures(figures) => {
-            put_figures(lent, figures);
-            *in_range = figures.in_cipm_range;
-            FIGURES
-        }
-        judge::Answer::Refused(refusal) => put_refusal(lent, refusal),
-    }
+    put_answer(lent, in_range, judge::judge(record))
 }

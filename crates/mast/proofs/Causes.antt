@@ -1,5 +1,6 @@
--- Each number has exactly its cause. Assumes nothing.
+-- Each number has exactly its cause, to the first judge and to the strict one. Assumes nothing.
 use mathlib.Core.Path.{_≡_, sym, subst, _∙_}
+use mathlib.Core.Bool.{Bool}
 use mathlib.Core.List.{List}
 use Prim.Native.Nat.{ℕ}
 use Rattle.refusal.specs.Outcomes.{Outcome, accepted, _then_}
@@ -8,12 +9,16 @@ use Rattle.refusal.proofs.Rows.{then-append, then-next, exactly}
 use Rattle.record.specs.Readings.{readRows, readings}
 use Rattle.station.specs.declared.figures.Figures.{Figures}
 use Rattle.station.specs.Figures.{figuresOf}
-use Rattle.mast.specs.Judge.{readingRows, resolved, judged, judge, recordRows, Caused}
+use Rattle.mast.specs.Judge.{readingRows, resolved, judged, judgeBy, recordRows, Caused}
 
--- the judge is one list of rows
-pub by-rows : (s : List ℕ) → judge s ≡ (recordRows s then accepted (figuresOf (resolved (readings s))))
-unfolding judge judged
-by-rows s = then-next (readRows s) (accepted (readings s)) judged ∙ sym (then-append (readRows s) (readingRows (readings s)) (accepted (figuresOf (resolved (readings s)))))
+-- a judge is one list of rows
+by-rows : (strict : Bool) (s : List ℕ) → judgeBy strict s ≡ (recordRows strict s then accepted (figuresOf (resolved (readings s))))
+unfolding judged
+by-rows strict s =
+    then-next (readRows strict s) (accepted (readings s)) judged
+    ∙ sym (then-append (readRows strict s) (readingRows (readings s)) (accepted (figuresOf (resolved (readings s)))))
 
-pub caused : (s : List ℕ) → Caused s
-caused s = let f = figuresOf (resolved (readings s)) in subst (λ (o : Outcome Figures). ExactlyCaused (recordRows s) f o) (sym (by-rows s)) (exactly f (recordRows s))
+pub caused : (strict : Bool) (s : List ℕ) → Caused strict s
+caused strict s =
+    let f = figuresOf (resolved (readings s)) in
+    subst (λ (o : Outcome Figures). ExactlyCaused (recordRows strict s) f o) (sym (by-rows strict s)) (exactly f (recordRows strict s))

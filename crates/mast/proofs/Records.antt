@@ -1,5 +1,6 @@
 -- What the judge's answer depends on, by the laws of the record: its first 256 bytes, nothing past a refusal 6 to 8, and no order of its fields. Assumes nothing.
 use mathlib.Core.Path.{_≡_, refl, sym, ap, subst, _∙_}
+use mathlib.Core.Bool.{false}
 use mathlib.Core.List.{List, [], _∷_, _++_}
 use Prim.Native.Nat.{ℕ, _≤_}
 use native.Mathlib.Omega.{arith}
@@ -24,7 +25,7 @@ use Rattle.mast.specs.Laws.{FirstBytes, NothingAfter, AnyOrder}
 
 pub first-bytes-judged : FirstBytes
 unfolding judge
-first-bytes-judged s = ap (λ (o : Outcome Readings). o ⟫ judged) (first-bytes s)
+first-bytes-judged s = ap (λ (o : Outcome Readings). o ⟫ judged) (first-bytes false s)
 
 pub any-order : AnyOrder
 unfolding judge
@@ -79,8 +80,8 @@ of-readings r k vs e =
 
 pub nothing-after-judged : NothingAfter
 unfolding judge
-nothing-after-judged k vs low high s t e = go (readRecord s) refl e
+nothing-after-judged k vs low high s t e = go (readRecord false s) refl e
   where
-    go : (o : Outcome Readings) → readRecord s ≡ o → (o ⟫ judged) ≡ refused k vs → (readRecord (s ++ t) ⟫ judged) ≡ refused k vs
+    go : (o : Outcome Readings) → readRecord false s ≡ o → (o ⟫ judged) ≡ refused k vs → (readRecord false (s ++ t) ⟫ judged) ≡ refused k vs
     go (accepted r) h e = absurd (of-readings r k vs e low high)
-    go (refused n ws) h e = let same : n ≡ k = cc in ap (λ (o : Outcome Readings). o ⟫ judged) (nothing-after s t h (λ five. omega arith)) ∙ e
+    go (refused n ws) h e = let same : n ≡ k = cc in ap (λ (o : Outcome Readings). o ⟫ judged) (nothing-after false s t h (λ five. omega arith)) ∙ e

@@ -1,6 +1,7 @@
--- The judge of a mast record, document 01: the figures, or the number of one refusal with its values, by a fixed order of checks. Definitions only.
+-- The judge of a mast record, document 01: the figures, or the number of one refusal with its values, by a fixed order of checks. It takes any order of tags;
+-- document 02's strict one only rising tags. Definitions only.
 use Prim.Native.Nat.{ℕ}
-use mathlib.Core.Bool.{not}
+use mathlib.Core.Bool.{Bool, true, false, not}
 use mathlib.Core.List.{List, [], _∷_, _++_}
 use lib.Ieee.{Float, lt}
 use Rattle.elementary.specs.Places.{places}
@@ -69,12 +70,18 @@ unfoldable pub stationOutcome : Float → Readings → Outcome Figures
 stationOutcome d r = wayRows r (Present d) then airOutcome (resolvedBy r (Present d))
 
 -- ---- a record
+abbrev pub judgeBy : Bool → List ℕ → Outcome Figures
+judgeBy strict s = readRecord strict s ⟫ judged
+
 unfoldable pub judge : List ℕ → Outcome Figures
-judge s = readRecord s ⟫ judged
+judge s = judgeBy false s
+
+unfoldable pub judgeStrictly : List ℕ → Outcome Figures
+judgeStrictly s = judgeBy true s
 
 -- each number has exactly its cause: the rows of the record's fields, one after the other, and then those of its readings
-abbrev pub recordRows : List ℕ → List Row
-recordRows s = readRows s ++ readingRows (readings s)
+abbrev pub recordRows : Bool → List ℕ → List Row
+recordRows strict s = readRows strict s ++ readingRows (readings s)
 
-abbrev pub Caused : List ℕ → Type 0
-Caused s = ExactlyCaused (recordRows s) (figuresOf (resolved (readings s))) (judge s)
+abbrev pub Caused : Bool → List ℕ → Type 0
+Caused strict s = ExactlyCaused (recordRows strict s) (figuresOf (resolved (readings s))) (judgeBy strict s)

@@ -45,5 +45,6 @@ NothingAfter = (number : ℕ) (values : List Float) → 6 ≤ number → number 
 
 -- "any tag order": two fields f and g that follow each other, after whole fields s and before any t, may change places
 abbrev pub AnyOrder : Type 0
-AnyOrder = (s f g t : List ℕ) (r q : Readings) → readRecord s ≡ accepted r → length f ≡ sizeOf f → length g ≡ sizeOf g → readRecord (s ++ (f ++ (g ++ t))) ≡ accepted q
+AnyOrder = (s f g t : List ℕ) (r q : Readings) → readRecord false s ≡ accepted r → length f ≡ sizeOf f → length g ≡ sizeOf g
+    → readRecord false (s ++ (f ++ (g ++ t))) ≡ accepted q
     → judge (s ++ (g ++ (f ++ t))) ≡ judge (s ++ (f ++ (g ++ t)))

@@ -41,7 +41,8 @@ fn check_finite(x: f64) -> Check
     refuse_if(!is_finite(x), Refusal::NotFinite(x))
 }
 
-fn check_altitude(entry: Entry) -> Check
+// An altitude's check, where there is one: 11.
+pub fn check_altitude(entry: Entry) -> Check
     ensures { λ r. ⌜ checked r ≡ passed (present finiteRows entry) ⌝ }
 {
     match entry {
@@ -59,7 +60,8 @@ fn check_celsius(entry: Entry) -> Check
     }
 }
 
-fn check_pressure(entry: Entry) -> Check
+// A pressure's checks, where there is one: 11 and 12.
+pub fn check_pressure(entry: Entry) -> Check
     ensures { λ r. ⌜ checked r ≡ passed (present pressureRows entry) ⌝ }
 {
     match entry {
@@ -71,7 +73,8 @@ fn check_pressure(entry: Entry) -> Check
     }
 }
 
-pub(crate) fn check_humidity(entry: Entry) -> Check
+// A humidity's checks, where there is one: 11 and 13.
+pub fn check_humidity(entry: Entry) -> Check
     ensures { λ r. ⌜ checked r ≡ passed (present humidityRows entry) ⌝ }
 {
     match entry {

@@ -1,6 +1,8 @@
 // The judge: eight figures and their mark, or one refusal, by a fixed order of checks.
 ghost use mathlib.Core.Path.{_≡_};
-ghost use Rattle.mast.specs.Judge.{outcome, airOutcome, ordinaryOutcome, humidOutcome, stationOutcome, judged, judge};
+ghost use Rattle.refusal.specs.Outcomes.{_⟫_};
+ghost use Rattle.record.specs.Readings.{readOutcome};
+ghost use Rattle.mast.specs.Judge.{outcome, airOutcome, ordinaryOutcome, humidOutcome, stationOutcome, judged, judge, judgeStrictly};
 use super::checks::check_humidity;
 use super::checks::check_ordinary;
 use super::checks::is_clash;
@@ -11,9 +13,11 @@ use record::fields::DENSITY_ALTITUDE;
 use record::fields::HUMIDITY;
 use record::fields::TEMPERATURE;
 use record::readings::Entry;
+use record::readings::Read;
 use record::readings::Readings;
 use record::readings::entry_of;
 use record::readings::read_record;
+use record::readings::read_record_strictly;
 use refusal::Check;
 use refusal::Refusal;
 use station::figures::Figures;
@@ -89,15 +93,31 @@ pub fn judge_readings(readings: Readings) -> Answer
     }
 }
 
-// What the bytes of a record give: its figures and mark, or one refusal. The record is left as it was.
-pub fn judge(bytes: &[u8]) -> Answer
-    ensures judged { λ r. ⌜ outcome r ≡ judge (now (bytes .entry)) ⌝ }
-    ensures kept { λ _. ⌜ now (bytes .exit) ≡ now (bytes .entry) ⌝ }
+// What was read of a record, judged: the reading's refusal, or what its readings give.
+fn judge_read(read: Read) -> Answer
+    ensures { λ r. ⌜ outcome r ≡ (readOutcome read ⟫ judged) ⌝ }
 {
-    let read = read_record(bytes);
     let check = read.check;
     match check {
         Check::Refused(refusal) => Answer::Refused(refusal),
         Check::Passed => judge_readings(read.readings),
     }
+}
+
+// What the bytes of a record give, with its tags in any order: its figures and mark, or one refusal. The
+// record is left as it was.
+pub fn judge(bytes: &[u8]) -> Answer
+    ensures judged { λ r. ⌜ outcome r ≡ judge (now (bytes .entry)) ⌝ }
+    ensures kept { λ _. ⌜ now (bytes .exit) ≡ now (bytes .entry) ⌝ }
+{
+    judge_read(read_record(bytes))
+}
+
+// What the bytes of a record give whose tags rise: its figures and mark, or one refusal, 19 where a tag is
+// below the one before it. The record is left as it was.
+pub fn judge_strictly(bytes: &[u8]) -> Answer
+    ensures judged { λ r. ⌜ outcome r ≡ judgeStrictly (now (bytes .entry)) ⌝ }
+    ensures kept { λ _. ⌜ now (bytes .exit) ≡ now (bytes .entry) ⌝ }
+{
+    judge_read(read_record_strictly(bytes))
 }

@@ -1,6 +1,6 @@
 -- A field depends only on its own bytes: one that is whole is the same whatever follows it. Assumes nothing.
 use mathlib.Core.Path.{_≡_, refl, sym, ap, ap₂, _∙_}
-use mathlib.Core.Bool.{not}
+use mathlib.Core.Bool.{Bool, true, false, not, cond}
 use mathlib.Core.List.{List, [], _∷_, _++_}
 use Prim.Native.Nat.{ℕ, zero, suc, _+_, _*_, _≤_}
 use native.Mathlib.Omega.{arith}
@@ -11,10 +11,12 @@ use lib.ListN.{length, drop, length-append, List·getD-append}
 use lib.Seq.{drop-append-le}
 use Rattle.refusal.specs.Outcomes.{Outcome, Row, row, _then_}
 use Rattle.record.specs.declared.fields.Field.{Field}
+use Rattle.record.specs.declared.fields.Value.the-variants.{Double, Count}
 use Rattle.record.specs.declared.readings.Readings.{Readings}
-use Rattle.record.specs.Bytes.{wordAt}
-use Rattle.record.specs.Fields.{isTag, meaningOf, dataSize, tagOf, lengthOf, sizeOf, field, headRows}
-use Rattle.record.specs.Readings.{repeatRows, noted}
+use Rattle.record.specs.Bytes.{wordAt, doubleAt}
+use Rattle.record.specs.Fields.{isCountTag, isTag, meaningOf, dataSize, tagOf, lengthOf, sizeOf, valueOf, field, headRows}
+use Rattle.record.specs.Readings.{orderRows, noted}
+use Rattle.record.proofs.Forms.{size-by}
 use Rattle.record.proofs.Walk.{fieldRows, read, read-step}
 
 -- the rows of a field's header
@@ -40,20 +42,30 @@ module _ (s t : List ℕ) where
     header : 3 ≤ length s
     header = omega arith
 
-    same-rows : headRows (s ++ t) ≡ headRows s
+    pub same-rows : headRows (s ++ t) ≡ headRows s
     unfolding headRows
-    same-rows = λ i. same-header header i ++ row (long (sizeOf s) whole i) 5 [] ∷ []
+    same-rows =
+        let cut = ap (λ (n : ℕ). ltb (length (s ++ t)) (3 + dataSize n)) (tag header) ∙ long (sizeOf s) whole in
+        λ i. same-header header i ++ row (cut i) 5 [] ∷ []
 
-    same-field : field (s ++ t) ≡ field s
+    by-form : (b : Bool) → isCountTag (tagOf s) ≡ b → cond b (Count (wordAt (s ++ t) 3 4)) (Double (doubleAt (s ++ t) 3)) ≡ cond b (Count (wordAt s 3 4)) (Double (doubleAt s 3))
+    by-form true e = ap (λ (w : ℕ). Count w) (word 3 4 (omega (arith, size-by (tagOf s) _ e)))
+    by-form false e = ap (λ (w : ℕ). Double (ofBits binary64 w)) (word 3 8 (omega (arith, size-by (tagOf s) _ e)))
+
+    same-value : valueOf (s ++ t) ≡ valueOf s
+    same-value = ap (λ (n : ℕ). cond (isCountTag n) (Count (wordAt (s ++ t) 3 4)) (Double (doubleAt (s ++ t) 3))) (tag header) ∙ by-form (isCountTag (tagOf s)) refl
+
+    pub same-field : field (s ++ t) ≡ field s
     unfolding field
-    same-field = λ i. record { meaning = meaningOf (tag header i); value = ofBits binary64 (word 3 8 whole i); size = sizeOf s }
+    same-field = λ i. record { tag = tag header i; meaning = meaningOf (tag header i); value = same-value i; size = 3 + dataSize (tag header i) }
 
     -- the rows of the field, and the reading of what follows it
-    pub read-whole : (r : Readings) → read r (s ++ t) ≡ (fieldRows r s then read (noted r (field s)) (drop (sizeOf s) s ++ t))
-    read-whole r =
-        read-step r (s ++ t) (omega (arith, length-append s t))
-        ∙ ap (λ (rows : List Row). parts rows (field (s ++ t)) (drop (sizeOf s) (s ++ t))) same-rows
-        ∙ ap₂ (λ (f : Field) (u : List ℕ). parts (headRows s) f u) same-field (drop-append-le (sizeOf s) s t whole)
+    pub read-whole : (strict : Bool) (r : Readings) (last : ℕ)
+        → read strict r last (s ++ t) ≡ (fieldRows strict r last s then read strict (noted r (field s)) (tagOf s) (drop (sizeOf s) s ++ t))
+    read-whole strict r last =
+        read-step strict r last (s ++ t) (omega (arith, length-append s t))
+        ∙ ap₂ (λ (rows : List Row) (n : ℕ). parts rows (field (s ++ t)) n (drop (3 + dataSize n) (s ++ t))) same-rows (tag header)
+        ∙ ap₂ (λ (f : Field) (u : List ℕ). parts (headRows s) f (tagOf s) u) same-field (drop-append-le (sizeOf s) s t whole)
       where
-        parts : List Row → Field → List ℕ → Outcome Readings
-        parts rows f u = (rows ++ repeatRows r f) then read (noted r f) u
+        parts : List Row → Field → ℕ → List ℕ → Outcome Readings
+        parts rows f n u = (rows ++ orderRows strict r last f) then read strict (noted r f) n u

@@ -12,25 +12,26 @@ use lib.ListN.{length, drop, length-append, length-drop}
 use Rattle.refusal.specs.Outcomes.{Outcome, accepted, refused, Row, row, _then_}
 use Rattle.refusal.proofs.Rows.{then-append, then-none, then-to, then-accepted}
 use Rattle.record.specs.declared.readings.Readings.{Readings}
-use Rattle.record.specs.Fields.{field, headRows, sizeOf}
-use Rattle.record.specs.Readings.{repeatRows, noReadings, noted, readRecord}
-use Rattle.record.proofs.Walk.{fieldRows, no-bytes, read, read-step}
+use Rattle.record.specs.Fields.{tagOf, field, headRows, sizeOf}
+use Rattle.record.specs.Readings.{orderRows, noReadings, noted, readRecord}
+use Rattle.record.proofs.Walk.{fieldRows, no-bytes, read, read-step, any-last}
 use Rattle.record.proofs.Entries.{is-whole}
 use Rattle.record.proofs.Followed.{headerRows, same-header, read-whole}
 
 -- ---- a refusal other than 5
-module _ {k : ℕ} {vs : List Float} (other : k ≡ 5 → ⊥) where
+module _ (strict : Bool) {k : ℕ} {vs : List Float} (other : k ≡ 5 → ⊥) where
   -- the header is cut, or the data
-  cut : (r : Readings) (s t : List ℕ) (o p : Outcome Readings) → length s < sizeOf s → (fieldRows r s then o) ≡ refused k vs → (fieldRows r (s ++ t) then p) ≡ refused k vs
+  cut : (r : Readings) (last : ℕ) (s t : List ℕ) (o p : Outcome Readings) → length s < sizeOf s → (fieldRows strict r last s then o) ≡ refused k vs
+      → (fieldRows strict r last (s ++ t) then p) ≡ refused k vs
   unfolding headRows
-  cut r s t o p short e = go (ltb (length s) 3) refl
+  cut r last s t o p short e = go (ltb (length s) 3) refl
     where
       data-row : List ℕ → List Row
-      data-row u = row (ltb (length u) (sizeOf u)) 5 [] ∷ repeatRows r (field u)
+      data-row u = row (ltb (length u) (sizeOf u)) 5 [] ∷ orderRows strict r last (field u)
 
-      go : (b : Bool) → ltb (length s) 3 ≡ b → (fieldRows r (s ++ t) then p) ≡ refused k vs
+      go : (b : Bool) → ltb (length s) 3 ≡ b → (fieldRows strict r last (s ++ t) then p) ≡ refused k vs
       go true h =
-          let five : (fieldRows r s then o) ≡ refused 5 [] = rw h in
+          let five : (fieldRows strict r last s then o) ≡ refused 5 [] = rw h in
           absurd (other (cc))
       go false h =
           let five : (data-row s then o) ≡ refused 5 [] = rw (lt-ltb (length s) (sizeOf s) short) in
@@ -38,33 +39,41 @@ module _ {k : ℕ} {vs : List Float} (other : k ≡ 5 → ⊥) where
           ∙ ap (λ (rows : List Row). rows then data-row (s ++ t) then p) (same-header s t (ltb-false (length s) 3 h))
           ∙ then-to (headerRows s) (λ none f. absurd (other (cc))) (sym (then-append (headerRows s) (data-row s) o) ∙ e)
 
-  refused-from : (n : ℕ) (r : Readings) (s t : List ℕ) → length s < n → read r s ≡ refused k vs → read r (s ++ t) ≡ refused k vs
-  refused-from zero r s t h e = absurd (omega arith)
-  refused-from (suc n) r [] t h e = let f = no-bytes zero r in let z : _≡_ {A = ℕ} 0 1 = cc in absurd (omega arith)
-  refused-from (suc n) r (c ∷ u) t h e = go (ltb (length s) (sizeOf s)) refl (sym (read-step r s (omega arith)) ∙ e)
-      (refused-from n (noted r (field s)) (drop (sizeOf s) s) t (omega (arith, length-drop (sizeOf s) s)))
+  refused-from : (n : ℕ) (r : Readings) (last : ℕ) (s t : List ℕ) → length s < n → read strict r last s ≡ refused k vs → read strict r last (s ++ t) ≡ refused k vs
+  refused-from zero r last s t h e = absurd (omega arith)
+  refused-from (suc n) r last [] t h e = let f = no-bytes strict zero r last in let z : _≡_ {A = ℕ} 0 1 = cc in absurd (omega arith)
+  refused-from (suc n) r last (c ∷ u) t h e = go (ltb (length s) (sizeOf s)) refl (sym (read-step strict r last s (omega arith)) ∙ e)
+      (refused-from n (noted r (field s)) (tagOf s) (drop (sizeOf s) s) t (omega (arith, length-drop (sizeOf s) s)))
     where
       s : List ℕ
       s = c ∷ u
 
-      go : (b : Bool) → ltb (length s) (sizeOf s) ≡ b → (fieldRows r s then read (noted r (field s)) (drop (sizeOf s) s)) ≡ refused k vs
-          → (read (noted r (field s)) (drop (sizeOf s) s) ≡ refused k vs → read (noted r (field s)) (drop (sizeOf s) s ++ t) ≡ refused k vs) → read r (s ++ t) ≡ refused k vs
-      go true h e rest = read-step r (s ++ t) (omega (arith, length-append s t)) ∙ cut r s t _ _ (ltb-true (length s) (sizeOf s) h) e
-      go false h e rest = read-whole s t (ltb-false (length s) (sizeOf s) h) r ∙ then-to (fieldRows r s) (λ none. rest) e
+      next : List ℕ → Outcome Readings
+      next = read strict (noted r (field s)) (tagOf s)
 
-pub nothing-after : {k : ℕ} {vs : List Float} (s t : List ℕ) → readRecord s ≡ refused k vs → (k ≡ 5 → ⊥) → readRecord (s ++ t) ≡ refused k vs
-nothing-after s t e other = refused-from other (suc (length s)) noReadings s t (omega arith) e
+      go : (b : Bool) → ltb (length s) (sizeOf s) ≡ b → (fieldRows strict r last s then next (drop (sizeOf s) s)) ≡ refused k vs
+          → (next (drop (sizeOf s) s) ≡ refused k vs → next (drop (sizeOf s) s ++ t) ≡ refused k vs) → read strict r last (s ++ t) ≡ refused k vs
+      go true h e rest = read-step strict r last (s ++ t) (omega (arith, length-append s t)) ∙ cut r last s t _ _ (ltb-true (length s) (sizeOf s) h) e
+      go false h e rest = read-whole s t (ltb-false (length s) (sizeOf s) h) strict r last ∙ then-to (fieldRows strict r last s) (λ none. rest) e
+
+pub nothing-after : (strict : Bool) {k : ℕ} {vs : List Float} (s t : List ℕ) → readRecord strict s ≡ refused k vs → (k ≡ 5 → ⊥) → readRecord strict (s ++ t) ≡ refused k vs
+nothing-after strict s t e other = refused-from strict other (suc (length s)) noReadings 0 s t (omega arith) e
 
 -- ---- an accepted record
-from-readings : (n : ℕ) (r : Readings) (a s : List ℕ) {q : Readings} → length a < n → read r a ≡ accepted q → read r (a ++ s) ≡ read q s
-from-readings zero r a s h e = absurd (omega arith)
-from-readings (suc n) r [] s h e = let f = no-bytes zero r in ap (λ (q : Readings). read q s) (cc)
-from-readings (suc n) r (c ∷ u) s h e =
-    let a = c ∷ u in
-    let ok = then-accepted (fieldRows r a) (sym (read-step r a (omega arith)) ∙ e) in
-    read-whole a s (is-whole r a (ok .0)) r
-    ∙ then-none (fieldRows r a) (ok .0)
-    ∙ from-readings n (noted r (field a)) (drop (sizeOf a) a) s (omega (arith, length-drop (sizeOf a) a)) (ok .1)
+-- what follows it, after the last of its tags
+pub record ReadOn (strict : Bool) (r : Readings) (last : ℕ) (a s : List ℕ) (q : Readings) : Type 0 where
+  pub end : ℕ
+  pub same : read strict r last (a ++ s) ≡ read strict q end s
 
-pub read-on : (a s : List ℕ) {q : Readings} → readRecord a ≡ accepted q → readRecord (a ++ s) ≡ read q s
-read-on a s e = from-readings (suc (length a)) noReadings a s (omega arith) e
+from-readings : (strict : Bool) (n : ℕ) (r : Readings) (last : ℕ) (a s : List ℕ) {q : Readings} → length a < n → read strict r last a ≡ accepted q → ReadOn strict r last a s q
+from-readings strict zero r last a s h e = absurd (omega arith)
+from-readings strict (suc n) r last [] s h e = let f = no-bytes strict zero r last in record { end = last; same = ap (λ (q : Readings). read strict q last s) (cc) }
+from-readings strict (suc n) r last (c ∷ u) s h e =
+    let a = c ∷ u in
+    let ok = then-accepted (fieldRows strict r last a) (sym (read-step strict r last a (omega arith)) ∙ e) in
+    let on = from-readings strict n (noted r (field a)) (tagOf a) (drop (sizeOf a) a) s (omega (arith, length-drop (sizeOf a) a)) (ok .1) in
+    record { end = on .end; same = read-whole a s (is-whole strict r last a (ok .0)) strict r last ∙ then-none (fieldRows strict r last a) (ok .0) ∙ on .same }
+
+-- the first reader does not look at that tag
+pub read-on : (a s : List ℕ) {q : Readings} → readRecord false a ≡ accepted q → readRecord false (a ++ s) ≡ read false q 0 s
+read-on a s {q} e = let on = from-readings false (suc (length a)) noReadings 0 a s (omega arith) e in on .same ∙ any-last (length s) q (on .end) 0 s

@@ -1,7 +1,10 @@
--- A field by its checks, the record field by field, and a turn of the reading.
+-- A field by its form and its checks, the record field by field, and a turn of the reading.
+pub mod Forms
 pub mod FieldChecks
 pub mod Walk
 pub mod Entries
+-- The entries by meaning, each of them a double.
+pub mod ByMeaning
 pub mod Turn
 -- What a record depends on: a whole field on its own bytes, a refusal other than 5 on nothing past it, a record on its first 256 bytes and on no order of
 -- its fields.
@@ -9,6 +12,8 @@ pub mod Followed
 pub mod FirstBytes
 pub mod Following
 pub mod Exchange
+-- The strict reader beside the first.
+pub mod Strict
 -- The walks of the field reader's functions.
 pub mod Thin
 pub mod Held

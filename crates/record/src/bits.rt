@@ -1,6 +1,6 @@
-// Doubles and their bit patterns: a double out of eight bytes.
+// Doubles and their bit patterns, and what bytes spell: a number, a double.
 ghost use mathlib.Core.Path.{_≡_};
-ghost use Prim.Native.Nat.{_+_, _≤_};
+ghost use Prim.Native.Nat.{_+_, _^_, _≤_, _<_};
 ghost use lib.ListN.{length};
 ghost use lib.Ieee.{binary64, ofBits, toBits, isNan};
 ghost use Rattle.record.specs.Bytes.{wordAt, doubleAt};
@@ -45,6 +45,7 @@ fn wide(x: u8) -> u64
 pub(crate) fn word_at(bytes: &[u8], at: usize, width: usize) -> u64
     requires { ⌜ (width ≤ 8) × (at + width ≤ length (now bytes)) ⌝ }
     ensures { λ r. ⌜ r ≡ wordAt (now (bytes .entry)) at width ⌝ }
+    ensures below { λ r. ⌜ r < 256 ^ width ⌝ }
 {
     let mut value = 0;
     let mut i = 0;

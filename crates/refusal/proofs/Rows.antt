@@ -1,6 +1,7 @@
 -- Lists of rows: one after the other, what comes after them, and that an outcome of rows is exactly caused by them. Assumes nothing.
 use mathlib.Core.Path.{_≡_, refl, sym, ap, ap₂, _∙_}
 use mathlib.Core.Bool.{Bool, true, false, cond}
+use mathlib.Core.Logic.{_⊎_, inl, inr}
 use mathlib.Core.List.{List, [], _∷_, _++_}
 use Prim.Native.Nat.{ℕ}
 use native.Mathlib.Omega.{arith}
@@ -40,6 +41,30 @@ after-check rows o told e = ap (λ (p : Outcome (Unit {0})). p ⟫ (λ _. o)) (s
 pub then-none : {A : Type 0} {o : Outcome A} (rows : List Row) → NoneHolds rows → (rows then o) ≡ o
 then-none [] h = refl
 then-none {A} {o} (r ∷ rows) h = ap (λ (b : Bool). cond b (refused (r .number) (r .values)) (rows then o)) (h .0) ∙ then-none rows (h .1)
+
+-- none of a part of the rows
+pub none-before : (xs ys : List Row) → NoneHolds (xs ++ ys) → NoneHolds xs
+none-before [] ys h = tt
+none-before (r ∷ xs) ys h = (h .0, none-before xs ys (h .1))
+
+pub none-after : (xs ys : List Row) → NoneHolds (xs ++ ys) → NoneHolds ys
+none-after [] ys h = h
+none-after (r ∷ xs) ys h = none-after xs ys (h .1)
+
+pub none-both : (xs ys : List Row) → NoneHolds xs → NoneHolds ys → NoneHolds (xs ++ ys)
+none-both [] ys h k = k
+none-both (r ∷ xs) ys h k = (h .0, none-both xs ys (h .1) k)
+
+-- where a row holds, nothing after them matters
+pub decided : {A : Type 0} (rows : List Row) → NoneHolds rows ⊎ ((o p : Outcome A) → (rows then o) ≡ (rows then p))
+decided [] = inl tt
+decided {A} (r ∷ rows) = go (r .holds) refl (decided rows)
+  where
+    go : (b : Bool) → r .holds ≡ b → NoneHolds rows ⊎ ((o p : Outcome A) → (rows then o) ≡ (rows then p))
+        → ((r .holds ≡ false) × NoneHolds rows) ⊎ ((o p : Outcome A) → ((r ∷ rows) then o) ≡ ((r ∷ rows) then p))
+    go true h rest = inr (λ o p. rw h)
+    go false h (inl none) = inl (h, none)
+    go false h (inr same) = inr (λ o p. by-first (r .holds) (r .number) (r .values) (same o p))
 
 -- what comes after rows matters only there
 pub then-to : {A : Type 0} {o p q : Outcome A} (rows : List Row) → (NoneHolds rows → o ≡ q → p ≡ q) → (rows then o) ≡ q → (rows then p) ≡ q

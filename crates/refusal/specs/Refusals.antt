@@ -1,9 +1,10 @@
--- Document 01's table of refusals: the number of each cause, and the values that it hands out. Definitions only.
+-- Document 01's table of refusals, and those of document 02, which hand out no value: the number of each cause, and the values that it hands out.
+-- Definitions only.
 use Prim.Native.Nat.{ℕ}
 use mathlib.Core.List.{List, [], _∷_}
 use lib.Ieee.{Float}
 use Rattle.refusal.specs.declared.Refusal.{Refusal}
-use Rattle.refusal.specs.declared.Refusal.the-variants.{DensityAltitudeNotFinite, TemperatureNotFinite, TemperatureTooLow, NoAir, Cut, UnknownTag, WrongLength, RepeatedTag, Clash, NoAltitude, NotFinite, PressureNotPositive, HumidityOutOfRange, TooMuchVapor, NotAir}
+use Rattle.refusal.specs.declared.Refusal.the-variants.{DensityAltitudeNotFinite, TemperatureNotFinite, TemperatureTooLow, NoAir, Cut, UnknownTag, WrongLength, RepeatedTag, Clash, NoAltitude, NotFinite, PressureNotPositive, HumidityOutOfRange, TooMuchVapor, NotAir, PageTooShort, TooWide, BufferTooShort, TagFalls, NoCount, FieldNotInAll, NoReadingToChange}
 use Rattle.refusal.specs.declared.Values.{Values}
 use Rattle.refusal.specs.declared.Values.the-variants as value
 
@@ -23,6 +24,13 @@ numberOf (PressureNotPositive p) = 12
 numberOf (HumidityOutOfRange h) = 13
 numberOf TooMuchVapor = 14
 numberOf NotAir = 15
+numberOf PageTooShort = 16
+numberOf TooWide = 17
+numberOf BufferTooShort = 18
+numberOf TagFalls = 19
+numberOf NoCount = 20
+numberOf FieldNotInAll = 21
+numberOf NoReadingToChange = 22
 
 abbrev pub valuesOf : Refusal → List Float
 valuesOf (DensityAltitudeNotFinite d) = d ∷ []
@@ -40,6 +48,13 @@ valuesOf (PressureNotPositive p) = p ∷ []
 valuesOf (HumidityOutOfRange h) = h ∷ []
 valuesOf TooMuchVapor = []
 valuesOf NotAir = []
+valuesOf PageTooShort = []
+valuesOf TooWide = []
+valuesOf BufferTooShort = []
+valuesOf TagFalls = []
+valuesOf NoCount = []
+valuesOf FieldNotInAll = []
+valuesOf NoReadingToChange = []
 
 -- the values of the code's
 abbrev pub listed : Values → List Float

@@ -1,5 +1,5 @@
-// Why readings are refused: the causes of document 01's table, each with its number and the values that
-// it hands out, and how one check follows another.
+// Why readings are refused: the causes of document 01's table and of document 02, each with its number
+// and the values that it hands out, and how one check follows another.
 ghost use mathlib.Core.Path.{_≡_};
 ghost use Rattle.refusal.specs.Refusals.{numberOf, valuesOf, listed};
 ghost use Rattle.refusal.specs.Outcomes.{checked, row, passed, _⟫_};
@@ -30,9 +30,23 @@ pub enum Refusal {
     TooMuchVapor,
     // a figure that is not finite, or a pressure, density or sound speed that is not above 0
     NotAir,
+    // a page of fewer bytes than a sheet has
+    PageTooShort,
+    // a figure that is wider than its column
+    TooWide,
+    // a record's buffer
+    BufferTooShort,
+    // a tag below the one before it
+    TagFalls,
+    // a double that no count gives
+    NoCount,
+    // a field that is in one or two of three records
+    FieldNotInAll,
+    // no temperature or no measured pressure
+    NoReadingToChange,
 }
 
-// The number of a cause in document 01's table.
+// The number of a cause.
 pub fn number(refusal: Refusal) -> u8
     ensures { λ r. ⌜ r ≡ numberOf refusal ⌝ }
 {
@@ -52,6 +66,13 @@ pub fn number(refusal: Refusal) -> u8
         Refusal::HumidityOutOfRange(_) => 13,
         Refusal::TooMuchVapor => 14,
         Refusal::NotAir => 15,
+        Refusal::PageTooShort => 16,
+        Refusal::TooWide => 17,
+        Refusal::BufferTooShort => 18,
+        Refusal::TagFalls => 19,
+        Refusal::NoCount => 20,
+        Refusal::FieldNotInAll => 21,
+        Refusal::NoReadingToChange => 22,
     }
 }
 
@@ -62,7 +83,7 @@ pub enum Values {
     Two(f64, f64),
 }
 
-// What a cause hands out, by document 01's table.
+// What a cause hands out.
 pub fn handed_out(refusal: Refusal) -> Values
     ensures { λ r. ⌜ listed r ≡ valuesOf refusal ⌝ }
 {
@@ -82,6 +103,13 @@ pub fn handed_out(refusal: Refusal) -> Values
         Refusal::HumidityOutOfRange(h) => Values::One(h),
         Refusal::TooMuchVapor => Values::None,
         Refusal::NotAir => Values::None,
+        Refusal::PageTooShort => Values::None,
+        Refusal::TooWide => Values::None,
+        Refusal::BufferTooShort => Values::None,
+        Refusal::TagFalls => Values::None,
+        Refusal::NoCount => Values::None,
+        Refusal::FieldNotInAll => Values::None,
+        Refusal::NoReadingToChange => Values::None,
     }
 }
 

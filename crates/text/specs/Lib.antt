@@ -1,3 +1,4 @@
--- What the contracts of `text` cite, and document 01's samples.
+-- What the contracts of `text` cite: texts, and what the program is asked for; and document 01's samples.
 pub mod Text
+pub mod Asked
 pub mod Samples

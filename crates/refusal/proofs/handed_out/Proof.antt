@@ -45,18 +45,32 @@ handed-out-spec =
     (λ c. search needs)
     (λ c. search needs)
     (λ c. search needs)
+    (λ c. search needs)
+    (λ c. search needs)
+    (λ c. search needs)
+    (λ c. search needs)
+    (λ c. search needs)
+    (λ c. search needs)
+    (λ c. search needs)
     returns
     returns-2
     returns-3
     returns-4
-    (λ c. search needs)
-    (λ c. search needs)
-    (λ c. search needs)
-    (λ c. search needs)
-    (λ c. search needs)
-    (λ c. search needs)
+    (λ c. ap valuesOf (sym (c .enum-told .given .1)))
+    (λ c. ap valuesOf (sym (c .enum-told2 .given .1)))
+    (λ c. ap valuesOf (sym (c .enum-told3 .given .1)))
+    (λ c. ap valuesOf (sym (c .enum-told4 .given .1)))
+    (λ c. ap valuesOf (sym (c .enum-told5 .given .1)))
+    (λ c. ap valuesOf (sym (c .enum-told6 .given .1)))
     returns-11
     returns-12
     returns-13
-    (λ c. search needs)
-    (λ c. search needs))
+    (λ c. ap valuesOf (sym (c .enum-told7 .given .1)))
+    (λ c. ap valuesOf (sym (c .enum-told8 .given .1)))
+    (λ c. ap valuesOf (sym (c .enum-told9 .given .1)))
+    (λ c. ap valuesOf (sym (c .enum-told10 .given .1)))
+    (λ c. ap valuesOf (sym (c .enum-told11 .given .1)))
+    (λ c. ap valuesOf (sym (c .enum-told12 .given .1)))
+    (λ c. ap valuesOf (sym (c .enum-told13 .given .1)))
+    (λ c. ap valuesOf (sym (c .enum-told14 .given .1)))
+    (λ c. ap valuesOf (sym (c .enum-told15 .given .1))))

@@ -28,6 +28,13 @@ below-hundred (cause.PressureNotPositive p) = lit< tt
 below-hundred (cause.HumidityOutOfRange h) = lit< tt
 below-hundred cause.TooMuchVapor = lit< tt
 below-hundred cause.NotAir = lit< tt
+below-hundred cause.PageTooShort = lit< tt
+below-hundred cause.TooWide = lit< tt
+below-hundred cause.BufferTooShort = lit< tt
+below-hundred cause.TagFalls = lit< tt
+below-hundred cause.NoCount = lit< tt
+below-hundred cause.FieldNotInAll = lit< tt
+below-hundred cause.NoReadingToChange = lit< tt
 
 with-number-requires : tie.Need-with-number-requires
 with-number-requires c κs = (rw (c .number .ensures) (below-hundred (c .before .before .before .before .args .refusal)), omega (arith, c .before .with-word .ensures .len))

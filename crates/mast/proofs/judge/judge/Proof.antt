@@ -1,39 +1,15 @@
--- `mast::judge::judge` meets its contract: a refusal of the reading is the last word. Assumes nothing.
-use mathlib.Core.Path.{_≡_, refl, sym, ap, _∙_}
-use mathlib.Core.List.{List}
-use Prim.Native.Nat.{ℕ}
-use Rattle.refusal.specs.declared.Check.{Check}
-use Rattle.refusal.specs.Outcomes.{Outcome, accepted, _⟫_, checked}
-use Rattle.record.specs.declared.readings.Readings.{Readings}
-use Rattle.record.specs.declared.readings.Read.{Read}
-use Rattle.record.specs.Readings.{readRecord, readOutcome}
-use Rattle.mast.specs.Judge.{judged, judge}
+-- `mast::judge::judge` meets its contract. Assumes nothing.
+use mathlib.Core.Path.{refl, ap, _∙_}
 use borrow.Author.Needs.{needs}
+use Rattle.refusal.specs.Outcomes.{Outcome, _⟫_}
+use Rattle.record.specs.declared.readings.Readings.{Readings}
+use Rattle.mast.specs.Judge.{judged, judge}
 use Rattle.mast.proofs.judge.judge.Statement.{statement}
 use Rattle.mast.proofs.judge.judge.Tie as tie
 
-by-read : (s : List ℕ) (r : Read) {k : Check} → r .check ≡ k → readOutcome r ≡ readRecord s → ((checked k ⟫ (λ _. accepted (r .readings))) ⟫ judged) ≡ judge s
-unfolding judge
-by-read s r told e = ap (λ (o : Outcome Readings). o ⟫ judged) (ap (λ (k : Check). checked k ⟫ (λ _. accepted (r .readings))) (sym told) ∙ e)
-
 returns : tie.Need-returns
-returns c =
-    let read = c .before .before .before in
-    (by-read (read .before .before .args .bytes .now) (read .read-record .result) (c .before .check .given .1) (read .read-record .ensures .0), refl)
-
-returns-2 : tie.Need-returns-2
-returns-2 c =
-    let told = c .before in
-    let read = told .before .before in
-    (c .judge-readings .ensures ∙ by-read (read .before .before .args .bytes .now) (read .read-record .result) (told .enum-told .given .1) (read .read-record .ensures .0), refl)
+unfolding judge
+returns c = (c .judge-read .ensures ∙ ap (λ (o : Outcome Readings). o ⟫ judged) (c .before .read-record .ensures .0), refl)
 
 pub judge-spec : {M : Type 1} → statement M
-judge-spec =
-    tie.close
-    (tie.spec
-    (λ c κs. search needs)
-    (λ c. search needs)
-    (λ c. search needs)
-    (λ c κs. search needs)
-    returns
-    returns-2)
+judge-spec = tie.close (tie.spec (λ c κs. search needs) (λ c κs. search needs) returns)

@@ -6,7 +6,7 @@ use Rattle.record.proofs.bits.double_at.Statement.{statement}
 use Rattle.record.proofs.bits.double_at.Tie as tie
 
 returns : tie.Need-returns
-returns c = c .double .ensures ∙ ap (ofBits binary64) (c .before .word-at .ensures)
+returns c = c .double .ensures ∙ ap (ofBits binary64) (c .before .word-at .ensures .0)
 
 pub double-at-spec : {M : Type 1} → statement M
 double-at-spec = tie.close (tie.spec (λ c κs. search needs) (λ c κs. search needs) returns)

@@ -62,7 +62,7 @@ loop-again c =
 returns : tie.Need-returns Inv-loop μ-loop
 returns c =
     let all : c .before .loop .i ≡ c .before .before .before .args .width = omega arith in
-    rw all at (c .before .loop .inv .1 .0)
+    (rw all at (c .before .loop .inv .1 .0), rw all at (c .before .loop .inv .1 .1))
 
 pub word-at-spec : {M : Type 1} → statement M
 word-at-spec =

@@ -1,32 +1,23 @@
 -- `record::fields::head_field` meets its contract: each answer is that of the checks that led to it. Assumes nothing.
-use mathlib.Core.Path.{_≡_, refl, sym, ap, ap₂, _∙_}
-use mathlib.Core.Bool.{Bool, true, false, not, _&&_, true≢false}
-use Prim.Native.Nat.{ℕ, _+_, _<_}
-use lib.Dec.{leb, ltb, eqb}
+use mathlib.Core.Path.{_≡_, refl, sym, ap, _∙_}
+use mathlib.Core.Bool.{false, not}
+use Prim.Native.Nat.{ℕ, _+_}
+use lib.Dec.{ltb, eqb}
 use lib.ListN.{length}
-use lib.Ieee.{Float}
 use mathlib.Core.List.{List}
 use Rattle.refusal.specs.Outcomes.{accepted}
-use Rattle.record.specs.Bytes.{doubleAt}
+use Rattle.record.specs.declared.fields.Value.{Value}
 use native.Mathlib.Omega.{arith}
 use borrow.Author.Needs.{needs}
-use borrow.Author.Tests.{lt-ltb, le-ltb, leb-true, eq-eqb, ne-eqb, not-false}
-use Rattle.record.specs.Fields.{meanings, isTag, meaningOf, dataSize, tagOf, lengthOf, sizeOf, field}
+use borrow.Author.Tests.{lt-ltb, le-ltb, eq-eqb, ne-eqb}
+use Rattle.record.specs.Fields.{isTag, meaningOf, dataSize, tagOf, lengthOf, sizeOf, valueOf, field}
 use Rattle.record.proofs.FieldChecks.{by-checks}
 use Rattle.record.proofs.fields.head_field.Statement.{statement}
 use Rattle.record.proofs.fields.head_field.Tie as tie
 
--- a tag is at least 1
-first-of : (tag : ℕ) → isTag tag ≡ true → 0 < tag
-first-of tag e = go (leb 1 tag) refl e
-  where
-    go : (b : Bool) → leb 1 tag ≡ b → (b && leb tag meanings) ≡ true → 0 < tag
-    go true h e = leb-true 1 tag h
-    go false h e = absurd (true≢false (sym e))
-
-made : (s : List ℕ) {m n : ℕ} {x : Float} → m ≡ meaningOf (tagOf s) → x ≡ doubleAt s 3 → n ≡ sizeOf s → accepted (record { meaning = m; value = x; size = n }) ≡ accepted (field s)
+made : (s : List ℕ) {m n : ℕ} {v : Value} → m ≡ meaningOf (tagOf s) → v ≡ valueOf s → n ≡ sizeOf s → accepted (record { tag = tagOf s; meaning = m; value = v; size = n }) ≡ accepted (field s)
 unfolding field
-made s e f g = λ i. accepted (record { meaning = e i; value = f i; size = g i })
+made s e f g = λ i. accepted (record { tag = tagOf s; meaning = e i; value = f i; size = g i })
 
 returns : tie.Need-returns
 returns c = by-checks (c .before .before .args .bytes .now) (lt-ltb _ _ (c .if1 .taken)) refl refl refl
@@ -45,11 +36,11 @@ returns-3 c =
     let read = c .before in
     let known = tagged (read .before .before) in
     let s = read .before .before .before .before .before .before .before .args .bytes .now in
-    by-checks s (known .0) (known .1) (ap not (ne-eqb _ _ (λ e. c .if3 .taken (read .word-at .ensures ∙ e ∙ sym (read .before .data-size .ensures))))) refl
+    by-checks s (known .0) (known .1) (ap not (ne-eqb _ _ (λ e. c .if3 .taken (read .word-at .ensures .0 ∙ e ∙ sym (read .before .data-size .ensures))))) refl
 
 -- past the check of the length too
 measured : (c : tie.Else3) → let s = c .before .before .before .before .before .before .before .before .args .bytes .now in not (eqb (lengthOf s) (dataSize (tagOf s))) ≡ false
-measured c = ap not (eq-eqb _ _ (sym (c .before .word-at .ensures) ∙ c .if3 .left ∙ c .before .before .data-size .ensures))
+measured c = ap not (eq-eqb _ _ (sym (c .before .word-at .ensures .0) ∙ c .if3 .left ∙ c .before .before .data-size .ensures))
 
 returns-4 : tie.Need-returns-4
 returns-4 c =
@@ -58,19 +49,13 @@ returns-4 c =
     let s = at .before .before .before .before .before .before .before .before .args .bytes .now in
     by-checks s (known .0) (known .1) (measured at) (lt-ltb (length s) (sizeOf s) (omega (arith, at .before .before .data-size .ensures)))
 
-meaning-of-requires : tie.Need-meaning-of-requires
-meaning-of-requires c κs =
-    let s = c .before .before .before .before .before .before .before .before .before .args .bytes .now in
-    let known : isTag (tagOf s) ≡ true = not-false _ (tagged (c .before .before .before .before) .1) in
-    first-of (tagOf s) known
-
 returns-5 : tie.Need-returns-5
 returns-5 c =
     let at = c .before .before .before in
     let known = tagged (at .before .before .before) in
     let s = at .before .before .before .before .before .before .before .before .args .bytes .now in
     let size = at .before .before .data-size .ensures in
-    made s (c .before .meaning-of .ensures) (c .double-at .ensures) (ap (λ (n : ℕ). 3 + n) size) ∙ by-checks s (known .0) (known .1) (measured at) (le-ltb (length s) (sizeOf s) (omega (arith, size)))
+    made s (c .before .meaning-of .ensures) (c .value-of .ensures) (ap (λ (n : ℕ). 3 + n) size) ∙ by-checks s (known .0) (known .1) (measured at) (le-ltb (length s) (sizeOf s) (omega (arith, size)))
 
 pub head-field-spec : {M : Type 1} → statement M
 head-field-spec =
@@ -85,7 +70,7 @@ head-field-spec =
     returns-3
     (λ c. search needs)
     returns-4
-    meaning-of-requires
+    (λ c κs. search needs)
     (λ c κs. search needs)
     (λ c. search needs)
     returns-5)

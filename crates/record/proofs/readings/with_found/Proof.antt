@@ -9,10 +9,12 @@ use Rattle.record.proofs.readings.with_found.Statement.{statement}
 use Rattle.record.proofs.readings.with_found.Tie as tie
 
 returns : tie.Need-returns
-returns c = c .with-field .ensures ∙ ap (λ (f : Found). found f ⟫ withField (c .before .before .before .before .args .readings)) (sym (c .before .before .next .given .1))
+returns c =
+    let a = c .before .before .before .before .args in
+    c .with-field .ensures ∙ ap (λ (f : Found). found f ⟫ withField (a .strict) (a .readings) (a .last)) (sym (c .before .before .next .given .1))
 
 returns-2 : tie.Need-returns-2
-returns-2 c = ap (λ (f : Found). found f ⟫ withField (c .before .before .before .args .readings)) (sym (c .before .next2 .given .1))
+returns-2 c = let a = c .before .before .before .args in ap (λ (f : Found). found f ⟫ withField (a .strict) (a .readings) (a .last)) (sym (c .before .next2 .given .1))
 
 pub with-found-spec : {M : Type 1} → statement M
 with-found-spec = tie.close (tie.spec (λ c. search needs) (λ c κs. search needs) (λ c. search needs) returns returns-2)

@@ -1,0 +1,18 @@
+-- `answers::figures::answer_stands` meets its contract. Assumes nothing.
+use borrow.Author.Needs.{needs}
+use Rattle.answers.proofs.figures.answer_stands.Statement.{statement}
+use Rattle.answers.proofs.figures.answer_stands.Tie as tie
+
+returns : tie.Need-returns
+returns c = rw (c .before .before .before .word .ensures, c .before .before .stand-on .ensures, c .truth-agrees .ensures, c .before .word2 .ensures)
+
+pub answer-stands-spec : {M : Type 1} → statement M
+answer-stands-spec =
+    tie.close
+    (tie.spec
+    (λ c κs. search needs)
+    (λ c κs. search needs)
+    (λ c. search needs)
+    (λ c κs. search needs)
+    (λ c κs. search needs)
+    returns)

@@ -1,0 +1,3 @@
+-- What the contracts of `calls` cite.
+pub mod Source
+pub mod Figures

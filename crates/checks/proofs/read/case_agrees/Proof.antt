@@ -1,0 +1,68 @@
+-- `checks::read::case_agrees` is safe and ends. The loop's invariant: the lent arrays keep their lengths, and the bytes read fit theirs. The measure is
+-- how many lines of bytes are left. Assumes nothing.
+use Prim.Native.Nat.{_≤_}
+use mathlib.Core.Path.{_≡_}
+use native.Mathlib.Omega.{arith}
+use borrow.Author.Needs.{needs}
+use lib.ListN.{length, length-take}
+use Rattle.checks.proofs.read.case_agrees.Statement.{statement}
+use Rattle.checks.proofs.read.case_agrees.Tie as tie
+
+abbrev Inv-loop : tie.InvT-loop
+Inv-loop fd list words bytes₀ digits₀ all₀ at₀ i₀ left₀ bytes digits all at i left = (length bytes ≡ length bytes₀) × (length digits ≡ length digits₀) × (at ≤ length bytes₀)
+
+abbrev μ-loop : tie.MeasureT-loop
+μ-loop fd list words bytes₀ digits₀ all₀ at₀ i₀ left₀ bytes digits all at i left = left
+
+slice-aggregate-read-full : tie.Need-slice-aggregate-read-full Inv-loop μ-loop
+slice-aggregate-read-full c = simp length-take (omega arith)
+
+slice-aggregate-read-bytes : tie.Need-slice-aggregate-read-bytes Inv-loop μ-loop
+slice-aggregate-read-bytes c = simp length-take (omega arith)
+
+slice-aggregate-agrees : tie.Need-slice-aggregate-agrees Inv-loop μ-loop
+slice-aggregate-agrees c = simp length-take (omega arith)
+
+pub case-agrees-spec : {M : Type 1} → statement M
+case-agrees-spec =
+    tie.close
+    (tie.spec
+    Inv-loop
+    μ-loop
+    (λ c κs. search needs)
+    (λ c κs. search needs)
+    (λ c. search needs)
+    (λ c. search needs)
+    (λ c. search needs)
+    (λ c. search needs)
+    (λ c. search needs)
+    (λ c. search needs)
+    (λ c. search needs)
+    (λ c. search needs)
+    (λ c. search needs)
+    (λ c. search needs)
+    (λ c. search needs)
+    (λ c. search needs)
+    (λ c. search needs)
+    (λ c. search needs)
+    slice-aggregate-read-full
+    (λ c κs. search needs)
+    (λ c. search needs)
+    (λ c. search needs)
+    (λ c. search needs)
+    (λ c. search needs)
+    slice-aggregate-read-bytes
+    (λ c. search needs)
+    (λ c. search needs)
+    (λ c. search needs)
+    (λ c κs. search needs)
+    (λ c. search needs)
+    (λ c. search needs)
+    (λ c. search needs)
+    (λ c. search needs)
+    (λ c. search needs)
+    slice-aggregate-agrees
+    (λ c κs. search needs)
+    (λ c. search needs)
+    (λ c. search needs)
+    (λ c. search needs))

@@ -1,0 +1,109 @@
+-- A field in a form: the readers take it, with the same meaning and the same double; and out of the other form it comes back byte for byte. Assumes nothing.
+use mathlib.Core.Path.{_≡_, refl, sym, ap, ap₂, _∙_}
+use mathlib.Core.Bool.{Bool, true, false, not, cond, true≢false}
+use mathlib.Core.List.{List}
+use Prim.Native.Nat.{ℕ, _<_}
+use native.Mathlib.Omega.{arith}
+use lib.Ieee.{binary64}
+use lib.Ieee.Bits.{ofBits-fits}
+use lib.ListN.{length, take}
+use lib.Seq.{take-all}
+use Rattle.refusal.specs.Causes.{NoneHolds}
+use Rattle.record.specs.declared.fields.Value.{Value}
+use Rattle.record.specs.declared.fields.Value.the-variants.{Double, Count}
+use Rattle.record.specs.Bytes.{wordAt, doubleAt}
+use Rattle.record.specs.Fields.{meanings, isCountTag, isTag, meaningOf, tagIn, isCount, doubleOf, tagOf, sizeOf, valueOf, headRows}
+use Rattle.record.proofs.Forms.{tag-known, tag-meaning}
+use Rattle.writer.specs.Records.{fieldWith, hasForm}
+use Rattle.writer.specs.Laws.{AreBytes, IsHeld}
+use Rattle.writer.proofs.Spelled.{word-lt}
+use Rattle.writer.proofs.FieldRead.{tag-read, size-read, value-read, none-refuses}
+use Rattle.writer.proofs.FieldWritten.{value-form, tag-is, same-bytes}
+use Rattle.writer.proofs.Passed.{tag-at-most, tag-of-form}
+use Rattle.conversion.specs.declared.Turned.{Turned}
+use Rattle.conversion.specs.declared.Turned.the-variants.{Kept, Other, NoCount}
+use Rattle.conversion.specs.Conversion.{turned, fieldAs, turnedOf, fieldIn, hasNoCount}
+use Rattle.conversion.proofs.Values.{TurnedTo, turned-to, kept-form}
+
+-- the value of bytes is one that the code holds
+value-held : (f : List ℕ) → AreBytes f → IsHeld (valueOf f)
+value-held f all = go (isCountTag (tagOf f))
+  where
+    go : (b : Bool) → IsHeld (cond b (Count (wordAt f 3 4)) (Double (doubleAt f 3)))
+    go true = word-lt f all 3 4
+    go false = ofBits-fits binary64 (wordAt f 3 8)
+
+-- what the readers see of g is what they see of f
+pub record SeenAs (f g : List ℕ) : Type 0 where
+  pub one : length g ≡ sizeOf g
+  pub none : NoneHolds (headRows g)
+  pub meaning : meaningOf (tagOf g) ≡ meaningOf (tagOf f)
+  pub value : doubleOf (valueOf g) ≡ doubleOf (valueOf f)
+
+module _ (counts : Bool) (f : List ℕ) (all : AreBytes f) (one : length f ≡ sizeOf f) (none : NoneHolds (headRows f)) where
+  abbrev m : ℕ
+  m = meaningOf (tagOf f)
+
+  meant : m < meanings
+  meant = tag-is f all none .meant
+
+  -- with the other tag
+  module _ (tag : ℕ) (w : Value) (e : turnedOf counts f ≡ Other tag w) where
+    to : TurnedTo counts m (valueOf f) tag w
+    to = turned-to counts m (valueOf f) (value-held f all) e
+
+    is-tag : isTag tag ≡ true
+    is-tag = ap isTag (to .its-tag) ∙ tag-known m meant counts
+
+    small : tag < 256
+    small = omega (arith, to .its-tag, tag-at-most counts m meant)
+
+    form : hasForm tag w ≡ true
+    form = ap (λ (t : ℕ). hasForm t w) (to .its-tag ∙ ap (λ (b : Bool). tagIn b m) (sym (to .its-form))) ∙ tag-of-form m w meant
+
+    its-meaning : meaningOf (tagOf (fieldWith tag w)) ≡ m
+    its-meaning = ap meaningOf (tag-read tag w is-tag small form ∙ to .its-tag) ∙ tag-meaning m meant counts
+
+    its-value : valueOf (fieldWith tag w) ≡ w
+    its-value = value-read tag w is-tag small form (to .held)
+
+    other-seen : SeenAs f (fieldWith tag w)
+    other-seen = record {
+      one = sym (size-read tag w is-tag small form);
+      none = none-refuses tag w is-tag small form;
+      meaning = its-meaning;
+      value = ap doubleOf its-value ∙ to .same;
+    }
+
+    -- and back
+    comes-back : isCountTag (tagOf f) ≡ not counts → turnedOf (not counts) (fieldWith tag w) ≡ Other (tagOf f) (valueOf f)
+    comes-back other =
+        ap₂ (turned (not counts)) its-meaning its-value
+        ∙ to .back
+        ∙ ap (λ (t : ℕ). Other t (valueOf f)) (ap (λ (b : Bool). tagIn b m) (sym other) ∙ tag-is f all none .same)
+
+    same-field : fieldWith (tagOf f) (valueOf f) ≡ f
+    same-field = same-bytes f all none (to .number) ∙ take-all (sizeOf f) f (omega arith)
+
+  pub seen-as : hasNoCount (turnedOf counts f) ≡ false → SeenAs f (fieldIn counts f)
+  seen-as has = go (turnedOf counts f) refl has
+    where
+      go : (t : Turned) → turnedOf counts f ≡ t → hasNoCount t ≡ false → SeenAs f (fieldAs f t)
+      go Kept e has = record { one = one; none = none; meaning = refl; value = refl }
+      go (Other tag w) e has = other-seen tag w e
+      go NoCount e has = absurd (true≢false has)
+
+  pub field-back : isCountTag (tagOf f) ≡ not counts → hasNoCount (turnedOf counts f) ≡ false
+      → (hasNoCount (turnedOf (not counts) (fieldIn counts f)) ≡ false) × (fieldIn (not counts) (fieldIn counts f) ≡ f)
+  field-back other has = go (turnedOf counts f) refl has
+    where
+      apart : (b : Bool) → isCount (valueOf f) ≡ b → isCount (valueOf f) ≡ not b → ⊥
+      apart true e h = true≢false (sym e ∙ h)
+      apart false e h = true≢false (sym h ∙ e)
+
+      go : (t : Turned) → turnedOf counts f ≡ t → hasNoCount t ≡ false → (hasNoCount (turnedOf (not counts) (fieldAs f t)) ≡ false) × (fieldIn (not counts) (fieldAs f t) ≡ f)
+      go Kept e has = absurd (apart counts (kept-form counts m (valueOf f) e) (value-form f ∙ other))
+      go (Other tag w) e has =
+          let back = comes-back tag w e other in
+          (ap hasNoCount back, ap (fieldAs (fieldWith tag w)) back ∙ same-field tag w e)
+      go NoCount e has = absurd (true≢false has)

@@ -1,0 +1,55 @@
+-- `conversion::turned_of` meets its contract: a field that no row refuses is found. Assumes nothing.
+use mathlib.Core.Path.{_≡_, sym, ap, _∙_}
+use mathlib.Core.List.{List}
+use Prim.Native.Nat.{ℕ, _<_}
+use native.Mathlib.Omega.{arith}
+use borrow.Author.Needs.{needs}
+use borrow.Author.Tests.{not-false}
+use Rattle.refusal.specs.Outcomes.{accepted}
+use Rattle.refusal.specs.Causes.{NoneHolds}
+use Rattle.refusal.proofs.Rows.{then-none}
+use Rattle.record.specs.declared.fields.Field.{Field}
+use Rattle.record.specs.declared.fields.Found.{Found}
+use Rattle.record.specs.declared.fields.Found.the-variants as found-as
+use Rattle.record.specs.Fields.{meanings, tagOf, field, headRows, found, fieldOf}
+use Rattle.record.proofs.Forms.{tagged}
+use Rattle.conversion.specs.Conversion.{turned}
+use Rattle.conversion.proofs.turned_of.Statement.{statement}
+use Rattle.conversion.proofs.turned_of.Tie as tie
+
+module _ (f : List ℕ) (none : NoneHolds (headRows f)) (o : Found) (e : found o ≡ fieldOf f) where
+  is-field : (x : Field) → o ≡ found-as.Field x → x ≡ field f
+  is-field x told =
+      let same : accepted x ≡ accepted (field f) = ap found (sym told) ∙ e ∙ then-none (headRows f) none in
+      cc
+
+  is-meant : (x : Field) → o ≡ found-as.Field x → x .meaning < meanings
+  unfolding headRows field
+  is-meant x told = omega (arith, tagged (tagOf f) (not-false _ (none .1 .0)) .meant, ap (λ (y : Field). y .meaning) (is-field x told))
+
+turn-requires : tie.Need-turn-requires
+turn-requires c κs =
+    let read = c .before .before .before in
+    let start = read .before .before in
+    is-meant (start .args .field .now) (start .pre) (read .field-from .result) (read .field-from .ensures .0) _ (c .before .found .given .1)
+
+returns : tie.Need-returns
+unfolding field
+returns c =
+    let read = c .before .before .before .before in
+    let start = read .before .before in
+    let counts = start .args .counts in
+    c .turn .ensures
+    ∙ ap (λ (x : Field). turned counts (x .meaning) (x .value)) (is-field (start .args .field .now) (start .pre) (read .field-from .result) (read .field-from .ensures .0) _ (c .before .before .found .given .1))
+
+returns-2 : tie.Need-returns-2
+returns-2 c =
+    let read = c .before .before in
+    let start = read .before .before in
+    let f = start .args .field .now in
+    let told = ap found (sym (c .enum-told .given .1)) ∙ read .field-from .ensures .0 ∙ then-none (headRows f) (start .pre) in
+    let z : _≡_ {A = ℕ} 0 1 = cc in
+    absurd (omega arith)
+
+pub turned-of-spec : {M : Type 1} → statement M
+turned-of-spec = tie.close (tie.spec (λ c κs. search needs) (λ c. search needs) turn-requires (λ c. search needs) returns returns-2)

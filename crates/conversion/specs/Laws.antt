@@ -1,0 +1,40 @@
+-- What may be relied on of a conversion, document 02. Definitions only.
+use Prim.Native.Nat.{ℕ}
+use mathlib.Core.Path.{_≡_}
+use mathlib.Core.Bool.{Bool, true, false, not}
+use mathlib.Core.List.{List, [], _∷_}
+use lib.Ieee.{Float}
+use Rattle.refusal.specs.Outcomes.{accepted, refused}
+use Rattle.record.specs.declared.readings.Readings.{Readings}
+use Rattle.record.specs.Fields.{isCountTag, tagOf}
+use Rattle.record.specs.Readings.{entryOf, readRecord}
+use Rattle.writer.specs.Laws.{AreBytes}
+use Rattle.conversion.specs.Conversion.{fieldsOf, converted, lengthConverted}
+
+-- ---- and back
+abbrev pub AllIn : Bool → List (List ℕ) → Type 0
+AllIn counts [] = Unit {0}
+AllIn counts (f ∷ fs) = (isCountTag (tagOf f) ≡ counts) × AllIn counts fs
+
+-- a record that has no field in the form and converts to it comes back with the same bytes
+abbrev pub ComesBack : Bool → Type 0
+ComesBack counts = (s t : List ℕ) → AreBytes s → AllIn (not counts) (fieldsOf s) → converted counts s ≡ accepted t → converted (not counts) t ≡ accepted s
+
+pub record ComeBack : Type 0 where
+  pub wholly-in-doubles : ComesBack true
+  pub wholly-in-counts : ComesBack false
+
+-- ---- to the first reader a record and what it converts to are the same: it accepts both, with the same entries
+pub record ReadAlike (s t : List ℕ) : Type 0 where
+  pub before : Readings
+  pub after : Readings
+  pub reads-before : readRecord false s ≡ accepted before
+  pub reads-after : readRecord false t ≡ accepted after
+  pub same : (m : ℕ) → entryOf before m ≡ entryOf after m
+
+abbrev pub SameEntries : Type 0
+SameEntries = (counts : Bool) (s t : List ℕ) → AreBytes s → converted counts s ≡ accepted t → ReadAlike s t
+
+-- ---- every count has a double: 20 is never answered to a conversion to doubles
+abbrev pub OnlyToCounts : Type 0
+OnlyToCounts = (s buffer : List ℕ) (values : List Float) → lengthConverted false s buffer ≡ refused 20 values → ⊥

@@ -1,0 +1,25 @@
+-- `exports::sheets::put_first` meets its contract: each arm knows the values. Assumes nothing.
+use borrow.Author.Needs.{needs}
+use Rattle.exports.proofs.sheets.put_first.Statement.{statement}
+use Rattle.exports.proofs.sheets.put_first.Tie as tie
+
+returns-2 : tie.Need-returns-2
+returns-2 c = rw (c .before .before .before .before .before .values .given .1) (c .before .before .put-one .ensures)
+
+returns-3 : tie.Need-returns-3
+returns-3 c = rw (c .before .before .before .before .before .values2 .given .1) (c .before .before .put-one2 .ensures)
+
+pub put-first-spec : {M : Type 1} → statement M
+put-first-spec =
+    tie.close
+    (tie.spec
+    (λ c. search needs)
+    (λ c. search needs)
+    (λ c κs. search needs)
+    (λ c. search needs)
+    (λ c κs. search needs)
+    (λ c. search needs)
+    (λ c. search needs)
+    returns-2
+    (λ c. search needs)
+    returns-3)

@@ -1,0 +1,8 @@
+-- What the contracts of `lines` cite.
+pub mod Matches
+pub mod Line
+pub mod Buffer
+pub mod Doubles
+pub mod Whole
+pub mod Text
+pub mod Tally

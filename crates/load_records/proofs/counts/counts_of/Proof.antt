@@ -1,0 +1,25 @@
+-- `load_records::counts::counts_of` meets its contract. Assumes nothing.
+use mathlib.Core.Path.{_∙_}
+use Prim.Native.Nat.{_%_}
+use borrow.Author.Needs.{needs}
+use lib.Dec.{eqb}
+use mir.Syntax.{w32}
+use mir.ValLaws.{toZ-ofZ}
+use Rattle.load_records.specs.Counts.{countsOf}
+use Rattle.load_records.proofs.counts.counts_of.Statement.{statement}
+use Rattle.load_records.proofs.counts.counts_of.Tie as tie
+
+returns : tie.Need-returns
+unfolding countsOf
+returns c =
+    let t = c .before .before in
+    λ i. record {
+      altitude = (toZ-ofZ w32 _ (record { sfits = t .before .count-in .ok }) ∙ t .before .count-in .ensures) i;
+      temperature = (toZ-ofZ w32 _ (record { sfits = t .count-in2 .ok }) ∙ t .count-in2 .ensures) i;
+      pressure = (toZ-ofZ w32 _ (record { sfits = c .before .count-in3 .ok }) ∙ c .before .count-in3 .ensures) i;
+      humidity = (toZ-ofZ w32 _ (record { sfits = c .count-in4 .ok }) ∙ c .count-in4 .ensures) i;
+      humid = eqb (t .before .before .args .dry % 2) 0;
+    }
+
+pub counts-of-spec : {M : Type 1} → statement M
+counts-of-spec = tie.close (tie.spec (λ c κs. search needs) (λ c κs. search needs) (λ c κs. search needs) (λ c κs. search needs) returns)

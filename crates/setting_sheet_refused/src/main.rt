@@ -1,0 +1,4 @@
+// The program `setting_sheet` on a park whose humidity is refused.
+fn main() {
+    sheet_reply::reply();
+}

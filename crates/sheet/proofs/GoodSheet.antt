@@ -1,0 +1,79 @@
+-- The first rows of a good sheet are the rows of the first temperatures, which rise. Assumes nothing.
+use mathlib.Core.Path.{_≡_, sym, ap, _∙_, subst}
+use mathlib.Core.Bool.{Bool, true, _&&_}
+use mathlib.Core.Logic.{_⊎_, inl, inr}
+use mathlib.Core.List.{List, [], _∷_, _++_}
+use Prim.Native.Nat.{ℕ, zero, suc, _+_, _-_, _*_, _≤_, _<_}
+use native.Mathlib.Nat.{add-zero, add-suc, eq-or-lt-of-le}
+use native.Mathlib.Omega.{arith}
+use lib.Dec.{T, ltb}
+use lib.Ieee.{Float, lt, ofInt}
+use lib.ListN.{length, take, drop}
+use lib.Ieee.Fits.{and-l, and-r}
+use lib.Seq.{length-take-le, take-all, take-at, drop-at, take-take, take-add}
+use Rattle.refusal.specs.Outcomes.{accepted, row}
+use Rattle.refusal.proofs.Rows.{then-accepted}
+use Rattle.sheet.specs.Row.{rowOutcome}
+use Rattle.sheet.specs.Sheet.{celsius, rows, inputRows, settingSheet}
+use Rattle.sheet.specs.Laws.{FirstRows, GoodSheet}
+use Rattle.sheet.proofs.Outcomes.{parts, rows-length}
+
+-- ---- rows
+module _ (h p u : Float) where
+  -- the first n of n + j rows
+  first : (n j : ℕ) (text : List ℕ) → rows h p u (n + j) ≡ accepted text → rows h p u n ≡ accepted (take (30 * n) text)
+  first n zero text e =
+      let same : rows h p u n ≡ accepted text = rw (← add-zero n) e in
+      same ∙ ap accepted (sym (take-all (30 * n) text (omega (arith, rows-length h p u n text same))))
+  first n (suc j) text e =
+      let q = parts h p u (n + j) text (rw (← add-suc n j) e) in
+      let cut : take (30 * (n + j)) text ≡ q .before =
+      ap (take (30 * (n + j))) (sym (q .joined)) ∙ take-at (q .before) (q .line) (30 * (n + j)) (rows-length h p u (n + j) (q .before) (q .rows-before)) in
+      first n j (q .before) (q .rows-before) ∙ ap accepted (ap (take (30 * n)) (sym cut) ∙ take-take (30 * n) (30 * (n + j)) text (omega arith))
+
+  each : (n : ℕ) (text : List ℕ) → rows h p u (suc n) ≡ accepted (take (30 * suc n) text) → 30 * n ≤ length text
+      → rowOutcome h p u (celsius n) ≡ accepted (take 30 (drop (30 * n) text))
+  each n text e long =
+      let q = parts h p u n (take (30 * suc n) text) e in
+      let sum : 30 * suc n ≡ 30 * n + 30 = omega arith in
+      let halves : q .before ++ q .line ≡ take (30 * n) text ++ take 30 (drop (30 * n) text) =
+      q .joined ∙ ap (λ (m : ℕ). take m text) sum ∙ take-add (30 * n) 30 text in
+      let line : q .line ≡ take 30 (drop (30 * n) text) =
+      sym (drop-at (q .before) (q .line) (30 * n) (rows-length h p u n (q .before) (q .rows-before)))
+      ∙ ap (drop (30 * n)) halves
+      ∙ drop-at (take (30 * n) text) (take 30 (drop (30 * n) text)) (30 * n) (length-take-le (30 * n) text long) in
+      q .last-row ∙ ap accepted line
+
+  good : (text : List ℕ) → rows h p u 51 ≡ accepted text → FirstRows h p u text
+  good text e =
+      let whole : length text ≡ 1530 = rows-length h p u 51 text e in
+      let to : (n : ℕ) → n ≤ 51 → rows h p u n ≡ accepted (take (30 * n) text) =
+      λ n le. let sum : 51 ≡ n + (51 - n) = omega arith in first n (51 - n) text (rw (← sum) e) in
+      record { whole = whole; first = to; each = λ n lt. each n text (to (suc n) lt) (omega arith) }
+
+-- ---- temperatures: each pair of them is compared
+abbrev every : (ℕ → Bool) → ℕ → Bool
+every f zero = true
+every f (suc n) = every f n && f n
+
+at-each : (f : ℕ → Bool) (n m : ℕ) → m < n → T (every f n) → T (f m)
+at-each f zero m h t = absurd (omega arith)
+at-each f (suc n) m h t = go (eq-or-lt-of-le h) (at-each f n m)
+  where
+    go : (suc m ≡ suc n) ⊎ (suc m < suc n) → (m < n → T (every f n) → T (f m)) → T (f m)
+    go (inl e) before = let same : n ≡ m = omega arith in subst (λ (k : ℕ). T (f k)) same (and-r (every f n) (f n) t)
+    go (inr l) before = before (omega arith) (and-l (every f n) (f n) t)
+
+abbrev below : ℕ → Bool
+below n = every (λ m. lt (celsius m) (celsius n)) n
+
+all-rise : T (every below 51)
+unfolding lt celsius ofInt
+all-rise = tt
+
+pub good-sheet : GoodSheet
+unfolding settingSheet
+good-sheet = record {
+  rowsOf = λ h p u room text e. good h p u text (then-accepted (row (ltb room 1530) 16 [] ∷ inputRows h p u) e .1);
+  rising = λ m n less most. at-each (λ k. lt (celsius k) (celsius n)) n m less (at-each below 51 n most all-rise);
+}

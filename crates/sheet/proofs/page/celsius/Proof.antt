@@ -1,0 +1,44 @@
+-- `sheet::page::celsius` meets its contract. Assumes nothing.
+use mathlib.Core.Path.{_≡_, ap, _∙_}
+use mathlib.Core.Bool.{Bool, true, false, cond}
+use Prim.Native.Nat.{ℕ, suc, _-_, _^_, _<_}
+use native.Mathlib.Nat.{lt-of-lt-of-le}
+use native.Mathlib.Omega.{arith}
+use borrow.Author.Needs.{needs}
+use lib.Dec.{leb, lit≤}
+use lib.IntN.{ℤ, pos, negsuc, _-ℤ_}
+use lib.Signed.{mag}
+use lib.Ieee.{binary64, minus, ofInt}
+use mir.Val.{SFits, toZ}
+use mir.Facts.{toZ-pos, toZ-ofZ}
+use mir.Syntax.{w32}
+use Rattle.elementary.proofs.Differences.{minus-is}
+use Rattle.sheet.specs.Sheet.{celsius}
+use Rattle.sheet.proofs.page.celsius.Statement.{statement}
+use Rattle.sheet.proofs.page.celsius.Tie as tie
+
+module _ (n : ℕ) (h : n < 51) where
+  difference : toZ w32 n -ℤ pos 10 ≡ minus n 10
+  difference = ap (λ (z : ℤ). z -ℤ pos 10) (toZ-pos w32 (lt-of-lt-of-le h (lit≤ tt))) ∙ minus-is n 10
+
+  small : mag (minus n 10) < 2 ^ 31
+  small = go (leb 10 n)
+    where
+      go : (t : Bool) → mag (cond t (pos (n - 10)) (negsuc (10 - suc n))) < 2 ^ 31
+      go true = omega arith
+      go false = omega arith
+
+  difference-fits : SFits w32 (toZ w32 n -ℤ pos 10)
+  difference-fits = rw difference (record { sfits = small })
+
+sub-result : tie.Need-sub-result
+sub-result c = difference-fits (c .args .n) (c .pre)
+
+returns : tie.Need-returns
+unfolding celsius
+returns c =
+    let start = c .before in
+    ap (ofInt binary64) (toZ-ofZ (difference-fits (start .args .n) (start .pre)) ∙ difference (start .args .n) (start .pre))
+
+pub celsius-spec : {M : Type 1} → statement M
+celsius-spec = tie.close (tie.spec (λ c. search needs) sub-result (λ c. search needs) returns)

@@ -1,0 +1,86 @@
+// A row of the setting sheet: four figures, each at the right of its column.
+ghost use mathlib.Core.Path.{_≡_};
+ghost use mathlib.Core.List.{_++_};
+ghost use Prim.Native.Nat.{_+_, _≤_, _<_};
+ghost use lib.ListN.{length};
+ghost use Rattle.refusal.specs.Outcomes.{checked};
+ghost use Rattle.sheet.specs.Over.{over, after, lastPlaces};
+ghost use Rattle.sheet.specs.Row.{figuresOutcome, rowOutcome};
+ghost use Rattle.sheet.specs.Sheet.{bare};
+use atmosphere::station::Reading;
+use decimals::text::DecimalText;
+use decimals::text::decimal_text;
+use mast::judge::Answer;
+use mast::judge::air;
+use refusal::Check;
+use refusal::Refusal;
+use station::figures::Figures;
+use station::resolved::Resolved;
+
+fn write_cell(page: &mut [u8], at: usize, text: DecimalText, width: usize, end: u8)
+    requires { ⌜ (width ≤ 16) × (at + width < length (now page)) ⌝ }
+    ensures { λ _. ⌜ (now (page .exit) ≡ over (now (page .entry)) at (lastPlaces width text end)) × (length (lastPlaces width text end) ≡ width + 1) ⌝ }
+{
+    let places = text.bytes;
+    bytes::copy(&places[16 - width..], &mut page[at..]);
+    page[at + width] = end;
+}
+
+fn write_cells(
+    page: &mut [u8],
+    at: usize,
+    temperature: DecimalText,
+    density: DecimalText,
+    sound: DecimalText,
+    altitude: DecimalText,
+)
+    requires { ⌜ at + 30 ≤ length (now page) ⌝ }
+    ensures { λ _. ⌜ now (page .exit) ≡ over (now (page .entry)) at
+        (lastPlaces 6 temperature 32 ++ lastPlaces 7 density 32 ++ lastPlaces 6 sound 32 ++ lastPlaces 7 altitude 10) ⌝ }
+{
+    write_cell(page, at, temperature, 6, b' ');
+    write_cell(page, at + 7, density, 7, b' ');
+    write_cell(page, at + 15, sound, 6, b' ');
+    write_cell(page, at + 22, altitude, 7, b'\n');
+}
+
+fn write_figures(page: &mut [u8], at: usize, temperature_c: f64, figures: Figures) -> Check
+    requires { ⌜ at + 30 ≤ length (now page) ⌝ }
+    ensures checked { λ r. ⌜ checked r ≡ bare (figuresOutcome «temperature_c» figures) ⌝ }
+    ensures written { λ _. ⌜ now (page .exit) ≡ after (now (page .entry)) at (figuresOutcome «temperature_c» figures) ⌝ }
+{
+    let temperature = decimal_text(temperature_c, 1);
+    let density = decimal_text(figures.density_kg_m3, 4);
+    let sound = decimal_text(figures.speed_of_sound_mps, 1);
+    let altitude = decimal_text(figures.density_matched_altitude_m, 0);
+    if (temperature.len > 6) | (density.len > 7) | (sound.len > 6) | (altitude.len > 7) {
+        return Check::Refused(Refusal::TooWide);
+    }
+    write_cells(page, at, temperature, density, sound, altitude);
+    Check::Passed
+}
+
+// The row of a temperature at `at`, or its refusal.
+pub(crate) fn write_row(
+    page: &mut [u8],
+    at: usize,
+    altitude_m: f64,
+    pressure_hpa: f64,
+    humidity_percent: f64,
+    temperature_c: f64,
+) -> Check
+    requires { ⌜ at + 30 ≤ length (now page) ⌝ }
+    ensures checked { λ r. ⌜ checked r ≡ bare (rowOutcome «altitude_m» «pressure_hpa» «humidity_percent» «temperature_c») ⌝ }
+    ensures written { λ _. ⌜ now (page .exit) ≡ after (now (page .entry)) at (rowOutcome «altitude_m» «pressure_hpa» «humidity_percent» «temperature_c») ⌝ }
+{
+    let station = Resolved {
+        altitude_m,
+        temperature: Reading::Given(temperature_c),
+        pressure: Reading::Given(pressure_hpa),
+        humidity_percent,
+    };
+    match air(station) {
+        Answer::Refused(refusal) => Check::Refused(refusal),
+        Answer::Figures(figures) => write_figures(page, at, temperature_c, figures),
+    }
+}

@@ -1,0 +1,4 @@
+// The program with an argument that asks for nothing there is.
+fn main() {
+    reply::reply();
+}

@@ -1,0 +1,6 @@
+-- The laws of the definitions, a file for each idea.
+pub mod Words
+pub mod Sizes
+pub mod Laws
+pub mod Fields
+pub mod Cases

@@ -1,0 +1,2 @@
+-- What the contract of `typed` cites.
+pub mod Typed

@@ -1,0 +1,75 @@
+-- What may be relied on of a vote beyond its contract, document 02. Definitions only.
+use Prim.Native.Nat.{ℕ, _<_}
+use mathlib.Core.Path.{_≡_}
+use mathlib.Core.List.{List}
+use lib.Ieee.{Float}
+use Rattle.refusal.specs.Outcomes.{accepted, refused, _⟫_}
+use Rattle.record.specs.declared.readings.Entry.{Entry}
+use Rattle.record.specs.declared.readings.Entry.the-variants.{Absent, Present}
+use Rattle.record.specs.declared.readings.Readings.{Readings}
+use Rattle.record.specs.Fields.{meanings}
+use Rattle.record.specs.Readings.{entryOf, isPresent}
+use Rattle.station.specs.declared.figures.Figures.{Figures}
+use Rattle.mast.specs.Judge.{judged, judge}
+use Rattle.vote.specs.Middle.{middle}
+use Rattle.vote.specs.Fields.{voted}
+use Rattle.vote.specs.Vote.{byMast, byNoMast, acceptedReadings, afterMast, vote}
+
+-- ---- a mast's record is accepted and refused as the judge does it
+abbrev pub ByTheJudge : Type 0
+ByTheJudge = (s : List ℕ) → judge s ≡ (acceptedReadings s ⟫ judged)
+
+-- the first mast that the judge refuses gives its refusal and its number, whatever the masts after it say
+abbrev pub Accepts : List ℕ → Type 0
+Accepts s = (f : Figures) × (judge s ≡ accepted f)
+
+pub record FirstRefused (a b c : List ℕ) (number : ℕ) (values : List Float) : Type 0 where
+  pub mast-1 : judge a ≡ refused number values → vote a b c ≡ byMast 1 (refused number values)
+  pub mast-2 : Accepts a → judge b ≡ refused number values → vote a b c ≡ byMast 2 (refused number values)
+  pub mast-3 : Accepts a → Accepts b → judge c ≡ refused number values → vote a b c ≡ byMast 3 (refused number values)
+
+abbrev pub MastsInOrder : Type 0
+MastsInOrder = (a b c : List ℕ) (number : ℕ) (values : List Float) → FirstRefused a b c number values
+
+-- ---- each meaning that is in all three takes the middle of the three values, and no other is there
+abbrev pub middleEntry : Entry → Entry → Entry → Entry
+middleEntry (Present x) (Present y) (Present z) = Present (middle x y z)
+middleEntry (Present x) (Present y) Absent = Absent
+middleEntry (Present x) Absent c = Absent
+middleEntry Absent b c = Absent
+
+abbrev pub VotedByMeaning : Type 0
+VotedByMeaning = (a b c : Readings) (m : ℕ) → m < meanings → entryOf (voted a b c) m ≡ middleEntry (entryOf a m) (entryOf b m) (entryOf c m)
+
+-- ---- "exchanging the masts changes no accepted figures": a vote that is accepted is accepted in every order, with the same figures
+abbrev pub Votes : List ℕ → List ℕ → List ℕ → Figures → Type 0
+Votes a b c f = vote a b c ≡ byNoMast (accepted f)
+
+pub record VotesInEveryOrder (a b c : List ℕ) (f : Figures) : Type 0 where
+  pub acb : Votes a c b f
+  pub bac : Votes b a c f
+  pub bca : Votes b c a f
+  pub cab : Votes c a b f
+  pub cba : Votes c b a f
+
+abbrev pub ExchangeOfMasts : Type 0
+ExchangeOfMasts = (a b c : List ℕ) (f : Figures) → Votes a b c f → VotesInEveryOrder a b c f
+
+-- ---- three equal records vote as the one
+abbrev pub ThreeEqual : Type 0
+ThreeEqual = (s : List ℕ) → vote s s s ≡ afterMast 1 (judge s) (λ f. byNoMast (accepted f))
+
+-- ---- two equal records outvote a third with the same fields: each field takes their value, so the figures are theirs
+abbrev pub SameFields : Readings → Readings → Type 0
+SameFields r q = (m : ℕ) → m < meanings → isPresent (entryOf r m) ≡ isPresent (entryOf q m)
+
+abbrev pub TwoEqualValues : Type 0
+TwoEqualValues = (r q : Readings) → SameFields r q → (m : ℕ) → m < meanings → entryOf (voted r r q) m ≡ entryOf r m
+
+pub record Outvoted (s t : List ℕ) (f : Figures) : Type 0 where
+  pub first : Votes t s s f
+  pub second : Votes s t s f
+  pub third : Votes s s t f
+
+abbrev pub TwoEqual : Type 0
+TwoEqual = (s t : List ℕ) (r q : Readings) (f : Figures) → acceptedReadings s ≡ accepted r → acceptedReadings t ≡ accepted q → SameFields r q → judge s ≡ accepted f → Outvoted s t f

@@ -1,0 +1,66 @@
+-- The bytes of a field and of the fields from a tag on: how many they are, and one field after the other. Assumes nothing.
+use mathlib.Core.Path.{_≡_, sym, ap, _∙_}
+use mathlib.Core.Bool.{Bool, true, false, cond}
+use mathlib.Core.List.{List, [], _++_}
+use Prim.Native.Nat.{ℕ, zero, suc, _+_, _-_, _*_, _≤_, _<_}
+use native.Mathlib.Omega.{arith}
+use native.Mathlib.Numerals.{add-one}
+use lib.ListN.{length, length-append}
+use Rattle.record.specs.declared.fields.Value.{Value}
+use Rattle.record.specs.declared.readings.Stored.{Stored}
+use Rattle.record.specs.declared.readings.Stored.the-variants.{Absent, Present}
+use Rattle.record.specs.declared.readings.Readings.{Readings}
+use Rattle.record.specs.Fields.{meanings, meaningOf, dataSize}
+use Rattle.record.specs.Readings.{storedOf}
+use Rattle.record.proofs.Forms.{at-most}
+use Rattle.writer.specs.Records.{bytes, dataOf, fieldWith, hasForm, storedField, fieldsFrom}
+use Rattle.writer.proofs.Bytes.{length-bytes}
+
+pub length-field : (tag : ℕ) (v : Value) → length (fieldWith tag v) ≡ 3 + dataSize tag
+unfolding fieldWith
+length-field tag v =
+    let n = dataSize tag in
+    let a = bytes 1 tag in
+    let b = bytes 2 n in
+    omega (arith, length-append (a ++ b) (bytes n (dataOf v)), length-append a b, length-bytes 1 tag, length-bytes 2 n, length-bytes n (dataOf v))
+
+-- the field of a tag, by what is stored
+module _ (tag : ℕ) {e : Stored} where
+  pub absent : e ≡ Absent → storedField tag e ≡ []
+  absent told = ap (storedField tag) told
+
+  pub by-form : {v : Value} {b : Bool} → e ≡ Present v → hasForm tag v ≡ b → storedField tag e ≡ cond b (fieldWith tag v) []
+  by-form {v} told form = ap (storedField tag) told ∙ ap (λ (b : Bool). cond b (fieldWith tag v) []) form
+
+-- the fields from a tag on, up to one
+abbrev pub rest : ℕ → ℕ → Readings → List ℕ
+rest end tag r = fieldsFrom (end - tag) tag r
+
+pub all-fields : (first : ℕ) (r : Readings) → rest (first + meanings) first r ≡ fieldsFrom meanings first r
+all-fields first r = let all : first + meanings - first ≡ meanings = omega arith in ap (λ (k : ℕ). fieldsFrom k first r) all
+
+pub next-field : (end tag : ℕ) (r : Readings) → tag < end → rest end tag r ≡ storedField tag (storedOf r (meaningOf tag)) ++ rest end (tag + 1) r
+unfolding fieldsFrom
+next-field end tag r h =
+    let left : end - tag ≡ suc (end - suc tag) = omega arith in
+    ap (λ (k : ℕ). fieldsFrom k tag r) left ∙ ap (λ (i : ℕ). storedField tag (storedOf r (meaningOf tag)) ++ rest end i r) (sym (add-one tag))
+
+pub no-field : (end tag : ℕ) (r : Readings) → end ≤ tag → rest end tag r ≡ []
+unfolding fieldsFrom
+no-field end tag r h = let none : end - tag ≡ 0 = omega arith in ap (λ (k : ℕ). fieldsFrom k tag r) none
+
+-- a field has eleven bytes at most
+stored-size : (tag : ℕ) (e : Stored) → length (storedField tag e) ≤ 11
+stored-size tag Absent = omega arith
+stored-size tag (Present v) = go (hasForm tag v)
+  where
+    go : (b : Bool) → length (cond b (fieldWith tag v) []) ≤ 11
+    go true = omega (arith, length-field tag v, at-most tag)
+    go false = omega arith
+
+pub few : (k tag : ℕ) (r : Readings) → length (fieldsFrom k tag r) ≤ 11 * k
+unfolding fieldsFrom
+few zero tag r = omega arith
+few (suc k) tag r =
+    let e = storedOf r (meaningOf tag) in
+    omega (arith, length-append (storedField tag e) (fieldsFrom k (suc tag) r), stored-size tag e, few k (suc tag) r)
