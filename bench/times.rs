@@ -21,6 +21,32 @@ pub fn measure() {
     records(random);
     head("a record's length");
     lengths(random);
+    println!("{:<42}{:>10}", "microseconds a call", "ours");
+    pages_and_searches();
+}
+
+/// What makes many judgements in one call: a page of 51, a search of up to 800. Ours alone.
+fn pages_and_searches() {
+    for (name, humidity) in [("setting sheet, dry", 0.0), ("setting sheet, humid", 60.0)] {
+        alone(name, || {
+            let mut page = [0; 1530];
+            exports::setting_sheet(250.0, 988.0, humidity, &mut page, &mut [0.0])
+        });
+    }
+    for (name, temperature, pressure) in [
+        ("next trim class, after 27 judgements", 17.6, 1008.3),
+        ("next trim class, none within 200", 20.0, 700.0),
+    ] {
+        let reading = record(&[(1, 60.0), (2, temperature), (5, 60.0), (7, pressure)]);
+        alone(name, || {
+            exports::next_trim_class(&reading, &mut [0.0; 2], &mut [0; 4])
+        });
+    }
+}
+
+fn alone<R>(name: &str, ours: impl Fn() -> R) {
+    let times = (0..RUNS).map(|_| nanoseconds(&[()], |()| ours())).collect();
+    println!("{name:<42}{:>10.1}", median(times) / 1000.0);
 }
 
 fn head(of: &str) {
