@@ -8,7 +8,7 @@ from pathlib import Path
 
 SIGN = 1 << 63
 INFINITY = 0x7FF0000000000000
-UNIT = 1 << 52  # of a log word's whole part
+UNIT = 1 << 60  # of a log word's whole part
 
 # How many inputs, as words after the number, and which of them are flags of an `Option`, for each function of source_*.txt.
 INPUTS = {0x03: 2, 0x04: 3, 0x05: 4, 0x07: 3, 0x08: 3, 0x0A: 3, 0x0B: 2, 0x0C: 3, 0x0D: 6, 0x10: 2, 0x11: 2, 0x12: 2, 0x16: 2, 0x17: 3, 0x19: 3, 0x1A: 3}
@@ -161,13 +161,15 @@ def other_buffers(buffer, length):
 
 
 def writes(lines):
-    """Status, length and buffer; an unknown form."""
+    """Status, length and buffer; an unknown form, and a form and a count past their width."""
     for kind in with_bytes(lines, lambda words: (words[1], words[3:10].count(0))):
         for line, data in picked(kind):
             words = words_of(line)
             yield with_word(words, 1, (words[1] + 1) % NUMBERS) + data
             yield with_word(words, 2, words[2] + 1) + data
             yield with_word(words, 3, 3) + data
+            yield with_word(words, 3, words[3] + 2**8) + data
+            yield with_word(words, 17, words[17] + 2**32) + data
             for other in other_buffers(data, words[2]):
                 yield line + other
         yield from broken_bytes(kind)

@@ -55,7 +55,7 @@ fn lines(call: &WriterCall) -> String {
     let mut words = vec![call.room as u64, written.status, written.length_or_0()];
     words.extend(call.forms.iter().map(|form| u64::from(*form)));
     words.extend(call.values.iter().map(|value| value.to_bits()));
-    words.extend(call.counts.iter().map(|count| *count as u64));
+    words.extend(call.counts.iter().map(|count| u64::from(*count as u32)));
     line_of_words(&words) + &line_of_bytes(&written.out)
 }
 

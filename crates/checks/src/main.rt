@@ -35,6 +35,8 @@ fn main() {
     replay(b"strict.txt", List::Case(Kind::Strict));
     replay(b"votes.txt", List::Case(Kind::Votes));
     replay(b"trims.txt", List::Case(Kind::Trims));
+    replay(b"writes.txt", List::Case(Kind::Writes));
+    replay(b"conversions.txt", List::Case(Kind::Conversions));
     replay(b"sheets.txt", List::Case(Kind::Sheets));
     replay(b"decimals.txt", List::Case(Kind::Decimals));
     replay(b"published.txt", List::Ends(Function::Figure));
@@ -69,6 +71,8 @@ fn replay_wrong() {
     replay(b"wrong_strict.txt", List::Case(Kind::Strict));
     replay(b"wrong_votes.txt", List::Case(Kind::Votes));
     replay(b"wrong_trims.txt", List::Case(Kind::Trims));
+    replay(b"wrong_writes.txt", List::Case(Kind::Writes));
+    replay(b"wrong_conversions.txt", List::Case(Kind::Conversions));
     replay(b"wrong_sheets.txt", List::Case(Kind::Sheets));
     replay(b"wrong_decimals.txt", List::Case(Kind::Decimals));
     replay(b"wrong_published.txt", List::Ends(Function::Figure));

@@ -11,13 +11,15 @@ use Rattle.replay.specs.declared.list.Function.the-variants.{Log, Antilo
 use Rattle.replay.specs.declared.list.Part.{Part}
 use Rattle.replay.specs.declared.list.Part.the-variants.{Layers, Humid, Station, Altitudes, Inverse}
 use Rattle.replay.specs.declared.list.Kind.{Kind}
-use Rattle.replay.specs.declared.list.Kind.the-variants.{Records, Strict, Votes, Trims, Sheets, Decimals}
+use Rattle.replay.specs.declared.list.Kind.the-variants.{Records, Strict, Votes, Trims, Writes, Conversions, Sheets, Decimals}
 use Rattle.replay.specs.Rules.{logAgrees, antilogAgrees, powerAgrees, expAgrees, lnAgrees, sqrtAgrees, rootsAgree}
 use Rattle.calls.specs.Source.{layersAgrees, humidAgrees, stationAgrees, altitudesAgrees, inverseAgrees}
 use Rattle.calls.specs.Figures.{figureAgrees}
 use Rattle.answers.specs.Records.{recordAgrees, strictAgrees}
 use Rattle.answers.specs.Votes.{voteAgrees}
 use Rattle.answers.specs.Trims.{trimAgrees}
+use Rattle.written.specs.Writes.{writeAgrees}
+use Rattle.written.specs.Conversions.{conversionAgrees}
 use Rattle.answers.specs.Sheets.{sheetAgrees}
 use Rattle.answers.specs.Decimals.{decimalAgrees}
 
@@ -45,6 +47,8 @@ kindWords Records = 11
 kindWords Strict = 11
 kindWords Votes = 14
 kindWords Trims = 6
+kindWords Writes = 24
+kindWords Conversions = 5
 kindWords Sheets = 6
 kindWords Decimals = 3
 
@@ -60,6 +64,8 @@ kindStrings Records = 1
 kindStrings Strict = 1
 kindStrings Votes = 3
 kindStrings Trims = 1
+kindStrings Writes = 1
+kindStrings Conversions = 2
 kindStrings Sheets = 1
 kindStrings Decimals = 1
 
@@ -74,6 +80,8 @@ kindLengths Records = 10
 kindLengths Strict = 10
 kindLengths Votes = 11
 kindLengths Trims = 5
+kindLengths Writes = 0
+kindLengths Conversions = 1
 kindLengths Sheets = 3
 kindLengths Decimals = 2
 
@@ -106,6 +114,8 @@ caseAgrees w bytes Records = recordAgrees w bytes
 caseAgrees w bytes Strict = strictAgrees w bytes
 caseAgrees w bytes Votes = voteAgrees w bytes
 caseAgrees w bytes Trims = trimAgrees w bytes
+caseAgrees w bytes Writes = writeAgrees w bytes
+caseAgrees w bytes Conversions = conversionAgrees w bytes
 caseAgrees w bytes Sheets = sheetAgrees w bytes
 caseAgrees w bytes Decimals = decimalAgrees w bytes
 

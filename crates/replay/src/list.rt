@@ -23,6 +23,8 @@ use exports::functions::station_air_sqrt;
 use exports::rules::station_air_power;
 use lines::doubles::double_at;
 use lines::line::word;
+use written::conversions::conversion_agrees;
+use written::writes::write_agrees;
 
 // What a list is of, and whether a line has the answer or the two ends between which it lies.
 pub enum List {
@@ -55,12 +57,14 @@ pub enum Part {
 }
 
 // Answers to mast records, the figures of one, by either reader, the vote of three and the next trim
-// class; setting sheets; and texts of figures.
+// class; records that are written, and converted; setting sheets; and texts of figures.
 pub enum Kind {
     Records,
     Strict,
     Votes,
     Trims,
+    Writes,
+    Conversions,
     Sheets,
     Decimals,
 }
@@ -135,6 +139,8 @@ fn kind_words(kind: Kind) -> usize
         Kind::Strict => 11,
         Kind::Votes => 14,
         Kind::Trims => 6,
+        Kind::Writes => 24,
+        Kind::Conversions => 5,
         Kind::Sheets => 6,
         Kind::Decimals => 3,
     }
@@ -160,6 +166,8 @@ fn kind_strings(kind: Kind) -> usize
         Kind::Strict => 1,
         Kind::Votes => 3,
         Kind::Trims => 1,
+        Kind::Writes => 1,
+        Kind::Conversions => 2,
         Kind::Sheets => 1,
         Kind::Decimals => 1,
     }
@@ -185,6 +193,8 @@ fn kind_lengths(kind: Kind) -> usize
         Kind::Strict => 10,
         Kind::Votes => 11,
         Kind::Trims => 5,
+        Kind::Writes => 0,
+        Kind::Conversions => 1,
         Kind::Sheets => 3,
         Kind::Decimals => 2,
     }
@@ -246,6 +256,8 @@ fn case_agrees(kind: Kind, words: &[u64], bytes: &[u8]) -> bool
         Kind::Strict => strict_agrees(words, bytes),
         Kind::Votes => vote_agrees(words, bytes),
         Kind::Trims => trim_agrees(words, bytes),
+        Kind::Writes => write_agrees(words, bytes),
+        Kind::Conversions => conversion_agrees(words, bytes),
         Kind::Sheets => sheet_agrees(words, bytes),
         Kind::Decimals => decimal_agrees(words, bytes),
     }
