@@ -15,7 +15,7 @@ use Rattle.checks.specs.Cases.{Hold, table, isAccepted, RejectsRefusalAl
 
 pub cases-hold : Hold table
 unfolding ofBits neg add sub mul div lt le wordOfUnits antilogRoot exponents power powerAt absDouble isFinite standardAir station
-cases-hold = (refl, (refl, (refl, (refl, (refl, (refl, (refl, (refl, (refl, (refl, (refl, (refl, (refl, (refl, (refl, (refl, (refl, (refl, (refl, (refl, (refl, (refl, (refl, (refl, tt))))))))))))))))))))))))
+cases-hold = (refl, (refl, (refl, (refl, (refl, (refl, (refl, (refl, (refl, (refl, (refl, (refl, (refl, (refl, (refl, (refl, (refl, (refl, (refl, (refl, (refl, (refl, tt))))))))))))))))))))))
 
 -- the case of 0 m with no temperature is accepted
 pub rejects-refusal-always : RejectsRefusalAlways

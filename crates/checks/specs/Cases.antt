@@ -1,7 +1,7 @@
 -- Document 01's cases that are to be proved, as one table: a line says what a definition is at an input. `Hold` is the one statement about the whole table,
 -- and proofs/Cases proves it. Definitions only.
 use mathlib.Core.Path.{_≡_}
-use mathlib.Core.Bool.{Bool, true, false}
+use mathlib.Core.Bool.{Bool, true, false, not}
 use mathlib.Core.List.{List, [], _∷_, map}
 use Prim.Native.Nat.{ℕ, _*_, _^_}
 use lib.IntN.{pos, negℤ}
@@ -38,12 +38,11 @@ air altitude celsius hPa = accepted (record { «altitude_m» = altitude; «tempe
 abbrev aboveAbsoluteZero : Float
 aboveAbsoluteZero = decimal "-273.1499999999999"
 
--- what a density altitude resolves to is at or below -273.15 °C, or has a pressure that is no number
-abbrev isTooCold : Station → Bool
-isTooCold s = le (s .«temperature_c») absoluteZero
-
-abbrev hasPressure : Station → Bool
-hasPressure s = isFinite (s .«pressure_hpa»)
+-- the parts of cause 4, of what a density altitude resolves to: altitude, pressure or temperature not finite, pressure ≤ 0, temperature ≤ -273.15
+abbrev reasons : Station → List Bool
+reasons s =
+    not (isFinite (s .«altitude_m»)) ∷ not (isFinite (s .«pressure_hpa»)) ∷ not (isFinite (s .«temperature_c»)) ∷ le (s .«pressure_hpa») nought ∷
+    le (s .«temperature_c») absoluteZero ∷ []
 
 -- the table, in the order of document 01, of an inverse
 abbrev pub tableOf : (Float → Reading → Outcome Station) → List Case
@@ -64,13 +63,11 @@ tableOf inverse =
     -- none given: 44,283 m accepted; 44,284 m refused 4, too cold and for no other reason
     case (inverse (decimal "44283") FromLayer) (air (decimal "44283") (decimal "-273.1494422572178") (decimal "8.045414169227304e-15")) ∷
     case (inverse (decimal "44284") FromLayer) (refused 4 (decimal "44284" ∷ decimal "44284" ∷ [])) ∷
-    case (isTooCold (resolve places (decimal "44284") FromLayer)) true ∷
-    case (hasPressure (resolve places (decimal "44284") FromLayer)) true ∷
-    -- with 15 °C: 54,852 m accepted; 54,853 m refused 4, for want of a pressure
+    case (reasons (resolve places (decimal "44284") FromLayer)) (false ∷ false ∷ false ∷ false ∷ true ∷ []) ∷
+    -- with 15 °C: 54,852 m accepted; 54,853 m refused 4, for a pressure that is not finite and for no other reason
     case (inverse (decimal "54852") (Given (decimal "15"))) (air (decimal "44306.94668820678") (decimal "15") (decimal "8.359000857825759e-23")) ∷
     case (inverse (decimal "54853") (Given (decimal "15"))) (refused 4 (decimal "54853" ∷ decimal "44307.754442649435" ∷ [])) ∷
-    case (isTooCold (resolve places (decimal "54853") (Given (decimal "15")))) false ∷
-    case (hasPressure (resolve places (decimal "54853") (Given (decimal "15")))) false ∷
+    case (reasons (resolve places (decimal "54853") (Given (decimal "15")))) (false ∷ true ∷ false ∷ false ∷ false ∷ []) ∷
     -- -273.15 °C at 0 m: 3; the next double above, at 0 m: accepted, and returned unchanged
     case (inverse nought (Given absoluteZero)) (refused 3 (absoluteZero ∷ [])) ∷
     case (inverse nought (Given aboveAbsoluteZero)) (air (decimal "8513.226494345718") aboveAbsoluteZero (decimal "330.17427818741555")) ∷
