@@ -111,7 +111,7 @@ fn checked_station(density_altitude_m: f64, explicit_temperature_c: Reading) -> 
     Answer::Refused(Refusal::NoAir(density_altitude_m, station.altitude_m))
 }
 
-// Whether a temperature can be one: the causes 2 and 3.
+// Whether a temperature can be one, or its refusal: the causes 2 and 3.
 pub fn check_temperature(temperature_c: f64) -> Check
     ensures { λ r. ⌜ checked r ≡ passed (temperatureRows «temperature_c») ⌝ }
 {

@@ -70,7 +70,7 @@ pub(crate) fn log_of_digits(q: u64, k: u32) -> Word
     }
 }
 
-// The log word of x.
+// The log word of x, or that it has none: x is not positive and finite.
 pub fn log_word(x: f64) -> Logarithm
     ensures { λ r. ⌜ r ≡ logarithm places x ⌝ }
 {

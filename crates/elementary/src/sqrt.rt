@@ -28,7 +28,8 @@ fn root_of_units(q: u64, k: u32) -> f64
     nearest_scaled(nearest, d as i64 - 590)
 }
 
-// A zero is its own root, with its sign. A negative number has none, and NaN is the answer.
+// The double nearest to the square root of x. A zero is its own root, with its sign. A negative number
+// has none, and NaN is the answer.
 pub fn sqrt(x: f64) -> f64
     ensures { λ r. ⌜ r ≡ sqrt x ⌝ }
 {

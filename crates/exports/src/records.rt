@@ -114,8 +114,9 @@ pub(crate) fn put_length(length: &mut usize, answer: Written) -> u32
 
 // Writes the record of readings, fields rising by tag, and its length: each meaning has a form, 0 absent,
 // 1 a double or 2 a count, a value and a count's word by two's complement, of which the form's counts.
-// 255 where one of the three arrays has fewer than 7 places, else 254 where one of the first 7 forms is
-// unknown, else 18 where `out` is shorter than the record; these leave `out` and `length` as they were.
+// Answers 0; or 255 where one of the three arrays has fewer than 7 places, else 254 where one of the
+// first 7 forms is unknown, else 18 where `out` is shorter than the record; these leave `out` and
+// `length` as they were. The arrays are left.
 #[no_mangle]
 pub extern "C" fn station_air_write(
     forms: &[u8],
@@ -147,8 +148,8 @@ pub extern "C" fn station_air_write(
     put_length(length, write(readings_of(forms, values, counts), out))
 }
 
-// Writes the record converted to counts, fields in their old order, and its length. A cause 5 to 8, then
-// 20, then 18 leaves `out` and `length` as they were. The record is left.
+// Writes the record converted to counts, fields in their old order, and its length. Answers 0; or a cause
+// 5 to 8, then 20, then 18, which leave `out` and `length` as they were. The record is left.
 #[no_mangle]
 pub extern "C" fn station_air_to_counts(record: &[u8], out: &mut [u8], length: &mut usize) -> u32
     ensures { λ r. ⌜ r ≡ statusOf (lengthConverted true (now («record» .entry)) (now (out .entry))) ⌝ }

@@ -41,7 +41,7 @@ fn check_finite(x: f64) -> Check
     refuse_if(!is_finite(x), Refusal::NotFinite(x))
 }
 
-// An altitude's check, where there is one: 11.
+// The refusal of an altitude, where there is one: 11.
 pub fn check_altitude(entry: Entry) -> Check
     ensures { λ r. ⌜ checked r ≡ passed (present finiteRows entry) ⌝ }
 {
@@ -60,7 +60,7 @@ fn check_celsius(entry: Entry) -> Check
     }
 }
 
-// A pressure's checks, where there is one: 11 and 12.
+// The refusal of a pressure, where there is one: 11 or 12.
 pub fn check_pressure(entry: Entry) -> Check
     ensures { λ r. ⌜ checked r ≡ passed (present pressureRows entry) ⌝ }
 {
@@ -73,7 +73,7 @@ pub fn check_pressure(entry: Entry) -> Check
     }
 }
 
-// A humidity's checks, where there is one: 11 and 13.
+// The refusal of a humidity, where there is one: 11 or 13.
 pub fn check_humidity(entry: Entry) -> Check
     ensures { λ r. ⌜ checked r ≡ passed (present humidityRows entry) ⌝ }
 {

@@ -5,7 +5,7 @@ ghost use lib.ListN.{length};
 ghost use lib.Ieee.{binary64, ofBits, toBits, isNan};
 ghost use Rattle.record.specs.Bytes.{wordAt, doubleAt};
 
-// A NaN's pattern lies above that of an infinity of its sign.
+// Whether a pattern is a NaN's: it lies above that of an infinity of its sign.
 pub fn is_nan_pattern(bits: u64) -> bool
     ensures { λ r. ⌜ r ≡ isNan (ofBits binary64 bits) ⌝ }
 {

@@ -136,7 +136,7 @@ fn head_field(bytes: &[u8]) -> Found
     })
 }
 
-// The field at a position.
+// The field at a position, or what is wrong with it.
 pub fn field_at(bytes: &[u8], at: usize) -> Found
     ensures { λ r. ⌜ found r ≡ fieldOf (drop at (now (bytes .entry))) ⌝ }
     ensures kept { λ _. ⌜ now (bytes .exit) ≡ now (bytes .entry) ⌝ }

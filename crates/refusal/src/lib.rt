@@ -83,7 +83,7 @@ pub enum Values {
     Two(f64, f64),
 }
 
-// What a cause hands out.
+// The values that a cause hands out.
 pub fn handed_out(refusal: Refusal) -> Values
     ensures { λ r. ⌜ listed r ≡ valuesOf refusal ⌝ }
 {
@@ -119,7 +119,7 @@ pub enum Check {
     Refused(Refusal),
 }
 
-// The check for one cause.
+// The check for one cause: its refusal where the cause holds.
 pub fn refuse_if(cause: bool, refusal: Refusal) -> Check
     ensures { λ r. ⌜ checked r ≡ passed (row cause (numberOf refusal) (valuesOf refusal) ∷ []) ⌝ }
 {
@@ -130,7 +130,7 @@ pub fn refuse_if(cause: bool, refusal: Refusal) -> Check
     }
 }
 
-// The first refusal of two checks.
+// The first refusal of two checks, if there is one.
 pub fn first_of(a: Check, b: Check) -> Check
     ensures { λ r. ⌜ checked r ≡ (checked a ⟫ (λ _. checked b)) ⌝ }
 {

@@ -57,7 +57,7 @@ fn by(change: Change) -> f64
     }
 }
 
-// The readings with the change.
+// The readings with the change made.
 pub fn changed(start: Start, change: Change) -> Readings
     ensures { λ r. ⌜ r ≡ changed start change ⌝ }
 {

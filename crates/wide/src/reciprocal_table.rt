@@ -773,7 +773,7 @@ const RECIPROCALS: [u32; 768] = [
     2148598338,
 ];
 
-// The table.
+// The table of reciprocals.
 pub fn reciprocal_table() -> [u32; 768]
     ensures { λ r. ⌜ r ≡ reciprocalTable ⌝ }
 {

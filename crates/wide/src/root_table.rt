@@ -773,7 +773,7 @@ const ROOTS: [u64; 768] = [
     32751,
 ];
 
-// The table, for many roots: a constant array is copied to where it is used.
+// The table of roots, for many of them: a constant array is copied to where it is used.
 pub fn root_table() -> [u64; 768]
     ensures { λ r. ⌜ r ≡ rootTable ⌝ }
 {
