@@ -7,7 +7,7 @@ use native.Mathlib.Omega.{arith}
 use borrow.Author.Tests.{le-leb, lt-leb, leb-true, leb-false}
 use lib.Dec.{T, leb}
 use lib.Ieee.{Float, nan, inf, fin, binary64, ofBits, fits, lt, le, isNan}
-use lib.Ieee.Bits.{is-true}
+use lib.Ieee.Bits.{is-true, is-false}
 use Rattle.elementary.proofs.Order.{number}
 use Rattle.elementary.proofs.Strict.{less-of-not-le, not-le-of-less, lt-le-trans}
 use Rattle.atmosphere.specs.Layers.{layers, baseHeight, layerAt, Range, OnlyRange}
@@ -42,10 +42,6 @@ base-number (suc (suc (suc zero))) h = tt
 base-number (suc (suc (suc (suc zero)))) h = tt
 base-number (suc (suc (suc (suc (suc zero))))) h = tt
 base-number (suc (suc (suc (suc (suc (suc i)))))) h = absurd (omega arith)
-
-is-not : (b : Bool) → T (not b) → b ≡ false
-is-not true h = absurd h
-is-not false h = refl
 
 -- ---- the run of cases, by the tops alone
 abbrev pub below : Float → ℕ → Bool
@@ -113,7 +109,7 @@ module _ (H : Float) (f : T (fits binary64 H)) (e : isNan H ≡ false) where
 
   at-least : (i : ℕ) → Range i H → i ≤ layerAt H
   at-least zero r = omega arith
-  at-least (suc i) r = leb-false (layerAt H) i (is-not (leb (layerAt H) i) (subst T (told-above i (omega (arith, r .layer))) (r .from (omega arith))))
+  at-least (suc i) r = leb-false (layerAt H) i (is-false (leb (layerAt H) i) (subst T (told-above i (omega (arith, r .layer))) (r .from (omega arith))))
 
   at-most : (i : ℕ) → Range i H → layerAt H ≤ i
   at-most i r = go (leb 6 i) refl

@@ -1,9 +1,9 @@
 -- What lies between two accepted temperatures at one density altitude is accepted, and the figures are in order: the pressure altitudes turn the order of the
 -- temperatures. Assumes nothing.
 use mathlib.Core.Path.{sym, subst, subst₂}
-use mathlib.Core.Bool.{Bool, true, false, not}
+use mathlib.Core.Bool.{not}
 use Prim.Native.Nat.{ℕ}
-use lib.Dec.{T}
+use lib.Dec.{T, not-T}
 use lib.Ieee.{Float, binary64, fits, lt, le}
 use lib.Ieee.Bits.{ofBits-fits}
 use lib.Ieee.Fits.{and-i, and-l, and-r}
@@ -18,10 +18,6 @@ use Rattle.density_altitude.specs.Warmer.{Lower, InBetween}
 use Rattle.density_altitude.proofs.Figures.{corrected-finite, pressure-altitude-falls, pressure-altitude-fits}
 use Rattle.density_altitude.proofs.Accepted.{Exists, exists, has-air, Granted, granted, is-station}
 use Rattle.density_altitude.proofs.Heights.{Climbs, above-between, to-middle, from-middle, middle-exists}
-
-not-of : (b : Bool) → (T b → ⊥) → T (not b)
-not-of true h = absurd (h tt)
-not-of false h = tt
 
 module _ (p : ℕ) (d t₁ t t₂ : Float) (f₁ : T (fits binary64 t₁)) (f : T (fits binary64 t)) (f₂ : T (fits binary64 t₂)) (l₁ : T (le t₁ t)) (l₂ : T (le t t₂))
     (a₁ : Accepted (station p d (Given t₁))) (a₂ : Accepted (station p d (Given t₂))) where
@@ -59,7 +55,7 @@ module _ (p : ℕ) (d t₁ t t₂ : Float) (f₁ : T (fits binary64 t₁)) (f : 
   middle =
       record {
         finite = v .finite;
-        read = and-i (isFinite t) (not (le t absoluteZero)) (and-l (isFinite t) (lt absoluteZero t) warm) (not-of (le t absoluteZero) (not-le-of-less absoluteZero t (and-r (isFinite t) (lt absoluteZero t) warm)));
+        read = and-i (isFinite t) (not (le t absoluteZero)) (and-l (isFinite t) (lt absoluteZero t) warm) (not-T (le t absoluteZero) (not-le-of-less absoluteZero t (and-r (isFinite t) (lt absoluteZero t) warm)));
         air = has-air (resolve p d (Given t)) (middle-exists p (feet t₂) (feet t) (feet t₁) t₂ t₁ (fit t₂) (fit t) (fit t₁) lower upper low high t warm);
       }
 

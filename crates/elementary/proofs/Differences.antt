@@ -1,4 +1,4 @@
--- A whole number as the difference of two natural numbers: which differences are the same, its product with a factor, its floor and remainder, and its
+-- A whole number as the difference of two natural numbers: which differences are the same, its sum, its product with a factor, its floor and remainder, and its
 -- antilog, which is one fraction rounded once. Assumes nothing.
 use mathlib.Core.Path.{_≡_, sym, ap, _∙_, subst}
 use Prim.Native.Nat.{ℕ, zero, suc, _+_, _-_, _*_, _/_, _%_, _^_, _≤_, _<_}
@@ -6,7 +6,7 @@ use native.Mathlib.Nat.{lt-of-not-le, add-mul, mod-lt, div-add-mod', le-div-iff-
 use native.Mathlib.Decide.{decLe}
 use native.Mathlib.Omega.{arith}
 use mathlib.Core.Bool.{Bool, false, cond}
-use lib.IntN.{ℤ, pos, negsuc, negℤ, subℕ, _-ℤ_, _*ℤ_}
+use lib.IntN.{ℤ, pos, negsuc, negℤ, subℕ, _+ℤ_, _-ℤ_, _*ℤ_}
 use lib.Dec.{leb, ltb, le→leb, lt→ltb}
 use lib.Arith.{lt→nleb, le→nltb, digits-div, digits-mod}
 use lib.Pow.{pow-pos}
@@ -44,6 +44,12 @@ minus-same a b c d e =
     by-sign (λ z. z ≡ minus c d) a b
     (λ h. ap pos (omega arith) ∙ sym (minus-above c d (omega arith)))
     (λ h. ap negsuc (omega arith) ∙ sym (minus-below c d (omega arith)))
+
+pub minus-plus : (a b c : ℕ) → minus a b +ℤ pos c ≡ minus (a + c) b
+minus-plus a b c =
+    by-sign (λ z. z +ℤ pos c ≡ minus (a + c) b) a b
+    (λ h. ap pos (omega arith) ∙ sym (minus-above (a + c) b (omega arith)))
+    (λ h. minus-is c (suc (b - suc a)) ∙ minus-same c (suc (b - suc a)) (a + c) b (omega arith))
 
 -- ---- times a factor
 pub opposite : (n : ℕ) → negℤ (pos n) ≡ minus 0 n

@@ -18,14 +18,8 @@ use Rattle.elementary.specs.Antilog.{antilogRoot}
 use Rattle.elementary.specs.HowNear.{twoToThe, value, _toThe_, _isAtMost_, _isBelow_, LogNear, HowNear, HowNearIsNear}
 use Rattle.elementary.proofs.Powers.{pow-product, pow-scaled}
 use Rattle.elementary.proofs.Order.{units-exact}
-use Rattle.elementary.proofs.Differences.{by-sign, minus-above, minus-is, minus-same}
+use Rattle.elementary.proofs.Differences.{minus-same, minus-plus}
 use Rattle.elementary.proofs.Distance.{antilogRoot-below, antilogRoot-above, NearLog, near-log}
-
-pub minus-plus : (a b c : ℕ) → minus a b +ℤ pos c ≡ minus (a + c) b
-minus-plus a b c =
-    by-sign (λ z. z +ℤ pos c ≡ minus (a + c) b) a b
-    (λ h. ap pos (omega arith) ∙ sym (minus-above (a + c) b (omega arith)))
-    (λ h. minus-is c (suc (b - suc a)) ∙ minus-same c (suc (b - suc a)) (a + c) b (omega arith))
 
 -- The numbers n / d = X / 2 ^ t and 2 ^ (u - w): the one to the power k compares with the other as X ^ k does with 2 ^ (u + t * k - w).
 module _ (n d X t k u w : ℕ) (some : 0 < d) (exact : n * 2 ^ t ≡ X * d) where

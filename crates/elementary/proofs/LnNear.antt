@@ -19,9 +19,9 @@ use Rattle.elementary.specs.HowNear.{Fraction, _isAtMost_, _isBelow_, _t
 use Rattle.elementary.specs.FunctionsNear.{eBelow, eAbove, atLeast, atMost, LnNear}
 use Rattle.elementary.proofs.Powers.{pow-power, pow-scaled}
 use Rattle.elementary.proofs.Order.{units-exact}
-use Rattle.elementary.proofs.Differences.{minus-same, minus-times, floor-minus}
+use Rattle.elementary.proofs.Differences.{minus-same, minus-plus, minus-times, floor-minus}
 use Rattle.elementary.proofs.Distance.{NearLog, near-log}
-use Rattle.elementary.proofs.HowNear.{minus-plus, two-at-most, below-two}
+use Rattle.elementary.proofs.HowNear.{two-at-most, below-two}
 use Rattle.elementary.proofs.EulerNear.{ln2-word}
 
 -- The word b - t * K times the factor C / B, of less than 1, floored: f - t * K * C, where f is a floor of natural numbers

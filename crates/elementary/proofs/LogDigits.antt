@@ -1,23 +1,22 @@
 -- The log word of q * 2^k units of the smallest double, by q's highest digit: what `log_of_parts` computes. Assumes nothing.
 use mathlib.Core.Path.{_≡_, sym, ap, ap₂, _∙_, subst}
-use Prim.Native.Nat.{ℕ, suc, pred, _+_, _-_, _*_, _/_, _%_, _^_, _≤_, _<_}
-use native.Mathlib.Nat.{le-trans, le-of-eq, lt-of-lt-of-le, lt-of-not-le, not-le-of-lt, mul-assoc, mul-right-comm, mul-le-mul-right, mul-div-cancel, mul-div-mul-right, suc-add, suc-mul, suc-pred-eq-of-pos}
+use Prim.Native.Nat.{ℕ, suc, _+_, _-_, _*_, _/_, _%_, _^_, _≤_, _<_}
+use native.Mathlib.Nat.{le-trans, le-of-eq, lt-of-lt-of-le, lt-of-not-le, not-le-of-lt, mul-assoc, mul-right-comm, mul-le-mul-right, mul-div-cancel, mul-div-mul-right, suc-add, suc-mul, add-mul}
 use native.Mathlib.Numerals.{sub-one}
 use native.Mathlib.Omega.{arith}
-use mathlib.Core.Bool.{Bool, true, false, cond}
-use lib.IntN.{ℤ, pos, negsuc, negℤ, subℕ, _+ℤ_, _*ℤ_}
-use lib.Dec.{ltb, lt→ltb, lit≤}
+use mathlib.Core.Bool.{true, false}
+use lib.IntN.{ℤ, pos, negsuc, _+ℤ_, _*ℤ_}
+use lib.Dec.{lit≤}
 use lib.Count.{leadingZeros, leading-top}
 use lib.Arith.{digits-div, digits-mod}
 use lib.Pow.{pow-add, pow-pos, pow-mono, shl-lt, shl-exact}
 use lib.Ieee.{size, minus}
-use lib.Ieee.Bits.{is-true}
 use Rattle.elementary.specs.declared.word.Word.{Word}
 use Rattle.elementary.specs.Whole.{asWord}
 use Rattle.elementary.specs.Log.{mantissaOf, logBits, wordOfUnits}
 use Rattle.elementary.proofs.Pattern.{size-is}
 use Rattle.elementary.proofs.Size.{size-shifted}
-use Rattle.elementary.proofs.Differences.{minus-above, minus-below}
+use Rattle.elementary.proofs.Differences.{minus-above, minus-below, minus-plus, minus-times}
 use Rattle.elementary.proofs.Range.{Mantissa}
 
 -- ---- a significand and its leading zeros in a word of 64 bits
@@ -51,26 +50,16 @@ moved-mantissa q zeros l =
     }
 
 -- ---- e * 2^p + b, for e = s - 1074
+pub word-counted : (p s b : ℕ) → minus s 1074 *ℤ pos (2 ^ p) +ℤ pos b ≡ minus (s * 2 ^ p + b) (1074 * 2 ^ p)
+word-counted p s b = ap (λ (z : ℤ). z +ℤ pos b) (minus-times s 1074 (2 ^ p)) ∙ minus-plus (s * 2 ^ p) (1074 * 2 ^ p) b
+
 pub word-above : (p s b : ℕ) → 1074 ≤ s → minus s 1074 *ℤ pos (2 ^ p) +ℤ pos b ≡ pos ((s - 1074) * 2 ^ p + b)
 word-above p s b h = ap (λ (z : ℤ). z *ℤ pos (2 ^ p) +ℤ pos b) (minus-above s 1074 h)
 
--- -(x + y) + b, for b below x: what is left is -(y + (x - b - 1) + 1)
-below-zero : (c b j : ℕ) → b < c → negℤ (pos (suc j * c)) +ℤ pos b ≡ negsuc (j * c + (c - suc b))
-below-zero c b j h =
-    let whole = suc j * c in
-    let size-of : suc j * c ≡ j * c + c = suc-mul j c in
-    let fits : b < whole = omega arith in
-    let one-less : suc (pred whole) ≡ whole = suc-pred-eq-of-pos (omega arith) in
-    ap (λ (x : ℕ). negℤ (pos x) +ℤ pos b) (sym one-less)
-    ∙ ap (λ (x : ℕ). subℕ b x) one-less
-    ∙ ap (λ (t : Bool). cond t (negsuc (whole - suc b)) (pos (b - whole))) (is-true (ltb b whole) (lt→ltb b whole fits))
-    ∙ ap negsuc (omega arith)
-
 pub word-below : (p s b : ℕ) → b < 2 ^ p → s < 1074 → minus s 1074 *ℤ pos (2 ^ p) +ℤ pos b ≡ negsuc ((1073 - s) * 2 ^ p + (2 ^ p - suc b))
 word-below p s b B h =
-    ap (λ (z : ℤ). z *ℤ pos (2 ^ p) +ℤ pos b) (minus-below s 1074 h)
-    ∙ below-zero (2 ^ p) b (1074 - suc s) B
-    ∙ ap (λ (x : ℕ). negsuc (x * 2 ^ p + (2 ^ p - suc b))) (omega arith)
+    let parts : 1074 * 2 ^ p ≡ (1073 - s) * 2 ^ p + (s * 2 ^ p + 2 ^ p) = ap (λ (x : ℕ). x * 2 ^ p) (omega arith) ∙ add-mul (1073 - s) (suc s) (2 ^ p) ∙ ap (λ (x : ℕ). (1073 - s) * 2 ^ p + x) (suc-mul s (2 ^ p)) in
+    word-counted p s b ∙ minus-below (s * 2 ^ p + b) (1074 * 2 ^ p) (omega arith) ∙ ap negsuc (omega arith)
 
 -- ---- q * 2^k, where q's highest digit is its digit j
 module _ (q j k : ℕ) (low : 2 ^ j ≤ q) (high : q < 2 ^ suc j) where

@@ -1,9 +1,10 @@
 -- The log word and the antilog never fall: a greater number has no smaller word, and a greater word no smaller antilog. Assumes nothing.
 use mathlib.Core.Path.{_≡_, sym, ap, _∙_, subst}
 use Prim.Native.Nat.{ℕ, zero, suc, _+_, _-_, _*_, _/_, _%_, _^_, _≤_, _<_}
-use native.Mathlib.Nat.{le-refl, le-trans, le-of-eq, le-of-lt, lt-of-le-of-lt, le-add-right, eq-or-lt-of-le, add-le-add, mul-assoc, suc-mul, mul-le-mul, mul-le-mul-left, mul-le-mul-right, mod-lt, div-add-mod', pow-succ'}
+use native.Mathlib.Nat.{le-refl, le-trans, le-of-eq, le-of-lt, lt-of-le-of-lt, le-add-right, eq-or-lt-of-le, add-le-add, mul-assoc, mul-le-mul, mul-le-mul-left, mul-le-mul-right, mod-lt, div-add-mod', pow-succ'}
 use native.Mathlib.Omega.{arith}
 use mathlib.Core.Logic.{_⊎_, inl, inr}
+use lib.Arith.{digits-lt}
 use lib.Pow.{pow-pos, pow-mono, shr-mono}
 use lib.Ieee.{size}
 use lib.Ieee.Digits.{size-lt, size-le}
@@ -18,7 +19,7 @@ digits-le {h} {k} {x} {y} b small le rest = go (eq-or-lt-of-le le)
   where
     go : (h ≡ k) ⊎ (h < k) → h * b + x ≤ k * b + y
     go (inl e) = add-le-add (mul-le-mul-right b (le-of-eq e)) (rest e)
-    go (inr l) = le-trans (le-of-lt (omega (arith, suc-mul h b))) (le-trans (mul-le-mul-right b l) (le-add-right (k * b) y))
+    go (inr l) = le-trans (le-of-lt (digits-lt l small)) (le-add-right (k * b) y)
 
 -- ---- the log word
 

@@ -3,11 +3,10 @@
 use mathlib.Core.Path.{_≡_, sym, ap, _∙_, subst}
 use mathlib.Core.Logic.{_⊎_, inl, inr}
 use Prim.Native.Nat.{ℕ, suc, _+_, _-_, _*_, _/_, _^_, _≤_, _<_, suc-le-suc}
-use native.Mathlib.Nat.{le-trans, le-of-eq, eq-or-lt-of-le, add-mul, suc-mul, mul-assoc, mul-le-mul-left, mul-le-mul-right, mul-le-mul, one-mul, pow-succ', mod-lt, lt-of-not-le, not-le-of-lt}
-use native.Mathlib.Decide.{decLe}
+use native.Mathlib.Nat.{le-trans, le-of-eq, eq-or-lt-of-le, mul-assoc, mul-le-mul-left, mul-le-mul-right, mul-le-mul, one-mul, pow-succ', mod-lt, not-le-of-lt}
 use native.Mathlib.Omega.{arith}
 use mathlib.Core.Bool.{Bool, true, false, not, cond}
-use lib.IntN.{ℤ, pos, negsuc, _+ℤ_, _-ℤ_, _*ℤ_}
+use lib.IntN.{ℤ, pos, negsuc, _-ℤ_}
 use lib.Dec.{T, ltb, lt→ltb, ltb→lt, nltb→le}
 use lib.Signed.{_≤ℤ_, _<ℤ_}
 use lib.Pow.{pow-pos, pow-mono}
@@ -19,30 +18,17 @@ use Rattle.elementary.specs.Nearest.{nearestScaled}
 use Rattle.elementary.specs.Log.{mantissaOf, logBits, wordOfUnits}
 use Rattle.elementary.specs.Antilog.{antilogRoot, antilog}
 use Rattle.elementary.proofs.Integers.{le-of-pos, le-of-negsuc, div-mono, minus-mono}
-use Rattle.elementary.proofs.Differences.{minus-above, minus-below}
-use Rattle.elementary.proofs.Range.{Mantissa, logBits-lt, antilogRoot-mantissa}
+use Rattle.elementary.proofs.Range.{Mantissa, antilogRoot-mantissa}
 use Rattle.elementary.proofs.Monotone.{units-mono, antilogRoot-mono, remainder-mono}
-use Rattle.elementary.proofs.LogDigits.{word-above, word-below}
+use Rattle.elementary.proofs.LogDigits.{word-counted}
 
 -- ---- the log word, counted from that of the smallest double
-word-counted : (p s b : ℕ) → b < 2 ^ p → (minus s 1074 *ℤ pos (2 ^ p) +ℤ pos b) ≡ minus (s * 2 ^ p + b) (1074 * 2 ^ p)
-word-counted p s b B = go (decLe 1074 s)
-  where
-    go : Dec (1074 ≤ s) → (minus s 1074 *ℤ pos (2 ^ p) +ℤ pos b) ≡ minus (s * 2 ^ p + b) (1074 * 2 ^ p)
-    go (yes h) =
-        let parts : s * 2 ^ p ≡ (s - 1074) * 2 ^ p + 1074 * 2 ^ p = ap (λ (x : ℕ). x * 2 ^ p) (omega arith) ∙ add-mul (s - 1074) 1074 (2 ^ p) in
-        word-above p s b h ∙ ap pos (omega arith) ∙ sym (minus-above (s * 2 ^ p + b) (1074 * 2 ^ p) (omega arith))
-    go (no h) =
-        let below : s < 1074 = lt-of-not-le h in
-        let parts : 1074 * 2 ^ p ≡ (1073 - s) * 2 ^ p + (s * 2 ^ p + 2 ^ p) = ap (λ (x : ℕ). x * 2 ^ p) (omega arith) ∙ add-mul (1073 - s) (suc s) (2 ^ p) ∙ ap (λ (x : ℕ). (1073 - s) * 2 ^ p + x) (suc-mul s (2 ^ p)) in
-        word-below p s b B below ∙ ap negsuc (omega arith) ∙ sym (minus-below (s * 2 ^ p + b) (1074 * 2 ^ p) (omega arith))
-
 abbrev pub biasedWord : ℕ → ℕ → ℕ
 biasedWord p n = (size n - 1) * 2 ^ p + logBits p (mantissaOf n)
 
 pub word-biased : (p n : ℕ) → wordOfUnits p n ≡ minus (biasedWord p n) (1074 * 2 ^ p)
 unfolding wordOfUnits
-word-biased p n = word-counted p (size n - 1) (logBits p (mantissaOf n)) (logBits-lt p (mantissaOf n))
+word-biased p n = word-counted p (size n - 1) (logBits p (mantissaOf n))
 
 pub wordOfUnits-mono : (p : ℕ) {m n : ℕ} → m ≤ n → wordOfUnits p m ≤ℤ wordOfUnits p n
 wordOfUnits-mono p {m} {n} h = rw (word-biased p m, word-biased p n) (minus-mono (1074 * 2 ^ p) (units-mono p h))

@@ -1,14 +1,14 @@
 -- A double by the fields of its bit pattern: which `Parts` it is taken apart into; and how many units of 2 ^ -1074 a finite one is. Assumes nothing.
 use mathlib.Core.Path.{_≡_, refl, sym, ap, _∙_, subst}
 use mathlib.Core.Logic.{inl, inr}
-use mathlib.Core.Bool.{Bool, not, cond}
+use mathlib.Core.Bool.{Bool, false, not, cond, true≢false}
 use Prim.Native.Nat.{ℕ, zero, suc, _+_, _-_, _*_, _/_, _%_, _^_, _<_}
 use native.Mathlib.Nat.{le-of-lt, lt-of-lt-of-le, mul-div-cancel, mul-pos, zero-mul, ne-of-lt}
 use native.Mathlib.Omega.{arith}
 use lib.IntN.{ℤ, pos}
 use lib.Pow.{pow-pos, pow-mono, shl-lt}
 use lib.Dec.{T, leb, eqb, eqb→eq, eqb·suc-zero, not-T}
-use lib.Ieee.{Float, nan, inf, fin, binary64, up, down, odd, fits, isNan, ofFields, ofBits, toBits}
+use lib.Ieee.{Float, nan, inf, fin, binary64, up, down, odd, fits, isNan, ne, ofFields, ofBits, toBits}
 use lib.Ieee.Fits.{down-pos, odd-fits}
 use lib.Ieee.Bits.{ofBits-toBits, cond-no}
 use lib.Ieee.Exact.{HasValue, odd-sign}
@@ -16,6 +16,13 @@ use Rattle.elementary.specs.declared.nearest.Parts.{Parts}
 use Rattle.elementary.specs.declared.nearest.Parts.the-variants.{Infinite, Zero, Finite}
 use Rattle.elementary.specs.Nearest.{unitsOf}
 use Rattle.elementary.specs.Parts.{TakenApart, Digits}
+
+-- only the NaN differs from itself
+pub not-nan : (x : Float) → ne x x ≡ false → T (not (isNan x))
+unfolding ne isNan
+not-nan nan same = absurd (true≢false same)
+not-nan (inf s) same = tt
+not-nan (fin s m e) same = tt
 
 -- ---- the three fields of a double's pattern
 abbrev negative : Float → Bool

@@ -10,7 +10,7 @@ use Rattle.elementary.specs.Places.{places}
 use Rattle.humid_air.specs.Doubles.{isFinite}
 use Rattle.refusal.specs.Outcomes.{accepted, Row, row, _then_}
 use Rattle.refusal.specs.Causes.{NoneHolds}
-use Rattle.refusal.proofs.Rows.{exactly}
+use Rattle.refusal.proofs.Rows.{exactly, none-before, none-after}
 use Rattle.density_altitude.specs.Inverse.{temperatureRows, stationRows}
 use Rattle.record.specs.declared.readings.Entry.{Entry}
 use Rattle.record.specs.declared.readings.Entry.the-variants.{Absent, Present}
@@ -53,14 +53,6 @@ unfolding judged
 judged-by-entries r q same = ap₂ (λ (rows : List Row) (a : Resolved). rows then accepted (figuresOf a)) (all-rows r q same) (all-resolved r q same)
 
 -- ---- finite values
-first-none : (xs ys : List Row) → NoneHolds (xs ++ ys) → NoneHolds xs
-first-none [] ys h = tt
-first-none (x ∷ xs) ys h = (h .0, first-none xs ys (h .1))
-
-rest-none : (xs ys : List Row) → NoneHolds (xs ++ ys) → NoneHolds ys
-rest-none [] ys h = h
-rest-none (x ∷ xs) ys h = rest-none xs ys (h .1)
-
 -- rows that begin with a test whether x is finite
 abbrev TestsFinite : (Float → List Row) → Type 0
 TestsFinite rows = (x : Float) → NoneHolds (rows x) → not (isFinite x) ≡ false
@@ -73,7 +65,7 @@ finite-absent : (e : Entry) → isPresent e ≡ false → FiniteEntry e
 finite-absent Absent h = tt
 finite-absent (Present x) h = absurd (true≢false h)
 
-neither : (a b : Bool) → (a || b) ≡ false → (a ≡ false) × (b ≡ false)
+pub neither : (a b : Bool) → (a || b) ≡ false → (a ≡ false) × (b ≡ false)
 neither true b h = absurd (true≢false h)
 neither false b h = (refl, h)
 
@@ -89,27 +81,27 @@ module _ (r : Readings) (none : NoneHolds (valueRows r)) (without : entryOf r de
   to-05 = to-04 ++ present humidityRows (entryOf r humidity)
 
   none-05 : NoneHolds to-05
-  none-05 = first-none to-05 (present pressureRows (entryOf r measuredPressure)) none
+  none-05 = none-before to-05 (present pressureRows (entryOf r measuredPressure)) none
 
   none-04 : NoneHolds to-04
-  none-04 = first-none to-04 (present humidityRows (entryOf r humidity)) none-05
+  none-04 = none-before to-04 (present humidityRows (entryOf r humidity)) none-05
 
   none-03 : NoneHolds (to-02 ++ present pressureRows (entryOf r stationPressure))
-  none-03 = first-none (to-02 ++ present pressureRows (entryOf r stationPressure)) (present pressureRows (entryOf r qnh)) none-04
+  none-03 = none-before (to-02 ++ present pressureRows (entryOf r stationPressure)) (present pressureRows (entryOf r qnh)) none-04
 
   none-02 : NoneHolds to-02
-  none-02 = first-none to-02 (present pressureRows (entryOf r stationPressure)) none-03
+  none-02 = none-before to-02 (present pressureRows (entryOf r stationPressure)) none-03
 
   ordinary-finite : (m : ℕ) → m < meanings → FiniteEntry (entryOf r m)
-  ordinary-finite zero h = finite-where finiteRows (λ x n. n .0) (entryOf r altitude) (first-none (present finiteRows (entryOf r altitude)) (present temperatureRows (entryOf r temperature)) none-02)
+  ordinary-finite zero h = finite-where finiteRows (λ x n. n .0) (entryOf r altitude) (none-before (present finiteRows (entryOf r altitude)) (present temperatureRows (entryOf r temperature)) none-02)
   ordinary-finite (suc zero) h =
-      finite-where temperatureRows (λ x n. n .0) (entryOf r temperature) (rest-none (present finiteRows (entryOf r altitude)) (present temperatureRows (entryOf r temperature)) none-02)
-  ordinary-finite (suc (suc zero)) h = finite-where pressureRows (λ x n. n .0) (entryOf r stationPressure) (rest-none to-02 (present pressureRows (entryOf r stationPressure)) none-03)
+      finite-where temperatureRows (λ x n. n .0) (entryOf r temperature) (none-after (present finiteRows (entryOf r altitude)) (present temperatureRows (entryOf r temperature)) none-02)
+  ordinary-finite (suc (suc zero)) h = finite-where pressureRows (λ x n. n .0) (entryOf r stationPressure) (none-after to-02 (present pressureRows (entryOf r stationPressure)) none-03)
   ordinary-finite (suc (suc (suc zero))) h =
-      finite-where pressureRows (λ x n. n .0) (entryOf r qnh) (rest-none (to-02 ++ present pressureRows (entryOf r stationPressure)) (present pressureRows (entryOf r qnh)) none-04)
-  ordinary-finite (suc (suc (suc (suc zero)))) h = finite-where humidityRows (λ x n. n .0) (entryOf r humidity) (rest-none to-04 (present humidityRows (entryOf r humidity)) none-05)
+      finite-where pressureRows (λ x n. n .0) (entryOf r qnh) (none-after (to-02 ++ present pressureRows (entryOf r stationPressure)) (present pressureRows (entryOf r qnh)) none-04)
+  ordinary-finite (suc (suc (suc (suc zero)))) h = finite-where humidityRows (λ x n. n .0) (entryOf r humidity) (none-after to-04 (present humidityRows (entryOf r humidity)) none-05)
   ordinary-finite (suc (suc (suc (suc (suc zero))))) h = subst FiniteEntry (sym without) tt
-  ordinary-finite (suc (suc (suc (suc (suc (suc zero)))))) h = finite-where pressureRows (λ x n. n .0) (entryOf r measuredPressure) (rest-none to-05 (present pressureRows (entryOf r measuredPressure)) none)
+  ordinary-finite (suc (suc (suc (suc (suc (suc zero)))))) h = finite-where pressureRows (λ x n. n .0) (entryOf r measuredPressure) (none-after to-05 (present pressureRows (entryOf r measuredPressure)) none)
   ordinary-finite (suc (suc (suc (suc (suc (suc (suc m))))))) h = absurd (omega arith)
 
 -- ---- with 06 by the inverse's tests and the humidity's; the others clash with it
@@ -130,7 +122,7 @@ module _ (r : Readings) (d : Float) (apart : isClash r ≡ false) (none : NoneHo
   inverse-rows t = stationRows places d (givenTemperature t)
 
   none-inverse : NoneHolds (inverse-rows (entryOf r temperature))
-  none-inverse = first-none (inverse-rows (entryOf r temperature)) (present humidityRows (entryOf r humidity)) none
+  none-inverse = none-before (inverse-rows (entryOf r temperature)) (present humidityRows (entryOf r humidity)) none
 
   given-finite : (t : Entry) → NoneHolds (inverse-rows t) → FiniteEntry t
   given-finite Absent h = tt
@@ -142,7 +134,7 @@ module _ (r : Readings) (d : Float) (apart : isClash r ≡ false) (none : NoneHo
   station-finite (suc (suc zero)) h = finite-absent (entryOf r stationPressure) (neither (has r altitude) (has r stationPressure) up-to-station .1)
   station-finite (suc (suc (suc zero))) h = finite-absent (entryOf r qnh) (neither (has r altitude || has r stationPressure) (has r qnh) up-to-qnh .1)
   station-finite (suc (suc (suc (suc zero)))) h =
-      finite-where humidityRows (λ x n. n .0) (entryOf r humidity) (rest-none (inverse-rows (entryOf r temperature)) (present humidityRows (entryOf r humidity)) none)
+      finite-where humidityRows (λ x n. n .0) (entryOf r humidity) (none-after (inverse-rows (entryOf r temperature)) (present humidityRows (entryOf r humidity)) none)
   station-finite (suc (suc (suc (suc (suc zero))))) h = subst FiniteEntry (sym with06) (not-false (isFinite d) (none-inverse .0))
   station-finite (suc (suc (suc (suc (suc (suc zero)))))) h =
       finite-absent (entryOf r measuredPressure) (neither (has r altitude || has r stationPressure || has r qnh) (has r measuredPressure) others .1)
@@ -157,4 +149,4 @@ unfolding judged
 accepted-is-finite r f e =
     let none = exactly (figuresOf (resolved r)) (readingRows r) .accepted-because e .0 in
     let way = entryOf r densityAltitude in
-    by-way r (none .0) way refl (first-none (wayRows r way) (airRows (resolved r)) (none .1))
+    by-way r (none .0) way refl (none-before (wayRows r way) (airRows (resolved r)) (none .1))

@@ -23,7 +23,7 @@ use Rattle.mast.specs.Judge.{judged}
 use Rattle.mast.specs.Entries.{FiniteEntry}
 use Rattle.mast.proofs.Entries.{accepted-is-finite}
 
-is-number : (x : Float) → isFinite x ≡ true → isNan x ≡ false
+pub is-number : (x : Float) → isFinite x ≡ true → isNan x ≡ false
 unfolding isFinite isNan
 is-number nan h = absurd (true≢false (sym h))
 is-number (inf s) h = refl

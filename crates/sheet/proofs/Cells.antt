@@ -1,6 +1,6 @@
 -- A figure in its column: what the code copies of a text in sixteen places, and how many bytes a row has. Assumes nothing.
 use mathlib.Core.Path.{_≡_, refl, sym, ap, _∙_}
-use mathlib.Core.Bool.{Bool, true, false, _||_, true≢false}
+use mathlib.Core.Bool.{Bool, true, false, _||_}
 use mathlib.Core.List.{List, [], _∷_, _++_, append-assoc}
 use Prim.Native.Nat.{ℕ, _+_, _-_, _≤_}
 use native.Mathlib.Omega.{arith}
@@ -14,6 +14,7 @@ use Rattle.decimals.specs.Decimal.{decimalText}
 use Rattle.decimals.specs.Places.{inSixteen}
 use Rattle.decimals.proofs.Standing.{too-long, fits}
 use Rattle.station.specs.declared.figures.Figures.{Figures}
+use Rattle.mast.proofs.Entries.{neither}
 use Rattle.sheet.specs.Over.{lastPlaces}
 use Rattle.sheet.specs.Row.{cell, isWider, rowText, isTooWide}
 
@@ -53,10 +54,6 @@ cell-is w k end x h is e =
     ∙ ap (λ (l : List ℕ). l ++ end ∷ []) (last-places w (decimalText k x) h (ltb-false w (length (decimalText k x)) e))
 
 -- ---- the four figures
-pub neither : (a b : Bool) → (a || b) ≡ false → (a ≡ false) × (b ≡ false)
-neither false b e = (refl, e)
-neither true b e = (e, absurd (true≢false e))
-
 pub record Narrow (t : Float) (f : Figures) : Type 0 where
   pub temperature : isWider 6 1 t ≡ false
   pub density : isWider 7 4 (f .«density_kg_m3») ≡ false

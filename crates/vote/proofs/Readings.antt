@@ -4,8 +4,7 @@ use mathlib.Core.Bool.{Bool, true, false, not, _&&_, _||_, cond, false≢true}
 use mathlib.Core.List.{List, []}
 use Prim.Native.Nat.{ℕ, zero, suc, _≤_, _<_}
 use native.Mathlib.Omega.{arith}
-use lib.Ieee.{Float, nan, inf, fin, isNan}
-use Rattle.humid_air.specs.Doubles.{isFinite}
+use lib.Ieee.{Float}
 use Rattle.refusal.specs.Outcomes.{Outcome, accepted, refused, _⟫_}
 use Rattle.record.specs.declared.readings.Entry.{Entry}
 use Rattle.record.specs.declared.readings.Entry.the-variants.{Absent, Present}
@@ -17,6 +16,7 @@ use Rattle.station.specs.declared.figures.Figures.{Figures}
 use Rattle.mast.specs.Entries.{FiniteEntry}
 use Rattle.mast.specs.Judge.{judged, judge}
 use Rattle.mast.proofs.Entries.{judged-by-entries, accepted-is-finite}
+use Rattle.mast.proofs.Numbers.{is-number}
 use Rattle.vote.specs.Middle.{middle, IsNumber}
 use Rattle.vote.specs.Fields.{isNotInAll, notInAllOf, withMiddle, votedOf, voted, votedOutcome}
 use Rattle.vote.specs.Vote.{acceptedReadings}
@@ -62,18 +62,12 @@ Number (Present x) = IsNumber x
 abbrev pub Numbers : Readings → Type 0
 Numbers r = (m : ℕ) → m < meanings → Number (entryOf r m)
 
-not-nan : (x : Float) → isFinite x ≡ true → isNan x ≡ false
-unfolding isFinite isNan
-not-nan nan h = absurd (false≢true h)
-not-nan (inf s) h = refl
-not-nan (fin s m e) h = refl
-
 pub numbers : (s : List ℕ) (r : Readings) → acceptedReadings s ≡ accepted r → Numbers r
 numbers s r e m h = let a = is-accepted s r e in go (a .read) (entryOf r m) refl (accepted-is-finite r (a .figures) (a .judged-so) m h)
   where
     go : readRecord false s ≡ accepted r → (e : Entry) → entryOf r m ≡ e → FiniteEntry e → Number e
     go read Absent told f = tt
-    go read (Present x) told f = record { double = reads-doubles s r read m x told; number = not-nan x f }
+    go read (Present x) told f = record { double = reads-doubles s r read m x told; number = is-number x f }
 
 -- ---- a field's vote, with the first two or the last two exchanged
 exchanged-first : (r : Readings) (m : ℕ) (e f g : Entry) → Number e → Number f → Number g → withMiddle r m f e g ≡ withMiddle r m e f g

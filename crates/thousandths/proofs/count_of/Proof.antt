@@ -1,12 +1,12 @@
 -- `thousandths::count_of` meets its contract. The exponent's field of x's pattern says in which of the ranges of proofs/Fields x lies. Assumes nothing.
 use mathlib.Core.Path.{_≡_, refl, sym, ap, _∙_, subst}
-use mathlib.Core.Bool.{false, not, true≢false}
 use Prim.Native.Nat.{ℕ, _^_}
 use lib.Dec.{T, leb}
-use lib.Ieee.{Float, nan, inf, fin, binary64, fits, isNan, ne, round, toBits}
+use lib.Ieee.{Float, nan, binary64, fits, round, toBits}
 use lib.Ieee.Compare.{differs-from-itself}
 use borrow.Author.Needs.{needs}
 use Rattle.elementary.specs.Whole.{signed}
+use Rattle.elementary.proofs.Parts.{not-nan}
 use Rattle.thousandths.specs.declared.Counted.the-variants.{Missing}
 use Rattle.thousandths.specs.Thousandths.{thousandths, nearestCount, counted, tried, countFor}
 use Rattle.thousandths.proofs.Fields.{small-count, digits-count, great-count}
@@ -16,13 +16,6 @@ use Rattle.thousandths.proofs.count_of.Tie as tie
 -- what owning an `f64` tells: the format holds it
 held : (c : tie.Start) → T (fits binary64 (c .args .x))
 held c = subst T (sym (c .good .0 .1)) tt
-
--- only the NaN differs from itself
-number : (x : Float) → ne x x ≡ false → T (not (isNan x))
-unfolding ne isNan
-number nan same = absurd (true≢false same)
-number (inf s) same = tt
-number (fin s m e) same = tt
 
 nan-missing : Missing ≡ countFor nan
 unfolding countFor tried counted nearestCount thousandths toBits round
@@ -54,7 +47,7 @@ count-of-spec =
     tie.close
     (tie.spec
     returns
-    (λ c. number (c .before .args .x) (c .if1 .left))
+    (λ c. not-nan (c .before .args .x) (c .if1 .left))
     returns-2
     (λ c κs. search needs)
     (λ c κs. search needs)

@@ -1,7 +1,7 @@
 -- Newton's iteration for the floor of a square root: a step from any guess leads to no less than the root, from a guess above it to less than the guess,
 -- and from a guess near it to one much nearer. Assumes nothing.
 use mathlib.Core.Path.{_≡_, ap, _∙_, subst}
-use Prim.Native.Nat.{ℕ, zero, suc, _+_, _*_, _/_, _≤_, _<_}
+use Prim.Native.Nat.{ℕ, zero, suc, _+_, _*_, _/_, _^_, _≤_, _<_}
 use native.Mathlib.Nat.{le-intro, le-dest, le-of-lt, lt-of-not-le, lt-suc-self, not-suc-le-zero, zero-lt-suc, add-assoc, add-comm, add-left-comm, add-mul, mul-add, mul-assoc, mul-comm, mul-mul-mul-comm, mul-le-mul, mul-le-mul-right, mul-pos, le-of-mul-le-mul-right, div-mul-le-self, div-lt-iff-lt-mul}
 use native.Mathlib.Decide.{decLe}
 use native.Mathlib.Omega.{arith}
@@ -76,3 +76,7 @@ step-near n r d m pos above below room =
     let squared : (s + s) * r * ((s + s) * r) ≡ s * s * (4 * x) = mul-mul-mul-comm (s + s) r (s + s) r ∙ ap (λ (y : ℕ). y * x) doubled ∙ mul-assoc (s * s) 4 x in
     let spread : 4 * (x * n) + 4 * x * m ≡ (n + m) * (4 * x) = omega (arith, add-mul n m (4 * x)) in
     le-of-mul-le-mul-right {k = 4 * x} (omega (arith, squared, spread, mul-le-mul twice twice, sum-square x n d above below)) (omega (arith, mul-pos pos pos))
+
+-- the quotient by a guess
+pub quotient-lt : (n r : ℕ) → n < 2 ^ 64 → 2 ^ 30 ≤ r → n / r < 2 ^ 34
+quotient-lt n r h g = div-lt-iff-lt-mul {k = r} {x = n} {y = 2 ^ 34} (omega arith) .1 (omega arith)

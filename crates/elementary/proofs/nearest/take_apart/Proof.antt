@@ -1,12 +1,11 @@
 -- `elementary::nearest::take_apart` meets its contract. The tests go by the fields of x's pattern, and proofs/Parts has what each case is.
 -- Assumes nothing.
-use mathlib.Core.Path.{_≡_, sym, subst}
-use mathlib.Core.Bool.{false, not, true≢false}
+use mathlib.Core.Path.{sym, subst}
 use lib.Dec.{T}
-use lib.Ieee.{Float, nan, inf, fin, binary64, fits, isNan, ne}
+use lib.Ieee.{binary64, fits}
 use lib.Ieee.Compare.{differs-from-itself}
 use borrow.Author.Needs.{needs}
-use Rattle.elementary.proofs.Parts.{infinite-apart, zero-apart, subnormal-apart, normal-apart}
+use Rattle.elementary.proofs.Parts.{not-nan, infinite-apart, zero-apart, subnormal-apart, normal-apart}
 use Rattle.elementary.proofs.nearest.take_apart.Statement.{statement}
 use Rattle.elementary.proofs.nearest.take_apart.Tie as tie
 
@@ -14,23 +13,16 @@ use Rattle.elementary.proofs.nearest.take_apart.Tie as tie
 held : (c : tie.Start) → T (fits binary64 (c .args .x))
 held c = subst T (sym (c .good .0 .1)) tt
 
--- only the NaN differs from itself
-number : (x : Float) → ne x x ≡ false → T (not (isNan x))
-unfolding ne isNan
-number nan same = absurd (true≢false same)
-number (inf s) same = tt
-number (fin s m e) same = tt
-
 returns : tie.Need-returns
 returns c = record { same = sym (differs-from-itself (c .before .args .x) (subst T (sym (c .if1 .taken)) tt)); within = tt }
 
 float-to-bits-b : tie.Need-float-to-bits-b
-float-to-bits-b c = number (c .before .args .x) (c .if1 .left)
+float-to-bits-b c = not-nan (c .before .args .x) (c .if1 .left)
 
 returns-2 : tie.Need-returns-2
 returns-2 c =
     let start = c .before .before in
-    infinite-apart (start .args .x) (held start) (c .if2 .taken) (number (start .args .x) (c .before .if1 .left))
+    infinite-apart (start .args .x) (held start) (c .if2 .taken) (not-nan (start .args .x) (c .before .if1 .left))
 
 returns-3 : tie.Need-returns-3
 returns-3 c =

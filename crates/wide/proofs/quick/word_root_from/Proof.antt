@@ -1,12 +1,12 @@
 -- `wide::quick::word_root_from` meets its contract: two steps of Newton's iteration from the table's entry lead to the root or one more. Assumes nothing.
 use mathlib.Core.Path.{_≡_, _∙_, subst}
 use Prim.Native.Nat.{ℕ, zero, suc, _+_, _-_, _*_, _/_, _^_, _≤_, _<_, suc-le-suc}
-use native.Mathlib.Nat.{le-trans, mul-mul-mul-comm, mul-le-mul, mul-le-mul-right, div-lt-iff-lt-mul}
+use native.Mathlib.Nat.{le-trans, mul-mul-mul-comm, mul-le-mul, mul-le-mul-right}
 use native.Mathlib.Numerals.{add-one}
 use native.Mathlib.Omega.{arith}
 use Rattle.wide.specs.Root.{root}
 use Rattle.wide.proofs.Root.{is-root, roots-le}
-use Rattle.wide.proofs.roots.Newton.{step, step-above, step-near}
+use Rattle.wide.proofs.roots.Newton.{step, step-above, step-near, quotient-lt}
 use Rattle.wide.proofs.roots.Halves.{next-square}
 use Rattle.wide.proofs.quick.word_root_from.Statement.{statement}
 use Rattle.wide.proofs.quick.word_root_from.Tie as tie
@@ -23,9 +23,6 @@ start n e l h low high =
     let square : e * 2 ^ 17 * (e * 2 ^ 17) ≡ e * e * 2 ^ 34 = mul-mul-mul-comm e (2 ^ 17) e (2 ^ 17) in
     let large : 2 ^ 13 ≤ e = roots-le (e * e) (2 ^ 13) e (omega arith) (omega (arith, next-square e)) in
     record { low = omega arith; high = omega arith; above = omega arith; below = omega arith }
-
-quotient-lt : (n r : ℕ) → n < 2 ^ 64 → 2 ^ 30 ≤ r → n / r < 2 ^ 34
-quotient-lt n r h g = div-lt-iff-lt-mul {k = r} {x = n} {y = 2 ^ 34} (omega arith) .1 (omega arith)
 
 -- a step from within d leads to no less than the root, and to at most m above n, in squares; b is a bound below the guess
 record Step (n r m : ℕ) : Type 0 where

@@ -1,9 +1,9 @@
 -- `wide::roots::guess` meets its contract: a step of Newton's iteration leads to no less than the root. Assumes nothing.
 use Prim.Native.Nat.{ℕ, _+_, _-_, _*_, _/_, _^_, _≤_, _<_}
-use native.Mathlib.Nat.{mul-le-mul, div-lt-iff-lt-mul}
+use native.Mathlib.Nat.{mul-le-mul}
 use native.Mathlib.Omega.{arith}
 use borrow.Author.Needs.{needs}
-use Rattle.wide.proofs.roots.Newton.{step-above}
+use Rattle.wide.proofs.roots.Newton.{step-above, quotient-lt}
 use Rattle.wide.proofs.roots.guess.Statement.{statement}
 use Rattle.wide.proofs.roots.guess.Tie as tie
 
@@ -13,9 +13,6 @@ near n = 1113600000 + n / 2 ^ 48 * (17650000 - 81 * (n / 2 ^ 48)) / 256
 
 parabola-le : (x : ℕ) → x < 2 ^ 16 → x * (17650000 - 81 * x) ≤ 2 ^ 41
 parabola-le x h = omega (arith, mul-le-mul {n₁ = x} {m₁ = 17650000 - 81 * x} {n₂ = 2 ^ 16} {m₂ = 17650000} (omega arith) (omega arith))
-
-quotient-lt : (n r : ℕ) → n < 2 ^ 64 → 2 ^ 30 ≤ r → n / r < 2 ^ 34
-quotient-lt n r h g = div-lt-iff-lt-mul {k = r} {x = n} {y = 2 ^ 34} (omega arith) .1 (omega arith)
 
 near-le : (c : tie.Start) → c .args .n / 2 ^ 48 * (17650000 - 81 * (c .args .n / 2 ^ 48)) ≤ 2 ^ 41
 near-le c = parabola-le (c .args .n / 2 ^ 48) (omega arith)
