@@ -3,6 +3,7 @@
 
 use crate::exponents::EXPONENTS;
 use crate::field::{record, Field};
+use crate::inputs::near_a_turn;
 use crate::places::places;
 use crate::random::Random;
 use crate::rules;
@@ -116,6 +117,31 @@ fn antilog(p: i128) -> f64 {
     exports::antilog(p < 0, (digits >> places()) as u32, part)
 }
 
+/// A fraction whose Y lies within three units of where the rounding turns: no estimate decides it.
+fn decided_by_roots(random: &mut Random) -> i128 {
+    loop {
+        let f = near_a_turn(random);
+        if (509..=514).contains(&(rules::antilog_root(places(), f) % 1024)) {
+            return f.into();
+        }
+    }
+}
+
+/// How many of the fractions drawn take more than half the time of one that the roots decide.
+fn share_of_roots(random: &mut Random) {
+    let slow = median((0..RUNS).map(|_| quickest(decided_by_roots(random))).collect());
+    let drawn = 20_000;
+    let roots = (0..drawn)
+        .filter(|_| quickest((random.next() >> (64 - places())).into()) > slow / 2.0)
+        .count();
+    println!("{:<42}{:>10.2}", "of 100 antilogs the roots decide", roots as f64 * 100.0 / f64::from(drawn));
+}
+
+/// The quickest of some calls, so that an interruption does not count.
+fn quickest(p: i128) -> f64 {
+    (0..9).map(|_| nanoseconds(&[p], |p| antilog(*p))).fold(f64::INFINITY, f64::min)
+}
+
 fn whole_numbers(random: &mut Random) {
     let ratios = evenly(|| random.between(0.2, 2.0));
     let arguments = evenly(|| random.between(-5.0, 5.0));
@@ -135,6 +161,14 @@ fn whole_numbers(random: &mut Random) {
         |p| rules::antilog(places(), *p),
         |p| (*p as f64 / one).exp2(),
     );
+    row(
+        "antilog, where the roots decide",
+        &evenly(|| decided_by_roots(random)),
+        |p| antilog(*p),
+        |p| rules::antilog(places(), *p),
+        |p| (*p as f64 / one).exp2(),
+    );
+    share_of_roots(random);
     for number in [0, 1, 6, 11, 23, 26] {
         let exponent = EXPONENTS[number];
         row(

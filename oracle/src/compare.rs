@@ -44,21 +44,37 @@ pub fn compare(calls: u64, records: u64) -> bool {
     rows.extend(with_records);
     rows.push(compare_lent::row());
 
-    println!("{:<36}{:>12}{:>13}", "function", "calls", "differences");
-    for row in &rows {
-        println!("{:<36}{:>12}{:>13}", row.name, row.calls, row.differences);
-    }
+    show(&rows);
     println!("records by number, 0 accepted: {}", by_number(&numbers));
     println!("strictly: {}", by_number(&strict_numbers));
     let differences: u64 = rows.iter().map(|row| row.differences).sum();
     println!("{called} calls of functions, {records} with records, {differences} differences");
-    for row in &rows {
+    show_first(&rows);
+    differences == 0
+}
+
+/// The same of the functions by whole numbers alone, so many calls of each.
+pub fn compare_rules(calls: u64) -> bool {
+    let rows = compare_rules::ROWS.map(|row| row(calls));
+    show(&rows);
+    show_first(&rows);
+    rows.iter().all(|row| row.differences == 0)
+}
+
+fn show(rows: &[Row]) {
+    println!("{:<36}{:>12}{:>13}", "function", "calls", "differences");
+    for row in rows {
+        println!("{:<36}{:>12}{:>13}", row.name, row.calls, row.differences);
+    }
+}
+
+fn show_first(rows: &[Row]) {
+    for row in rows {
         if let Some([inputs, ours, theirs]) = &row.first {
             println!("first difference of {}, at {inputs}", row.name);
             println!("  ours   {ours}\n  theirs {theirs}");
         }
     }
-    differences == 0
 }
 
 fn by_number(numbers: &Numbers) -> String {

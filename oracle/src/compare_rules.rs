@@ -75,13 +75,15 @@ fn antilog(calls: u64) -> Row {
     let draw = |turn| {
         let (bits, any) = (random.next(), random.next());
         let part = any >> (64 - places());
-        match turn % 4 {
+        match turn % 5 {
             // any three numbers: the part may have more bits than places
             0 => Word(bits & 1 == 1, (bits >> 32) as u32, any),
             // answers from zero to infinity
             1 => Word(bits & 1 == 1, (bits >> 32) as u32 % 1100, part),
             // subnormal ones
             2 => Word(true, 1020 + (bits >> 32) as u32 % 56, part),
+            // next to where the rounding turns
+            3 => Word(false, (bits >> 32) as u32 % 1000, inputs::near_a_turn(random)),
             _ => Word(bits & 1 == 1, (bits >> 32) as u32 % 16, part),
         }
     };

@@ -106,7 +106,7 @@ use std::io;
 use std::path::Path;
 use std::process::ExitCode;
 
-const USE: &str = "oracle lists FOLDER, oracle answers, oracle load [COUNT], oracle distance [POINTS], or oracle warmth [CASES]; driver compare CALLS RECORDS, or driver bench";
+const USE: &str = "oracle lists FOLDER, oracle answers, oracle load [COUNT], oracle distance [POINTS], or oracle warmth [CASES]; driver compare CALLS RECORDS, driver compare-rules CALLS, or driver bench";
 const POINTS: u64 = 100_000;
 const CASES: u64 = 1_000_000;
 
@@ -149,6 +149,8 @@ fn main() -> ExitCode {
         ["compare", calls, records] => {
             compare::compare(calls.parse().expect(USE), records.parse().expect(USE))
         }
+        #[cfg(library)]
+        ["compare-rules", calls] => compare::compare_rules(calls.parse().expect(USE)),
         #[cfg(library)]
         ["bench"] => {
             times::measure();

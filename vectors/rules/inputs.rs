@@ -3,7 +3,7 @@
 use crate::exponents::Exponent;
 use crate::places::places;
 use crate::random::Random;
-use crate::rules::{antilog, exp, ln_units};
+use crate::rules::{antilog, exp, ln_units, log_bits};
 
 fn with_neighbours(xs: &[f64]) -> Vec<f64> {
     xs.iter()
@@ -155,7 +155,24 @@ pub fn words(random: &mut Random) -> Vec<(i64, u64)> {
     for k in (-1080..1030).step_by(3) {
         inputs.push((k, random.next() & last));
     }
+    // where a root that is estimated would round the other way: next to the point where the rounding turns
+    for f in [535_489_463_505_023_894, 431_509_293_186_312_915] {
+        inputs.push((0, f & last));
+    }
+    let near = &mut Random(0);
+    for _ in 0..256 {
+        inputs.push((3, near_a_turn(near)));
+    }
     inputs
+}
+
+/// A fraction whose Y lies some units from a point where the rounding of a normal double turns: half a unit of the
+/// 53rd place, which is 512 of Y's.
+pub fn near_a_turn(random: &mut Random) -> u64 {
+    let (any, step) = (random.next(), random.next());
+    let turn = 1 << 62 | any >> 2 & !1023 | 512;
+    let last = (1u64 << places()) - 1;
+    (log_bits(places(), turn) + step % 5).min(last)
 }
 
 /// What the power q is tried on.

@@ -63,7 +63,12 @@ pub fn log_word(places: u32, x: f64) -> Option<i128> {
     let (m, e) = parts(x);
     let zeros = m.leading_zeros();
     let exponent = e + 63 - zeros as i32;
-    let mut mantissa = m << zeros >> 1;
+    let bits = log_bits(places, m << zeros >> 1);
+    Some((i128::from(exponent) << places) + i128::from(bits))
+}
+
+/// The bits of a mantissa M, from 2^62 to 2^63.
+pub fn log_bits(places: u32, mut mantissa: u64) -> u64 {
     let mut bits = 0;
     for _ in 0..places {
         let q = (u128::from(mantissa) * u128::from(mantissa) >> 62) as u64;
@@ -71,7 +76,7 @@ pub fn log_word(places: u32, x: f64) -> Option<i128> {
         mantissa = q >> bit;
         bits = bits << 1 | bit;
     }
-    Some((i128::from(exponent) << places) + i128::from(bits))
+    bits
 }
 
 /// Y of the fraction `f`.

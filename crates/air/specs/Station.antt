@@ -3,7 +3,7 @@
 use Prim.Native.Nat.{ℕ}
 use lib.Ieee.{Float}
 use Rattle.elementary.specs.Decimals.{nought, hundred}
-use Rattle.elementary.specs.Operators.{_⊕_, _⊗_}
+use Rattle.elementary.specs.Operators.{_⊕_, _⊖_, _⊗_, _⊘_}
 use Rattle.humid_air.specs.Doubles.{clampDouble}
 use Rattle.humid_air.specs.MoistAir.{icePoint}
 use Rattle.humid_air.specs.Sound.{soundSpeed}
@@ -33,8 +33,23 @@ abbrev pub pascals : ℕ → Float → Reading → Float
 pascals places altitude (Given p) = p ⊗ hundred
 pascals places altitude FromLayer = standardAir places altitude .«pressure_pa»
 
+-- the same as it is shown: what is given, or else the standard atmosphere's, K - 273.15 and Pa / 100
+abbrev pub celsius : ℕ → Float → Reading → Float
+celsius places altitude (Given t) = t
+celsius places altitude FromLayer = standardAir places altitude .«temperature_k» ⊖ icePoint
+
+abbrev pub hectopascals : ℕ → Float → Reading → Float
+hectopascals places altitude (Given p) = p
+hectopascals places altitude FromLayer = standardAir places altitude .«pressure_pa» ⊘ hundred
+
 abbrev pub conditionsAt : ℕ → Float → Reading → Reading → Conditions
-conditionsAt places altitude t p = record { «temp_k» = kelvins places altitude t; «pressure_pa» = pascals places altitude p }
+conditionsAt places altitude t p =
+    record {
+      «temp_k» = kelvins places altitude t;
+      «pressure_pa» = pascals places altitude p;
+      «shown_c» = celsius places altitude t;
+      «shown_hpa» = hectopascals places altitude p;
+    }
 
 unfoldable pub atmosphere : ℕ → Float → Reading → Reading → Float → Air
 atmosphere places altitude t p h = airOf places (kelvins places altitude t) (pascals places altitude p) h

@@ -1,6 +1,7 @@
 // Moist air with one saturation pressure at hand: what asks for the pressure at the same temperature takes
 // it from there, and what asks for another computes its own.
 ghost use mathlib.Core.Path.{_≡_};
+ghost use mathlib.Core.Bool.{true};
 ghost use Rattle.elementary.specs.Places.{places};
 ghost use Rattle.elementary.specs.Decimals.{nought, hundred};
 ghost use Rattle.humid_air.specs.Doubles.{clampDouble};
@@ -35,12 +36,21 @@ pub(crate) fn saturation_at(temp_k: f64, humidity_percent: f64) -> Saturation
     }
 }
 
+// Whether two doubles are one: equal ones have one pattern, but for the two zeros.
+pub(crate) fn is_one(x: f64, y: f64) -> bool
+    ensures { λ r. ⌜ (r ≡ true → x ≡ y) ⌝ }
+{
+    if x == y {
+        return f64::to_bits(x) == f64::to_bits(y);
+    }
+    false
+}
+
 fn saturation_pressure(known: Saturation, temp_k: f64, humidity_percent: f64) -> f64
     requires { ⌜ Serves known «humidity_percent» ⌝ }
     ensures { λ r. ⌜ r ≡ neededPressure places «temp_k» «humidity_percent» ⌝ }
 {
-    // equal doubles have one pattern, but for the two zeros
-    if temp_k == known.temp_k && f64::to_bits(temp_k) == f64::to_bits(known.temp_k) {
+    if is_one(temp_k, known.temp_k) {
         return known.pressure_hpa;
     }
     needed_saturation_pressure(temp_k, humidity_percent)

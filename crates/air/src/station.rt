@@ -10,10 +10,12 @@ use super::moist::sound_speed_of;
 use atmosphere::layers::calculate_icao_standard_atmosphere;
 use atmosphere::station::Reading;
 
-// A temperature and a pressure, as the formulas take them.
+// A temperature and a pressure, as the formulas take them and as they are shown.
 pub struct Conditions {
     pub temp_k: f64,
     pub pressure_pa: f64,
+    pub shown_c: f64,
+    pub shown_hpa: f64,
 }
 
 // Moist air, with the mole fraction of vapour that its density uses.
@@ -51,12 +53,17 @@ pub(crate) fn conditions_at(
                 Conditions {
                     temp_k: temp_c + 273.15,
                     pressure_pa: pressure_hpa * 100.0,
+                    shown_c: temp_c,
+                    shown_hpa: pressure_hpa,
                 }
             }
             Reading::FromLayer => {
+                let standard = calculate_icao_standard_atmosphere(altitude_m);
                 Conditions {
                     temp_k: temp_c + 273.15,
-                    pressure_pa: calculate_icao_standard_atmosphere(altitude_m).pressure_pa,
+                    pressure_pa: standard.pressure_pa,
+                    shown_c: temp_c,
+                    shown_hpa: standard.pressure_pa / 100.0,
                 }
             }
         },
@@ -67,12 +74,16 @@ pub(crate) fn conditions_at(
                     Conditions {
                         temp_k: standard.temperature_k,
                         pressure_pa: pressure_hpa * 100.0,
+                        shown_c: standard.temperature_k - 273.15,
+                        shown_hpa: pressure_hpa,
                     }
                 }
                 Reading::FromLayer => {
                     Conditions {
                         temp_k: standard.temperature_k,
                         pressure_pa: standard.pressure_pa,
+                        shown_c: standard.temperature_k - 273.15,
+                        shown_hpa: standard.pressure_pa / 100.0,
                     }
                 }
             }

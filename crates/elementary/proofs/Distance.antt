@@ -16,64 +16,11 @@ use Rattle.wide.proofs.Root.{root-le, root-gt}
 use Rattle.elementary.specs.Nearest.{unitsOf}
 use Rattle.elementary.specs.Log.{squared, bitOf, nextOf, logBits, mantissaOf, logWord}
 use Rattle.elementary.specs.Antilog.{antilogRoot}
-use Rattle.elementary.proofs.Powers.{pow-one, pow-product, pow-power, pow-scaled, pow-squared, lt-of-squares, near-one-le-two}
+use Rattle.estimate.proofs.Compared.{Comparison, at-most, below, turned, next-place}
+use Rattle.estimate.proofs.Powers.{pow-one, pow-product, pow-power, pow-scaled, pow-squared, lt-of-squares, near-one-le-two}
 use Rattle.elementary.proofs.Range.{Mantissa, bit-cases, next-mantissa, top-bit-le, antilogRoot-mantissa, mantissaOf-mantissa}
 use Rattle.elementary.proofs.Units.{Short, split-power, units-short, units-pos}
 use Rattle.elementary.proofs.Ordered.{biasedWord, word-biased}
-
--- ---- the lemma over the places
-
--- what it asks of an order: ≤ and < have it, and so has each of them turned round
-record Comparison (R : ℕ → ℕ → Type 0) : Type 0 where
-  trans : (a b c : ℕ) → R a b → R b c → R a c
-  times : (a b c : ℕ) → 0 < c → R a b → R (a * c) (b * c)
-  cancel : (a b c : ℕ) → 0 < c → R (a * c) (b * c) → R a b
-  power : (a b k : ℕ) → 0 < k → R a b → R (a ^ k) (b ^ k)
-
-at-most : Comparison (λ a b. a ≤ b)
-at-most =
-    record {
-      trans = λ a b c. le-trans;
-      times = λ a b c z. mul-le-mul-right c;
-      cancel = λ a b c z h. le-of-mul-le-mul-right h z;
-      power = λ a b k z h. pow-le-pow-left h k;
-    }
-
-below : Comparison (λ a b. a < b)
-below =
-    record {
-      trans = λ a b c. lt-trans;
-      times = λ a b c z h. mul-lt-mul-of-pos-right h z;
-      cancel = λ a b c z. lt-of-mul-lt-mul-right c;
-      power = λ a b k z h. pow-lt-pow-left h (ne-of-gt z);
-    }
-
-turned : {R : ℕ → ℕ → Type 0} → Comparison R → Comparison (λ a b. R b a)
-turned c =
-    record {
-      trans = λ x y z h g. c .trans z y x g h;
-      times = λ x y. c .times y x;
-      cancel = λ x y. c .cancel y x;
-      power = λ x y. c .power y x;
-    }
-
-units-and-place : (U p t x : ℕ) → U ^ 2 ^ p * 2 ^ x * (U * 2 ^ t) ^ 2 ^ p ≡ U ^ 2 ^ suc p * 2 ^ (t * 2 ^ p + x)
-units-and-place U p t x =
-    let k : ℕ = 2 ^ p in
-    rw (pow-squared U p, pow-product U U k, pow-scaled U t k, pow-add 2 (t * k) x)
-    (mul-mul-mul-comm (U ^ k) (2 ^ x) (U ^ k) (2 ^ (t * k)) ∙ ap (λ (n : ℕ). U ^ k * U ^ k * n) (mul-comm (2 ^ x) (2 ^ (t * k))))
-
--- In units of U, A stands for A / U and B for B / U. Where (A / U) ^ 2 compares with B / U * 2 ^ t, and (B / U) ^ 2 ^ p with 2 ^ x, there
--- (A / U) ^ 2 ^ (p + 1) compares in the same way with 2 to the word of p + 1 places that has t for its highest bit and x for the others.
-next-place : {R : ℕ → ℕ → Type 0} → Comparison R → (U p t x A B : ℕ) → 0 < U → R (A * A) (B * (U * 2 ^ t)) → R (B ^ 2 ^ p) (U ^ 2 ^ p * 2 ^ x)
-    → R (A ^ 2 ^ suc p) (U ^ 2 ^ suc p * 2 ^ (t * 2 ^ p + x))
-next-place {R} c U p t x A B some step rest =
-    let k : ℕ = 2 ^ p in
-    let W : ℕ = U * 2 ^ t in
-    let first : R ((A * A) ^ k) ((B * W) ^ k) = c .power (A * A) (B * W) k (pow-pos p) step in
-    let second : R (B ^ k * W ^ k) (U ^ k * 2 ^ x * W ^ k) = c .times (B ^ k) (U ^ k * 2 ^ x) (W ^ k) (one-le-pow k W (mul-pos some (pow-pos t))) rest in
-    subst₂ R (sym (pow-squared A p)) (units-and-place U p t x)
-    (c .trans ((A * A) ^ k) (B ^ k * W ^ k) (U ^ k * 2 ^ x * W ^ k) (subst (λ (n : ℕ). R ((A * A) ^ k) n) (pow-product B W k) first) second)
 
 -- what it compares with, in units of 2^62
 units-of-two : (p x : ℕ) → (2 ^ 62) ^ 2 ^ p * 2 ^ x ≡ 2 ^ (62 * 2 ^ p + x)

@@ -11,7 +11,7 @@ use Rattle.elementary.specs.Exp.{log2e}
 use Rattle.elementary.specs.Ln.{ln2}
 use Rattle.elementary.specs.HowNear.{Fraction, _isAtMost_}
 use Rattle.elementary.specs.FunctionsNear.{eBelow, eAbove}
-use Rattle.elementary.proofs.Powers.{pow-product, pow-power, pow-scaled}
+use Rattle.estimate.proofs.Powers.{pow-product, pow-power, pow-scaled}
 use Rattle.elementary.proofs.Range.{Mantissa}
 use Rattle.elementary.proofs.Distance.{logBits-below, logBits-above}
 use Rattle.elementary.proofs.RootsNear.{power-swap, le-of-powers}

@@ -18,7 +18,7 @@ use Rattle.elementary.specs.Exp.{log2e, expTop, expBottom, floorScaled, 
 use Rattle.elementary.specs.Ln.{ln2}
 use Rattle.elementary.specs.HowNear.{Fraction, _isAtMost_}
 use Rattle.elementary.specs.FunctionsNear.{Normal, Within, raised, raisedBy, eBelow, eAbove, ExpNear}
-use Rattle.elementary.proofs.Powers.{pow-scaled}
+use Rattle.estimate.proofs.Powers.{pow-scaled}
 use Rattle.elementary.proofs.Order.{units-exact}
 use Rattle.elementary.proofs.Differences.{opposite, minus-above, minus-same, minus-times, floor-minus}
 use Rattle.elementary.proofs.RootsNear.{le-of-powers, words-raised, shift, Worded, antilog-within}

@@ -16,7 +16,7 @@ use Rattle.elementary.specs.Nearest.{unitsOf}
 use Rattle.elementary.specs.Log.{logWord, wordOfUnits}
 use Rattle.elementary.specs.Antilog.{antilogRoot}
 use Rattle.elementary.specs.HowNear.{twoToThe, value, _toThe_, _isAtMost_, _isBelow_, LogNear, HowNear, HowNearIsNear}
-use Rattle.elementary.proofs.Powers.{pow-product, pow-scaled}
+use Rattle.estimate.proofs.Powers.{pow-product, pow-scaled}
 use Rattle.elementary.proofs.Order.{units-exact}
 use Rattle.elementary.proofs.Differences.{minus-same, minus-plus}
 use Rattle.elementary.proofs.Distance.{antilogRoot-below, antilogRoot-above, NearLog, near-log}

@@ -1,5 +1,4 @@
 -- The laws of the definitions, a file for each idea.
-pub mod Powers
 pub mod Range
 pub mod Monotone
 pub mod Distance
@@ -43,3 +42,4 @@ pub mod PowersApart
 pub mod Near
 pub mod Counts
 pub mod Apart
+mod Window

@@ -17,7 +17,7 @@ use Rattle.elementary.specs.Exp.{log2e}
 use Rattle.elementary.specs.Ln.{ln2, ln}
 use Rattle.elementary.specs.HowNear.{Fraction, _isAtMost_, _isBelow_, _toThe_, twoToThe, value}
 use Rattle.elementary.specs.FunctionsNear.{eBelow, eAbove, atLeast, atMost, LnNear}
-use Rattle.elementary.proofs.Powers.{pow-power, pow-scaled}
+use Rattle.estimate.proofs.Powers.{pow-power, pow-scaled}
 use Rattle.elementary.proofs.Order.{units-exact}
 use Rattle.elementary.proofs.Differences.{minus-same, minus-plus, minus-times, floor-minus}
 use Rattle.elementary.proofs.Distance.{NearLog, near-log}

@@ -10,7 +10,7 @@ use lib.Dec.{T, leb, leb→le, nleb→lt}
 use Rattle.wide.specs.Root.{root}
 use Rattle.wide.proofs.Root.{root-le, root-gt}
 use Rattle.elementary.specs.Sqrt.{nearestRoot}
-use Rattle.elementary.proofs.Powers.{squares-lt}
+use Rattle.estimate.proofs.Powers.{squares-lt}
 
 -- (q - 1/2) ^ 2 < N < (q + 1/2) ^ 2, in whole numbers
 abbrev pub Nearest : ℕ → ℕ → Type 0

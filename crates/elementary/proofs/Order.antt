@@ -2,15 +2,16 @@
 -- Assumes nothing.
 use mathlib.Core.Path.{_≡_, refl, sym, ap, _∙_, subst₂}
 use mathlib.Core.Logic.{_⊎_, inl, inr}
-use Prim.Native.Nat.{ℕ, zero, suc, _+_, _*_, _^_, _≤_}
-use native.Mathlib.Nat.{le-of-eq, le-of-lt, eq-or-lt-of-le, eq-zero-or-pos, not-suc-le-zero, zero-mul, mul-assoc, mul-comm, mul-right-comm, mul-pos, zero-div}
+use Prim.Native.Nat.{ℕ, zero, suc, _+_, _-_, _*_, _/_, _^_, _≤_}
+use native.Mathlib.Nat.{le-of-eq, le-of-lt, le-antisymm, eq-or-lt-of-le, eq-zero-or-pos, not-suc-le-zero, zero-mul, mul-assoc, mul-comm, mul-right-comm, mul-pos, zero-div}
 use native.Mathlib.Omega.{arith}
-use mathlib.Core.Bool.{Bool, true, false, not, _&&_, _||_}
+use mathlib.Core.Bool.{Bool, true, false, not, _&&_, _||_, cond}
 use lib.IntN.{ℤ, pos, negℤ, negℤ-negℤ, _*ℤ_}
 use lib.Dec.{T, ltb, eqb, ltb→lt, lt→ltb, eqb→eq}
 use lib.Signed.{_≤ℤ_, ≤ℤ-refl}
 use lib.Pow.{pow-pos}
-use lib.Ieee.{Float, nan, inf, fin, binary64, up, down, neg, fits, le, below, level}
+use lib.Ieee.{Float, nan, inf, fin, binary64, up, down, neg, fits, le, below, level, hid, top, size, ofBits, toBits}
+use lib.Ieee.Bits.{ofBits-toBits}
 use lib.Ieee.Fits.{down-pos, and-i, and-l, and-r, eq→eqb}
 use Rattle.elementary.specs.Whole.{signed}
 use Rattle.elementary.specs.Nearest.{unitsOf}
@@ -73,6 +74,21 @@ units-exact s (suc m) e h =
     ∙ ap (λ (n : ℕ). suc m * n) (j .1)
     ∙ sym (mul-assoc (suc m) (2 ^ (j .0)) (down e))
     ∙ ap (λ (n : ℕ). n * down e) (sym (units-are s (suc m) e (j .0) (j .1)))
+
+-- its bits, by its sign and its count of units
+abbrev bitsOf : Bool → ℕ → ℕ
+bitsOf s n = let k = size n - 53 in cond s (top binary64) 0 + k * hid binary64 + n / 2 ^ k
+
+bits-are : (s : Bool) (m : ℕ) (e : ℤ) → toBits binary64 (fin s m e) ≡ bitsOf s (unitsOf (fin s m e))
+unfolding toBits
+bits-are s m e = refl
+
+-- so the count and the sign tell doubles apart
+pub same-double : (s : Bool) (m n : ℕ) (e d : ℤ) → T (fits binary64 (fin s m e)) → T (fits binary64 (fin s n d)) → unitsOf (fin s m e) ≡ unitsOf (fin s n d) → fin s m e ≡ fin s n d
+same-double s m n e d p q h =
+    sym (ofBits-toBits binary64 (fin s m e) p)
+    ∙ ap (ofBits binary64) (bits-are s m e ∙ ap (bitsOf s) h ∙ sym (bits-are s n d))
+    ∙ ofBits-toBits binary64 (fin s n d) q
 
 -- what `le` compares, k being the other double's denominator
 compared : (s : Bool) (m k : ℕ) (e : ℤ) → T (fits binary64 (fin s m e)) → signed s (m * up e * k) *ℤ pos (2 ^ 1074) ≡ count (fin s m e) *ℤ pos (down e * k)
@@ -184,6 +200,15 @@ zero-below s e = unsigned-cases (λ x. T (le (fin s 0 e) x)) tt (λ n d. le-of-s
 pub below-infinity : (x : Float) → T (unsigned x) → T (le x (inf false))
 unfolding le
 below-infinity = unsigned-cases (λ x. T (le x (inf false))) tt (λ m e. tt)
+
+pub antisymmetric : (x y : Float) → T (unsigned x) → T (unsigned y) → T (fits binary64 x) → T (fits binary64 y) → T (le x y) → T (le y x) → x ≡ y
+unfolding le
+antisymmetric x y u v =
+    unsigned-cases (λ x. T (fits binary64 x) → T (fits binary64 y) → T (le x y) → T (le y x) → x ≡ y)
+    (unsigned-cases (λ y. T (fits binary64 (inf false)) → T (fits binary64 y) → T (le (inf false) y) → T (le y (inf false)) → inf false ≡ y) (λ p q h k. refl) (λ n d p q h k. absurd h) y v)
+    (λ m e. unsigned-cases (λ y. T (fits binary64 (fin false m e)) → T (fits binary64 y) → T (le (fin false m e) y) → T (le y (fin false m e)) → fin false m e ≡ y) (λ p q h k. absurd k)
+    (λ n d p q h k. same-double false m n e d p q (le-antisymm (le-of-pos (count-of-le false false m n e d p q h)) (le-of-pos (count-of-le false false n m d e q p k)))) y v)
+    x u
 
 -- ---- the opposite turns the order
 pub neg-below-unsigned : (x y : Float) → T (unsigned x) → T (unsigned y) → T (le (neg x) y)

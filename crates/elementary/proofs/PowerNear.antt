@@ -20,7 +20,7 @@ use Rattle.elementary.specs.Exponents.{Exponent, exponents, exponentAt}
 use Rattle.elementary.specs.Power.{power, powerAt}
 use Rattle.elementary.specs.HowNear.{value}
 use Rattle.elementary.specs.FunctionsNear.{Normal, Within, raised, PowerNear}
-use Rattle.elementary.proofs.Powers.{pow-product, pow-power, pow-scaled, lt-of-exponents}
+use Rattle.estimate.proofs.Powers.{pow-product, pow-power, pow-scaled, lt-of-exponents}
 use Rattle.elementary.proofs.Integers.{neg-times, neg-left}
 use Rattle.elementary.proofs.Order.{units-exact}
 use Rattle.elementary.proofs.Units.{units-below}

@@ -15,7 +15,7 @@ use Rattle.elementary.specs.Log.{logWord}
 use Rattle.elementary.specs.Antilog.{antilogRoot, antilog}
 use Rattle.elementary.specs.Exponents.{Exponent}
 use Rattle.elementary.specs.Power.{power}
-use Rattle.elementary.proofs.Powers.{pow-product, pow-power, pow-scaled, two-each-le-next, next-le-two-each, lt-of-powers, lt-of-exponents}
+use Rattle.estimate.proofs.Powers.{pow-product, pow-power, pow-scaled, two-each-le-next, next-le-two-each, lt-of-powers, lt-of-exponents}
 use Rattle.elementary.proofs.Range.{antilogRoot-mantissa}
 use Rattle.elementary.proofs.Distance.{antilogRoot-below, antilogRoot-above, NearLog, near-log}
 use Rattle.elementary.proofs.Differences.{minus-same, minus-times, floor-minus, scaledRoot, antilog-minus}

@@ -14,7 +14,7 @@ use Rattle.wide.specs.Root.{root}
 use Rattle.wide.proofs.Root.{root-le, root-gt}
 use Rattle.elementary.specs.Log.{squared, bitOf, nextOf, logBits, mantissaOf}
 use Rattle.elementary.specs.Antilog.{antilogRoot}
-use Rattle.elementary.proofs.Powers.{squares-lt, lt-of-squares}
+use Rattle.estimate.proofs.Powers.{squares-lt, lt-of-squares}
 use Rattle.elementary.proofs.Size.{size-pos}
 
 pub record Mantissa (M : ℕ) : Type 0 where

@@ -10,7 +10,7 @@ use lib.Ieee.{Float, minus}
 use lib.Ieee.Positive.{num, den, den-pos, own-value, value-pos}
 use Rattle.elementary.specs.Antilog.{antilogRoot, antilog}
 use Rattle.elementary.specs.FunctionsNear.{Normal, Within}
-use Rattle.elementary.proofs.Powers.{pow-product, pow-power, pow-scaled, two-each-le-next, lt-of-powers}
+use Rattle.estimate.proofs.Powers.{pow-product, pow-power, pow-scaled, two-each-le-next, lt-of-powers}
 use Rattle.elementary.proofs.Range.{antilogRoot-mantissa}
 use Rattle.elementary.proofs.Differences.{scaledRoot, antilog-minus}
 use Rattle.elementary.proofs.PowersApart.{root-below, root-above}

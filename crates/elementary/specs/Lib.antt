@@ -6,6 +6,7 @@ pub mod Decimals
 pub mod Whole
 pub mod Nearest
 pub mod Parts
+pub mod Base
 pub mod Normalised
 pub mod Log
 pub mod Antilog

@@ -1,7 +1,10 @@
 // The antilog: 2 to the power of a word, by repeated square roots, as the nearest double.
 ghost use mathlib.Core.Path.{_≡_};
+ghost use mathlib.Core.Bool.{cond};
 ghost use Prim.Native.Nat.{_^_, _<_};
+ghost use lib.IntN.{pos, negsuc, _-ℤ_};
 ghost use Rattle.elementary.specs.Whole.{wordValue};
+ghost use Rattle.elementary.specs.Nearest.{nearestScaled};
 ghost use Rattle.elementary.specs.Antilog.{antilogRoot, antilog};
 ghost use Rattle.elementary.specs.Places.{places};
 use super::nearest::nearest_product;
@@ -10,6 +13,7 @@ use super::word::ONES;
 use super::word::PLACES;
 use super::word::WHOLE;
 use super::word::Word;
+use estimate::estimate;
 use wide::quick::quick_root;
 use wide::reciprocal_table::reciprocal_table;
 use wide::root_table::root_table;
@@ -42,6 +46,36 @@ fn antilog_root(f: u64) -> u64
     y
 }
 
+// The double nearest to y * 2^(k - 62), k being `whole`, or -(whole + 1) where negative.
+fn scaled(y: u64, negative: bool, whole: u64) -> f64
+    requires { ⌜ whole < 2 ^ 62 ⌝ }
+    ensures { λ r. ⌜ r ≡ nearestScaled y (cond negative (negsuc whole) (pos whole) -ℤ pos 62) ⌝ }
+{
+    if negative {
+        return nearest_quotient(y, whole + 63);
+    }
+    if whole < 62 {
+        return nearest_quotient(y, 62 - whole);
+    }
+    nearest_product(y, whole - 62)
+}
+
+// The same of the root for f. Half its estimate is at most 3 above it and at most 10 below it, and of
+// these bits the double keeps all but ten: where both ends round alike, as they mostly do, so does the
+// root, and only else is it taken.
+fn scaled_root(f: u64, negative: bool, whole: u64) -> f64
+    requires { ⌜ (f < 2 ^ places) × (whole < 2 ^ 62) ⌝ }
+    ensures { λ r. ⌜ r ≡ nearestScaled (antilogRoot places f) (cond negative (negsuc whole) (pos whole) -ℤ pos 62) ⌝ }
+{
+    let half = estimate(f) / 2;
+    let low = scaled(half - 3, negative, whole);
+    let high = scaled(half + 10, negative, whole);
+    if high <= low {
+        return low;
+    }
+    scaled(antilog_root(f), negative, whole)
+}
+
 // 2 to the power w, w being in units of 2^-60.
 pub fn antilog(w: Word) -> f64
     ensures { λ r. ⌜ r ≡ antilog places (wordValue places w) ⌝ }
@@ -49,10 +83,7 @@ pub fn antilog(w: Word) -> f64
     let whole = w.whole as u64 + w.part / WHOLE;
     let part = w.part % WHOLE;
     if w.negative {
-        return nearest_quotient(antilog_root(ONES - part), whole + 63);
+        return scaled_root(ONES - part, true, whole);
     }
-    if whole < 62 {
-        return nearest_quotient(antilog_root(part), 62 - whole);
-    }
-    nearest_product(antilog_root(part), whole - 62)
+    scaled_root(part, false, whole)
 }

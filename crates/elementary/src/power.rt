@@ -1,10 +1,12 @@
 // A double to the power of one of the source's exponents, which are picked by their numbers.
 ghost use mathlib.Core.Path.{_≡_};
 ghost use mathlib.Core.Bool.{false};
+ghost use mathlib.Core.List.{[], _∷_};
 ghost use Prim.Native.Nat.{_<_};
 ghost use lib.IntN.{pos};
 ghost use lib.Ieee.{inf, fin, odd};
 ghost use Rattle.elementary.specs.Parts.{Digits};
+ghost use Rattle.elementary.specs.Base.{Logged, IsBase};
 ghost use Rattle.elementary.specs.Exponents.{exponentAt};
 ghost use Rattle.elementary.specs.Power.{positivePower, power, powerAt};
 ghost use Rattle.elementary.specs.Places.{places};
@@ -13,6 +15,7 @@ use super::log::log_of_digits;
 use super::nearest::Parts;
 use super::nearest::infinity_or_zero;
 use super::nearest::take_apart;
+use super::word::Word;
 use super::word::opposite;
 use super::word::times;
 
@@ -97,13 +100,13 @@ fn is_negative(number: usize) -> bool
     NEGATIVE[number]
 }
 
-// A positive finite base, q * 2^k units of 2^-1074: the antilog of floor(L * exponent).
-fn positive_power(q: u64, k: u32, number: usize) -> f64
-    requires { ⌜ Digits q k ⌝ }
+// A positive finite base, q * 2^k units of 2^-1074, with its log word: the antilog of
+// floor(L * exponent).
+fn positive_power(q: u64, k: u32, log: Word, number: usize) -> f64
+    requires { ⌜ Logged q k log ⌝ }
     requires { ⌜ number < 27 ⌝ }
     ensures { λ r. ⌜ r ≡ positivePower places (exponentAt number) (odd 53 false q k 1074) ⌝ }
 {
-    let log = log_of_digits(q, k);
     let word = if is_negative(number) {
         opposite(log)
     } else {
@@ -141,34 +144,85 @@ fn zero_power(negative: bool, number: usize) -> f64
 }
 
 // A finite base that is not zero, q * 2^k units of 2^-1074 in size.
-fn finite_power(negative: bool, q: u64, k: u32, number: usize) -> f64
-    requires { ⌜ Digits q k ⌝ }
+fn finite_power(negative: bool, q: u64, k: u32, log: Word, number: usize) -> f64
+    requires { ⌜ Digits q k × Logged q k log ⌝ }
     requires { ⌜ number < 27 ⌝ }
     ensures { λ r. ⌜ r ≡ power places (exponentAt number) (odd 53 negative q k 1074) ⌝ }
 {
     if negative {
         if number == THREE {
-            return -positive_power(q, k, number);
+            return -positive_power(q, k, log, number);
         }
         if number == FOUR {
-            return positive_power(q, k, number);
+            return positive_power(q, k, log, number);
         }
         return 0.0 / 0.0;
     }
-    positive_power(q, k, number)
+    positive_power(q, k, log, number)
+}
+
+// A double taken apart, with the log word of its size where it is finite and not zero.
+struct Base {
+    parts: Parts,
+    log: Word,
+}
+
+const ZERO: Word = Word {
+    negative: false,
+    whole: 0,
+    part: 0,
+};
+
+fn base_of(x: f64) -> Base
+    ensures { λ r. ⌜ IsBase x r ⌝ }
+{
+    let parts = take_apart(x);
+    match parts {
+        Parts::Finite(_, q, k) => Base {
+            parts,
+            log: log_of_digits(q, k),
+        },
+        Parts::NotANumber => Base { parts, log: ZERO },
+        Parts::Infinite(_) => Base { parts, log: ZERO },
+        Parts::Zero(_) => Base { parts, log: ZERO },
+    }
+}
+
+// x to the power of the exponent of that number, x being taken apart.
+fn base_power(x: f64, base: Base, number: usize) -> f64
+    requires { ⌜ IsBase x base ⌝ }
+    ensures { λ r. ⌜ r ≡ powerAt places number x ⌝ }
+{
+    if number >= 27 {
+        return 0.0 / 0.0;
+    }
+    let parts = base.parts;
+    let log = base.log;
+    match parts {
+        Parts::NotANumber => x,
+        Parts::Infinite(negative) => infinite_power(negative, number),
+        Parts::Zero(negative) => zero_power(negative, number),
+        Parts::Finite(negative, q, k) => finite_power(negative, q, k, log, number),
+    }
 }
 
 // x to the power of the exponent of that number; NaN where there is none.
 pub fn power(x: f64, number: usize) -> f64
     ensures { λ r. ⌜ r ≡ powerAt places number x ⌝ }
 {
-    if number >= 27 {
-        return 0.0 / 0.0;
-    }
-    match take_apart(x) {
-        Parts::NotANumber => x,
-        Parts::Infinite(negative) => infinite_power(negative, number),
-        Parts::Zero(negative) => zero_power(negative, number),
-        Parts::Finite(negative, q, k) => finite_power(negative, q, k, number),
-    }
+    base_power(x, base_of(x), number)
+}
+
+// Five powers of x, by the numbers of their exponents, with one log word.
+pub fn five_powers(x: f64, a: usize, b: usize, c: usize, d: usize, e: usize) -> [f64; 5]
+    ensures { λ r. ⌜ r ≡ powerAt places a x ∷ powerAt places b x ∷ powerAt places c x ∷ powerAt places d x ∷ powerAt places e x ∷ [] ⌝ }
+{
+    let base = base_of(x);
+    [
+        base_power(x, base, a),
+        base_power(x, base, b),
+        base_power(x, base, c),
+        base_power(x, base, d),
+        base_power(x, base, e),
+    ]
 }

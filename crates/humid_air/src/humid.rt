@@ -8,7 +8,7 @@ ghost use Rattle.elementary.specs.Places.{places};
 use super::doubles::clamp;
 use super::doubles::max;
 use elementary::exp::exp;
-use elementary::power::power;
+use elementary::power::five_powers;
 use elementary::sqrt::sqrt;
 
 // dry air of the US Standard Atmosphere 1976: the specific gas constant, J/(kg K), and the
@@ -81,13 +81,9 @@ pub fn enhanced_saturation_vapor_pressure(t_k: f64) -> f64
 {
     let t_k_safe = max(t_k, 173.15);
     let tau = 1.0 - t_k_safe / 647.096;
+    let to = five_powers(tau, TO_1_5, TO_3, TO_3_5, TO_4, TO_7_5);
     let ln_p_ratio = (647.096 / t_k_safe)
-        * (A[0] * tau
-            + A[1] * power(tau, TO_1_5)
-            + A[2] * power(tau, TO_3)
-            + A[3] * power(tau, TO_3_5)
-            + A[4] * power(tau, TO_4)
-            + A[5] * power(tau, TO_7_5));
+        * (A[0] * tau + A[1] * to[0] + A[2] * to[1] + A[3] * to[2] + A[4] * to[3] + A[5] * to[4]);
     220640.0 * exp(ln_p_ratio)
 }
 

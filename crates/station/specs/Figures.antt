@@ -3,32 +3,27 @@
 use mathlib.Core.Bool.{Bool, _&&_}
 use lib.Ieee.{Float, le}
 use Rattle.elementary.specs.Places.{places}
-use Rattle.elementary.specs.Decimals.{decimal, nought, hundred}
-use Rattle.elementary.specs.Operators.{_⊖_, _⊘_}
+use Rattle.elementary.specs.Decimals.{decimal, nought}
 use Rattle.humid_air.specs.Doubles.{isFinite}
-use Rattle.humid_air.specs.MoistAir.{icePoint, moleFractionCelsius}
+use Rattle.humid_air.specs.MoistAir.{moleFractionCelsius}
 use Rattle.atmosphere.specs.declared.station.Reading.{Reading}
-use Rattle.atmosphere.specs.declared.station.Reading.the-variants.{Given, FromLayer}
-use Rattle.atmosphere.specs.Layers.{standardAir}
 use Rattle.atmosphere.specs.Altitudes.{pressureAltitude}
-use Rattle.air.specs.Station.{atmosphere}
+use Rattle.air.specs.Station.{celsius, hectopascals, atmosphere}
 use Rattle.air.specs.Matched.{densityMatchedAltitude}
 use Rattle.density_altitude.specs.Inverse.{isFiniteAbove}
 use Rattle.station.specs.declared.figures.Figures.{Figures}
 use Rattle.station.specs.declared.figures.StationFigures.{StationFigures}
 use Rattle.station.specs.declared.resolved.Resolved.{Resolved}
 
--- ---- what is shown: what is absent or a default comes from the standard atmosphere, K - 273.15 and Pa / 100
+-- ---- what is shown: what is absent or a default comes from the standard atmosphere
 abbrev pub shownCelsius : Reading → Float → Float
-shownCelsius (Given t) h = t
-shownCelsius FromLayer h = standardAir places h .«temperature_k» ⊖ icePoint
+shownCelsius t altitude = celsius places altitude t
 
 abbrev pub shownTemperature : Resolved → Float
 shownTemperature a = shownCelsius (a .temperature) (a .«altitude_m»)
 
 abbrev pub shownHectopascals : Reading → Float → Float
-shownHectopascals (Given p) h = p
-shownHectopascals FromLayer h = standardAir places h .«pressure_pa» ⊘ hundred
+shownHectopascals p altitude = hectopascals places altitude p
 
 abbrev pub shownPressure : Resolved → Float
 shownPressure a = shownHectopascals (a .pressure) (a .«altitude_m»)

@@ -3,12 +3,10 @@ ghost use mathlib.Core.Path.{_≡_};
 ghost use Rattle.elementary.specs.Places.{places};
 ghost use Rattle.elementary.specs.Decimals.{nought};
 ghost use Rattle.density_altitude.specs.Inverse.{isFiniteAbove};
-ghost use Rattle.station.specs.Figures.{shownTemperature, shownPressure, inCipmRange, stationFiguresWith, stationFigures, isAir};
+ghost use Rattle.station.specs.Figures.{inCipmRange, stationFigures, isAir};
 use super::resolved::Resolved;
 use air::figures::air_figures;
 use atmosphere::altitudes::pressure_altitude_m;
-use atmosphere::layers::calculate_icao_standard_atmosphere;
-use atmosphere::station::Reading;
 use humid_air::doubles::is_finite;
 
 // The figures, and whether the shown temperature and pressure lie in the range of CIPM-2007.
@@ -31,30 +29,6 @@ pub struct StationFigures {
     pub uncapped_vapor_mole_fraction: f64,
 }
 
-fn shown_temperature(resolved: Resolved) -> f64
-    ensures { λ r. ⌜ r ≡ shownTemperature resolved ⌝ }
-{
-    let temperature = resolved.temperature;
-    match temperature {
-        Reading::Given(t) => t,
-        Reading::FromLayer => {
-            calculate_icao_standard_atmosphere(resolved.altitude_m).temperature_k - 273.15
-        }
-    }
-}
-
-fn shown_pressure(resolved: Resolved) -> f64
-    ensures { λ r. ⌜ r ≡ shownPressure resolved ⌝ }
-{
-    let pressure = resolved.pressure;
-    match pressure {
-        Reading::Given(p) => p,
-        Reading::FromLayer => {
-            calculate_icao_standard_atmosphere(resolved.altitude_m).pressure_pa / 100.0
-        }
-    }
-}
-
 // Whether CIPM-2007 covers air at a temperature and a pressure.
 fn in_cipm_range(temperature_c: f64, pressure_hpa: f64) -> bool
     ensures { λ r. ⌜ r ≡ inCipmRange «temperature_c» «pressure_hpa» ⌝ }
@@ -65,47 +39,35 @@ fn in_cipm_range(temperature_c: f64, pressure_hpa: f64) -> bool
         & (pressure_hpa <= 1100.0)
 }
 
+// The figures of a station and their mark, and the mole fraction of vapour, uncapped, of what is shown.
 // Density, sound speed and mole fraction are those of the readings; the two altitudes and the mark are
 // those of what is shown.
-fn figures_with(resolved: Resolved, temperature_c: f64, pressure_hpa: f64) -> StationFigures
-    ensures { λ r. ⌜ r ≡ stationFiguresWith resolved «temperature_c» «pressure_hpa» ⌝ }
+pub fn figures_of(resolved: Resolved) -> StationFigures
+    ensures { λ r. ⌜ r ≡ stationFigures resolved ⌝ }
 {
     let temperature = resolved.temperature;
     let pressure = resolved.pressure;
-    let shown = air_figures(
+    let found = air_figures(
         resolved.altitude_m,
         temperature,
         pressure,
         resolved.humidity_percent,
-        temperature_c,
-        pressure_hpa,
     );
-    let air = shown.air;
+    let air = found.air;
     StationFigures {
         figures: Figures {
             altitude_m: resolved.altitude_m,
-            temperature_c,
-            pressure_hpa,
+            temperature_c: found.shown_c,
+            pressure_hpa: found.shown_hpa,
             density_kg_m3: air.density_kg_m3,
             speed_of_sound_mps: air.speed_of_sound_mps,
-            pressure_altitude_m: pressure_altitude_m(pressure_hpa),
-            density_matched_altitude_m: shown.density_matched_altitude_m,
+            pressure_altitude_m: pressure_altitude_m(found.shown_hpa),
+            density_matched_altitude_m: found.density_matched_altitude_m,
             vapor_mole_fraction: air.vapor_mole_fraction,
-            in_cipm_range: in_cipm_range(temperature_c, pressure_hpa),
+            in_cipm_range: in_cipm_range(found.shown_c, found.shown_hpa),
         },
-        uncapped_vapor_mole_fraction: shown.uncapped_vapor_mole_fraction,
+        uncapped_vapor_mole_fraction: found.uncapped_vapor_mole_fraction,
     }
-}
-
-// The figures of a station and their mark, and the mole fraction of vapour, uncapped, of what is shown.
-pub fn figures_of(resolved: Resolved) -> StationFigures
-    ensures { λ r. ⌜ r ≡ stationFigures resolved ⌝ }
-{
-    figures_with(
-        resolved,
-        shown_temperature(resolved),
-        shown_pressure(resolved),
-    )
 }
 
 fn is_positive(x: f64) -> bool

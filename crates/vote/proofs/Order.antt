@@ -9,11 +9,10 @@ use borrow.Author.Tests.{ltb-true, ltb-false, lt-ltb, le-ltb, eq-eqb, ne-eqb}
 use lib.IntN.{ℤ}
 use lib.Dec.{T, ltb, eqb}
 use lib.Pow.{pow-pos}
-use lib.Ieee.{Float, nan, inf, fin, binary64, up, down, below, lt, fits, isNan, hid, top, size, ofBits, toBits}
+use lib.Ieee.{Float, nan, inf, fin, binary64, up, down, below, lt, fits, isNan}
 use lib.Ieee.Fits.{down-pos}
-use lib.Ieee.Bits.{ofBits-toBits}
 use Rattle.elementary.specs.Nearest.{unitsOf}
-use Rattle.elementary.proofs.Order.{units-exact}
+use Rattle.elementary.proofs.Order.{units-exact, same-double}
 use Rattle.elementary.proofs.Units.{units-below, units-pos}
 use Rattle.vote.specs.Middle.{isMinusZero, isPlusZero, precedes, IsNumber}
 
@@ -143,20 +142,6 @@ precedes-is (fin s m e) (inf t) p q =
 precedes-is (fin s m e) (fin t n d) p q = finite s t m n e d (p .double) (q .double)
 
 -- ---- two doubles with one place are the same
--- a double's bits, by its sign and its count of units
-abbrev bitsOf : Bool → ℕ → ℕ
-bitsOf s n = let k = size n - 53 in cond s (top binary64) 0 + k * hid binary64 + n / 2 ^ k
-
-bits-are : (s : Bool) (m : ℕ) (e : ℤ) → toBits binary64 (fin s m e) ≡ bitsOf s (unitsOf (fin s m e))
-unfolding toBits
-bits-are s m e = refl
-
-same-double : (s : Bool) (m n : ℕ) (e d : ℤ) → T (fits binary64 (fin s m e)) → T (fits binary64 (fin s n d)) → unitsOf (fin s m e) ≡ unitsOf (fin s n d) → fin s m e ≡ fin s n d
-same-double s m n e d p q h =
-    sym (ofBits-toBits binary64 (fin s m e) p)
-    ∙ ap (ofBits binary64) (bits-are s m e ∙ ap (bitsOf s) h ∙ sym (bits-are s n d))
-    ∙ ofBits-toBits binary64 (fin s n d) q
-
 apart : (g : ℕ) (s t : Bool) (u v : ℕ) → u ≤ g → v ≤ g → placed g s u ≡ placed g t v → (s ≡ t) × (u ≡ v)
 apart g true true u v hu hv e = (refl, omega arith)
 apart g true false u v hu hv e = absurd (omega arith)

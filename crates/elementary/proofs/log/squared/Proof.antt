@@ -6,7 +6,7 @@ use native.Mathlib.Nat.{le-add-right, lt-of-le-of-lt, lt-of-mul-lt-mul-right, di
 use native.Mathlib.Omega.{arith}
 use borrow.Author.Needs.{needs}
 use lib.Pow.{pow-pos}
-use Rattle.elementary.proofs.Powers.{squares-lt}
+use Rattle.estimate.proofs.Powers.{squares-lt}
 use Rattle.elementary.proofs.log.squared.Statement.{statement}
 use Rattle.elementary.proofs.log.squared.Tie as tie
 

@@ -21,7 +21,7 @@ by-exponent c three four = cond three (neg (size-power c)) (cond four (size-powe
 negative-base : (c : tie.Start) (three four : Bool) → isThree (exponentAt (c .args .number)) ≡ three → isFour (exponentAt (c .args .number)) ≡ four → c .args .negative ≡ true → by-exponent c three four ≡ power places (exponentAt (c .args .number)) (odd 53 (c .args .negative) (c .args .q) (c .args .k) 1074)
 negative-base c three four t f e =
     ap₂ (by-exponent c) (sym t) (sym f)
-    ∙ finite-negative places (exponentAt (c .args .number)) (c .args .q) (c .args .k) (c .pre .0 .positive)
+    ∙ finite-negative places (exponentAt (c .args .number)) (c .args .q) (c .args .k) (c .pre .0 .0 .positive)
     ∙ ap (λ (s : Bool). power places (exponentAt (c .args .number)) (odd 53 s (c .args .q) (c .args .k) 1074)) (sym e)
 
 returns : tie.Need-returns
@@ -46,7 +46,7 @@ returns-4 c =
     let start = c .before .before in
     let e = exponentAt (start .args .number) in
     c .positive-power3 .ensures
-    ∙ finite-positive places e (start .args .q) (start .args .k) (start .pre .0 .positive)
+    ∙ finite-positive places e (start .args .q) (start .args .k) (start .pre .0 .0 .positive)
     ∙ ap (λ (s : Bool). power places e (odd 53 s (start .args .q) (start .args .k) 1074)) (sym (c .before .if1 .left))
 
 pub finite-power-spec : {M : Type 1} → statement M

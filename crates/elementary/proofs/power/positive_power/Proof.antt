@@ -24,25 +24,25 @@ abbrev log : tie.Start → ℤ
 log c = wordOfUnits places (c .args .q * 2 ^ c .args .k)
 
 opposite-requires : tie.Need-opposite-requires
-opposite-requires c κs = let l = c .before .before .log-of-digits in (lt-of-lt-of-le (l .ensures .1) (lit≤ tt), word-short places (log (c .before .before .before)) (l .ensures .0))
+opposite-requires c κs = let l = c .before .before .pre .0 in (lt-of-lt-of-le (l .small) (lit≤ tt), word-short places (log (c .before .before)) (l .word))
 
 record Signed (w : Word) (s : Bool) (z : ℤ) : Type 0 where
   is : w ≡ asWord places (cond s (negℤ z) z)
   small : w .whole < 2 ^ 12
 
-signed-word : (c : tie.Joined1) → Signed (c .if1 .word) (exponentAt (c .before .before .before .args .number) .negative) (log (c .before .before .before))
+signed-word : (c : tie.Joined1) → Signed (c .if1 .word) (exponentAt (c .before .before .args .number) .negative) (log (c .before .before))
 signed-word c =
-    let l = c .before .before .log-of-digits in
-    let z = log (c .before .before .before) in
+    let l = c .before .before .pre .0 in
+    let z = log (c .before .before) in
     let sign : Bool → Word = λ s. asWord places (cond s (negℤ z) z) in
     ⊎-elim
     (λ w. record {
-      is = w .2 ∙ w .1 .ensures ∙ ap (λ (a : ℤ). asWord places (negℤ a)) (ap (wordValue places) (l .ensures .0) ∙ word-value places z) ∙ ap sign (sym (w .0 .taken) ∙ c .before .is-negative .ensures);
-      small = subst (λ (v : Word). v .whole < 2 ^ 12) (sym (w .2 ∙ w .1 .ensures)) (lt-of-le-of-lt (opposite-small places 11 (l .result) (l .ensures .1) (word-short places z (l .ensures .0))) (lit< {m = 2 ^ 11} tt));
+      is = w .2 ∙ w .1 .ensures ∙ ap (λ (a : ℤ). asWord places (negℤ a)) (ap (wordValue places) (l .word) ∙ word-value places z) ∙ ap sign (sym (w .0 .taken) ∙ c .before .is-negative .ensures);
+      small = subst (λ (v : Word). v .whole < 2 ^ 12) (sym (w .2 ∙ w .1 .ensures)) (lt-of-le-of-lt (opposite-small places 11 (c .before .before .args .log) (l .small) (word-short places z (l .word))) (lit< {m = 2 ^ 11} tt));
     })
     (λ w. record {
-      is = w .1 ∙ l .ensures .0 ∙ ap sign (sym (w .0 .left) ∙ c .before .is-negative .ensures);
-      small = subst (λ (v : Word). v .whole < 2 ^ 12) (sym (w .1)) (lt-of-lt-of-le (l .ensures .1) (lit≤ tt));
+      is = w .1 ∙ l .word ∙ ap sign (sym (w .0 .left) ∙ c .before .is-negative .ensures);
+      small = subst (λ (v : Word). v .whole < 2 ^ 12) (sym (w .1)) (lt-of-lt-of-le (l .small) (lit≤ tt));
     })
     (c .if1 .came)
 
@@ -51,14 +51,14 @@ signed-log c = cond (exponentAt (c .args .number) .negative) (negℤ (log c)) (l
 
 times-requires : tie.Need-times-requires
 times-requires c κs =
-    let start = c .before .before .before .before in
+    let start = c .before .before .before in
     let w = signed-word (c .before) in
     (w .small, word-short places (signed-log start) (w .is), subst (λ (n : ℕ). 0 < n) (sym (c .magnitude .ensures)) (magnitude-pos (start .args .number) (start .pre .1)), lit≤ tt, lit≤ tt)
 
 returns : tie.Need-returns
 returns c =
     let at = c .before .before in
-    let start = at .before .before .before .before in
+    let start = at .before .before .before in
     let q = exponentAt (start .args .number) in
     let w = signed-word (at .before) in
     c .antilog .ensures
@@ -72,7 +72,6 @@ pub positive-power-spec : {M : Type 1} → statement M
 positive-power-spec =
     tie.close
     (tie.spec
-    (λ c κs. search needs)
     (λ c κs. search needs)
     opposite-requires
     (λ c κs. search needs)

@@ -1,0 +1,5 @@
+-- Laws of powers, and how the estimate's bounds follow from them.
+pub mod Powers
+pub mod Compared
+mod Tested
+mod Nearly

@@ -1,0 +1,2 @@
+-- What the contract of `estimate` cites.
+pub mod Estimate
