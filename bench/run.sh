@@ -1,7 +1,9 @@
 #!/usr/bin/env bash
-# Builds the program and the driver over the static library, and times the functions.
+# Builds the programs and the driver over the static library, and times the functions and the load.
 set -euo pipefail
 cd "$(dirname "$0")/.."
-[ -e target/bin/station_air ] || rt check station_air
+for program in station_air load; do
+    [ -e "target/bin/$program" ] || rt check "$program"
+done
 oracle/driver.sh
 exec target/oracle/driver bench

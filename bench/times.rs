@@ -4,15 +4,20 @@
 use crate::exponents::EXPONENTS;
 use crate::field::{record, Field};
 use crate::inputs::near_a_turn;
+use crate::load;
 use crate::places::places;
 use crate::random::Random;
 use crate::rules;
 use crate::{exports, ruled, stock};
 use std::hint::black_box;
+use std::process::{Command, Stdio};
 use std::time::Instant;
 
 const INPUTS: usize = 250;
 const RUNS: usize = 101;
+/// Runs over the whole load, of ten thousand records each.
+const LOAD_RUNS: usize = 11;
+const LOAD_PROGRAM: &str = "target/bin/load";
 
 pub fn measure() {
     head("nanoseconds a call");
@@ -24,6 +29,39 @@ pub fn measure() {
     lengths(random);
     println!("{:<42}{:>10}", "microseconds a call", "ours");
     pages_and_searches();
+    println!("{:<42}{:>10}", "records a second, one core", "ours");
+    load();
+}
+
+/// The load of the acceptance bench: written and judged through the C interface; and by the program, with
+/// its start, as text that goes nowhere.
+fn load() {
+    let rate = |seconds: Vec<f64>| load::RECORDS as f64 / median(seconds);
+    let through_c = (0..LOAD_RUNS).map(|_| {
+        let start = Instant::now();
+        for number in 0..load::RECORDS {
+            let (mut out, mut length) = ([0; load::LONGEST], 0);
+            exports::load_record(number, &mut out, &mut length);
+            black_box(judged(&out[..length]));
+        }
+        start.elapsed().as_secs_f64()
+    });
+    println!(
+        "{:<42}{:>10.0}",
+        "load, C interface",
+        rate(through_c.collect())
+    );
+    let by_program = (0..LOAD_RUNS).map(|_| {
+        let start = Instant::now();
+        let status = Command::new(LOAD_PROGRAM).stdout(Stdio::null()).status();
+        assert!(status.expect(LOAD_PROGRAM).success());
+        start.elapsed().as_secs_f64()
+    });
+    println!(
+        "{:<42}{:>10.0}",
+        "load, program",
+        rate(by_program.collect())
+    );
 }
 
 /// What makes many judgements in one call: a page of 51, a search of up to 800. Ours alone.

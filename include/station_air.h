@@ -155,8 +155,13 @@ enum station_air_places {
     STATION_AIR_SETTING_SHEET_PLACES = 1
 };
 
-/* How many bytes a setting sheet has, and how many a record that is written has at most. */
-enum station_air_bytes { STATION_AIR_SETTING_SHEET_BYTES = 1530, STATION_AIR_RECORD_BYTES_AT_MOST = 77 };
+/* How many bytes a setting sheet has, and how many a record that is written, and one of the load, has at
+ * most. */
+enum station_air_bytes {
+    STATION_AIR_SETTING_SHEET_BYTES = 1530,
+    STATION_AIR_RECORD_BYTES_AT_MOST = 77,
+    STATION_AIR_LOAD_RECORD_BYTES_AT_MOST = 28
+};
 
 /* Judges a mast record, all of its bytes (docs/RECORD.md has the form of a record). Needs 8 places.
  * 0: altitude m, temperature degrees Celsius, station pressure hPa, density kg/m3, speed of sound
@@ -223,6 +228,15 @@ uint32_t station_air_to_counts(const uint8_t *record, size_t record_length, uint
                                size_t *length);
 uint32_t station_air_to_doubles(const uint8_t *record, size_t record_length, uint8_t *out, size_t out_length,
                                 size_t *length);
+
+/* Writes a record of the acceptance bench's load to the start of `out`: the one with this number, 0 for the
+ * first, of the same records on every site. Each is a record of counts, rising by tag, 11, 12, 15 in about
+ * half of them, and 17 (hex), that lie in -500 to 3,000 m, -40 to 50 degrees Celsius, 0 to 100 percent and
+ * 600 to 1,100 hPa; so station_air_judge and station_air_judge_strictly answer it alike, with none of 1
+ * to 13 and not 19. Any number may be asked for; the bench takes the first ten thousand. 0: `length` points
+ * to a number that is set to how many bytes the record has, 28, or 21 without humidity. 18: `out` has
+ * fewer; it leaves `out` and `length` as they were, and 0 the bytes after the record. */
+uint32_t station_air_load_record(uint64_t number, uint8_t *out, size_t out_length, size_t *length);
 
 /* Writes the setting sheet of a station to the first 1,530 bytes of `page`, in ASCII: 51 rows, from -10 to
  * 40 degrees Celsius by whole degrees. A row is 30 bytes: temperature in 6 places with one decimal,

@@ -155,6 +155,30 @@ static void convert(void) {
            "and back");
 }
 
+static void load_record(void) {
+    /* as the program `load` prints it, without humidity */
+    const uint8_t first[21] = {
+        0x11, 0, 4, 0, 0x04, 0xDC, 0xA5, /* 318.629 m */
+        0x12, 0, 4, 0, 0,    0x2E, 0x2E, /* 11.822 degrees */
+        0x17, 0, 4, 0, 0x10, 0x21, 0xB1, /* 1,057.201 hPa */
+    };
+    uint8_t out[STATION_AIR_LOAD_RECORD_BYTES_AT_MOST + 1];
+    size_t length = 5;
+
+    memset(out, 0xAA, sizeof out);
+    expect(station_air_load_record(0, NULL, 0, &length) == STATION_AIR_BUFFER_TOO_SHORT, "load, a buffer at NULL");
+    expect(station_air_load_record(0, out, 20, &length) == STATION_AIR_BUFFER_TOO_SHORT, "load, a byte too few");
+    expect(length == 5 && out[0] == 0xAA && out[19] == 0xAA, "load, buffer and length are left as they were");
+    expect(station_air_load_record(0, out, 21, &length) == STATION_AIR_FIGURES && length == 21
+               && memcmp(out, first, 21) == 0 && out[21] == 0xAA,
+           "the load's first record, and the byte after it");
+    expect(station_air_load_record(1, out, 28, &length) == STATION_AIR_FIGURES
+               && length == STATION_AIR_LOAD_RECORD_BYTES_AT_MOST && out[14] == 0x15 && out[28] == 0xAA,
+           "the second, which is humid");
+    expect(station_air_load_record(UINT64_MAX, out, sizeof out, &length) == STATION_AIR_FIGURES && out[0] == 0x11,
+           "the record with the greatest number");
+}
+
 static void vote(void) {
     double places[ROOM];
     bool in_range = false;
@@ -257,6 +281,7 @@ int main(void) {
     judge_strictly();
     write_record();
     convert();
+    load_record();
     vote();
     next_trim_class();
     setting_sheet();

@@ -3,12 +3,15 @@
 use crate::compare_records::{Numbers, JUDGE, STRICT_JUDGE};
 use crate::compare_row::Row;
 use crate::{
-    compare_conversions, compare_lent, compare_rules, compare_sheets,
+    compare_conversions, compare_lent, compare_loads, compare_rules, compare_sheets,
     compare_station, compare_trims, compare_votes, compare_writes,
 };
 
 /// One strict judgement to so many of the first judge: it shares all but the order of the tags with it.
 const STRICT_SHARE: u64 = 4;
+
+/// One record of the load to so many: it has no other input than its number.
+const LOAD_SHARE: u64 = 10;
 
 /// One sheet to so many records: it has 51 rows, each of which costs as much as a record.
 const SHEET_SHARE: u64 = 500;
@@ -36,6 +39,7 @@ pub fn compare(calls: u64, records: u64) -> bool {
         judged_strictly,
         compare_writes::row(records),
         compare_conversions::row(records),
+        compare_loads::row(records / LOAD_SHARE),
         compare_sheets::row(records / SHEET_SHARE),
         compare_votes::row(records / VOTE_SHARE),
         compare_trims::row(records / TRIM_SHARE),

@@ -97,6 +97,7 @@ unsafe extern "C" {
         room: usize,
         length: &mut usize,
     ) -> u32;
+    fn station_air_load_record(number: u64, out: *mut u8, room: usize, length: &mut usize) -> u32;
     fn station_air_vote(
         first: *const u8,
         first_bytes: usize,
@@ -213,6 +214,10 @@ pub fn to_counts(record: &[u8], out: &mut [u8], length: &mut usize) -> u32 {
 pub fn to_doubles(record: &[u8], out: &mut [u8], length: &mut usize) -> u32 {
     let (room, out) = (out.len(), out.as_mut_ptr());
     unsafe { station_air_to_doubles(record.as_ptr(), record.len(), out, room, length) }
+}
+
+pub fn load_record(number: u64, out: &mut [u8], length: &mut usize) -> u32 {
+    unsafe { station_air_load_record(number, out.as_mut_ptr(), out.len(), length) }
 }
 
 pub fn setting_sheet(

@@ -8,6 +8,10 @@ use crate::ruled::record::{read, ALTITUDE, HUMIDITY, MEASURED_PRESSURE, TEMPERAT
 /// As many as the load has.
 pub const RECORDS: u64 = 10_000;
 
+/// Bytes of a record with all four fields.
+#[cfg(library)]
+pub const LONGEST: usize = 28;
+
 /// Outputs of SplitMix64 that a record takes, also where it has no humidity.
 const OUTPUTS: u64 = 5;
 

@@ -13,6 +13,8 @@ mod compare_conversions;
 #[cfg(library)]
 mod compare_lent;
 #[cfg(library)]
+mod compare_loads;
+#[cfg(library)]
 mod compare_records;
 #[cfg(library)]
 mod compare_row;

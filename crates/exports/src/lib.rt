@@ -2,6 +2,7 @@
 // `include/station_air.h` that of the other modules.
 pub mod functions;
 mod lent;
+pub mod loads;
 pub mod records;
 pub mod rules;
 pub mod sheets;

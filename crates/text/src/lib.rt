@@ -1,6 +1,6 @@
 // The text of an answer: two lines with the eight figures and their mark, or `refused` and the number.
 ghost use mathlib.Core.Path.{_≡_};
-ghost use Prim.Native.Nat.{_+_, _≤_, _<_};
+ghost use Prim.Native.Nat.{_+_, _%_, _≤_, _<_};
 ghost use mathlib.Core.List.{[], _∷_};
 ghost use lib.ListN.{length, take};
 ghost use Rattle.refusal.specs.Refusals.{numberOf};
@@ -52,11 +52,11 @@ fn with_word(text: Text, word: &[u8]) -> Text
     longer
 }
 
-// A digit below 16, in upper case.
-fn hex_digit(digit: u8) -> u8
-    requires { ⌜ digit < 16 ⌝ }
-    ensures { λ r. ⌜ r ≡ hexDigit digit ⌝ }
+// The digit of a number's last four bits, in upper case.
+pub fn hex_digit(n: u8) -> u8
+    ensures { λ r. ⌜ r ≡ hexDigit (n % 16) ⌝ }
 {
+    let digit = n % 16;
     if digit < 10 { 48 + digit } else { 55 + digit }
 }
 
@@ -68,7 +68,7 @@ fn with_hex_digits(text: Text, n: u64) -> Text
     let mut left: u64 = 16;
     while left > 0 {
         left -= 1;
-        longer = with_byte(longer, hex_digit(((n >> (4 * left)) % 16) as u8));
+        longer = with_byte(longer, hex_digit(((n >> (4 * left)) % 256) as u8));
     }
     longer
 }

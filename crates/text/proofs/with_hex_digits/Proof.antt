@@ -3,10 +3,8 @@
 use mathlib.Core.Path.{_≡_, refl, sym, ap, subst, _∙_}
 use mathlib.Core.List.{[], _∷_, _++_, append-nil, append-assoc}
 use Prim.Native.Nat.{ℕ, suc, _≤_, _+_, _-_, _*_, _/_, _%_, _^_}
-use native.Mathlib.Nat.{mod-lt}
 use native.Mathlib.Omega.{arith}
 use borrow.Author.Needs.{needs}
-use lib.Dec.{lit<}
 use Rattle.text.specs.declared.Text.{Text}
 use Rattle.text.specs.Text.{Appended, hexDigit, hexDigits, written}
 use Rattle.text.proofs.with_hex_digits.Statement.{statement}
@@ -17,6 +15,10 @@ Inv-loop n longer₀ left₀ longer left = (left ≤ 16) × ((longer .len + left
 
 abbrev μ-loop : tie.MeasureT-loop
 μ-loop n longer₀ left₀ longer left = left
+
+-- four of a number's last eight bits
+last-four : (n : ℕ) → n % 256 % 16 ≡ n % 16
+last-four n = omega arith
 
 one-digit : {t r : Text} (n k : ℕ) → Appended t (hexDigit (n / 2 ^ (4 * k) % 16) ∷ []) r → written r ++ hexDigits k n ≡ written t ++ hexDigits (suc k) n
 unfolding hexDigits
@@ -34,9 +36,6 @@ shr-hex-digit c = omega arith
 cast-hex-digit : tie.Need-cast-hex-digit Inv-loop μ-loop
 cast-hex-digit c = omega arith
 
-hex-digit-requires : tie.Need-hex-digit-requires Inv-loop μ-loop
-hex-digit-requires c κs = mod-lt _ (lit< tt)
-
 with-byte-requires : tie.Need-with-byte-requires Inv-loop μ-loop
 with-byte-requires c κs = omega arith
 
@@ -46,7 +45,7 @@ loop-again c =
     let k = turn .loop .left - 1 in
     let n = turn .before .args .n in
     let one-more : suc k ≡ turn .loop .left = omega arith in
-    let digit = subst (λ (d : ℕ). Appended (turn .loop .longer) (d ∷ []) (c .with-byte .result)) (c .before .hex-digit .ensures) (c .with-byte .ensures) in (
+    let digit = subst (λ (d : ℕ). Appended (turn .loop .longer) (d ∷ []) (c .with-byte .result)) (c .before .hex-digit .ensures ∙ ap hexDigit (last-four (n / 2 ^ (4 * k)))) (c .with-byte .ensures) in (
       omega arith,
       (
         omega (arith, c .with-byte .ensures .len),
@@ -75,7 +74,7 @@ with-hex-digits-spec =
     mul-hex-digit
     shr-hex-digit
     cast-hex-digit
-    hex-digit-requires
+    (λ c κs. search needs)
     with-byte-requires
     (λ c. search needs)
     loop-again
