@@ -12,8 +12,9 @@
  * nearest, subnormals not flushed to 0, exceptions masked. The functions do not set it. A `bool` is
  * true or false, in C 1 or 0.
  *
- * Given: no function allocates, keeps anything from one call to the next, or calls anything else,
- * so several threads may call at once, each with lent arrays and numbers of its own. Every call ends.
+ * Given: no function allocates, keeps anything from one call to the next, or calls anything but
+ * memcpy and memset, so several threads may call at once, each with lent arrays and numbers of its
+ * own. Every call ends.
  *
  * Arrays. An array goes as a pointer and the number of its elements, and the pointer points to that
  * many elements; with the number 0 it may be NULL. Arrays and numbers that a call writes overlap

@@ -10,6 +10,8 @@ use lib.ListN.{length, take}
 use lib.Seq.{length-take-le}
 use Rattle.sheet.specs.Over.{over}
 use Rattle.sheet.proofs.OnAPage.{over-length, over-front}
+use Rattle.pieces.specs.Pieces.{Appended}
+use Rattle.pieces.proofs.Growing as growing
 use Rattle.sheet_text.specs.declared.PageText.{PageText}
 use Rattle.sheet_text.specs.SheetText.{words, Holds}
 
@@ -19,6 +21,12 @@ held r page text e l room =
     let long : length (r .bytes) ≡ length page = ap length e ∙ over-length page 0 text fits in
     let start : take (r .len) (r .bytes) ≡ text = ap₂ take (l ∙ sym (zero-add (length text))) e ∙ over-front page 0 text fits in
     record { text = start; within = omega arith; counted = sym (length-take-le (r .len) (r .bytes) (omega arith)) }
+
+-- likewise a text that grew on it
+pub grown-held : (r : PageText) (page text : List ℕ) → Appended page 0 text (r .bytes) (r .len) → length text ≤ length page → Holds r text
+grown-held r page text a room =
+    let within : r .len ≤ length (r .bytes) = omega (arith, a .whole, a .within (omega arith)) in
+    record { text = growing.held a room; within = within; counted = sym (length-take-le (r .len) (r .bytes) within) }
 
 pub same-text : {r : PageText} {xs ys : List ℕ} → xs ≡ ys → Holds r xs → Holds r ys
 same-text {r} e h = subst (Holds r) e h

@@ -1,13 +1,14 @@
 // The text that the program `setting_sheet` prints.
 ghost use mathlib.Core.Path.{_≡_};
-ghost use Prim.Native.Nat.{_+_, _≤_};
+ghost use Prim.Native.Nat.{_≤_};
 ghost use lib.ListN.{length};
 ghost use Rattle.refusal.specs.Refusals.{numberOf};
-ghost use Rattle.sheet.specs.Over.{over};
 ghost use Rattle.sheet.specs.Sheet.{settingSheet};
 ghost use Rattle.typed.specs.Typed.{typed};
+ghost use Rattle.pieces.specs.Pieces.{Appended};
 ghost use Rattle.sheet_text.specs.SheetText.{words, refusedText, sheetText, inputOf, argumentLine, inputsText, typedText, Holds};
 use mast::judge::Answer;
+use pieces::put;
 use refusal::Refusal;
 use refusal::number;
 use sheet::page::Sheet;
@@ -29,18 +30,9 @@ pub enum Input {
     NotRead,
 }
 
-// A piece over the page's bytes from `at` on; the position after it.
-fn put(page: &mut [u8], at: usize, piece: &[u8]) -> usize
-    requires { ⌜ at + length (now piece) ≤ length (now page) ⌝ }
-    ensures { λ r. ⌜ (now (page .exit) ≡ over (now (page .entry)) at (now (piece .entry))) × (r ≡ at + length (now (piece .entry))) ⌝ }
-{
-    bytes::copy(piece, &mut page[at..]);
-    at + piece.len()
-}
-
+// The position after the words.
 fn put_words(page: &mut [u8], at: usize, number: u8) -> usize
-    requires { ⌜ at + 100 ≤ length (now page) ⌝ }
-    ensures { λ r. ⌜ (now (page .exit) ≡ over (now (page .entry)) at (words number)) × (r ≡ at + length (words number)) ⌝ }
+    ensures { λ r. ⌜ Appended (now (page .entry)) at (words number) (now (page .exit)) r ⌝ }
 {
     if number == 11 {
         return put(page, at, b"an input is not a finite number");
@@ -71,7 +63,8 @@ fn put_words(page: &mut [u8], at: usize, number: u8) -> usize
     put(page, at, b"the page is too short")
 }
 
-fn refused_text(refusal: Refusal) -> PageText
+// The lines of a refused sheet: the number, and the words.
+pub fn refused_text(refusal: Refusal) -> PageText
     ensures { λ r. ⌜ Holds r (refusedText (numberOf refusal)) ⌝ }
 {
     let line = answer_text(Answer::Refused(refusal));
@@ -80,11 +73,8 @@ fn refused_text(refusal: Refusal) -> PageText
     let mut page = [0u8; 1530];
     let second = put(&mut page, 0, &first[..len]);
     let end = put_words(&mut page, second, number(refusal));
-    page[end] = b'\n';
-    PageText {
-        bytes: page,
-        len: end + 1,
-    }
+    let len = put(&mut page, end, b"\n");
+    PageText { bytes: page, len }
 }
 
 // The sheet of a station as the program prints it, or its refusal in words.

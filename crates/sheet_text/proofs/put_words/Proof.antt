@@ -1,61 +1,35 @@
 -- `sheet_text::put_words` meets its contract, number by number. Assumes nothing.
-use mathlib.Core.Path.{_≡_, sym, subst}
-use mathlib.Core.List.{List}
-use Prim.Native.Nat.{ℕ, _+_}
+use mathlib.Core.Path.{sym, ap}
 use borrow.Author.Needs.{needs}
 use borrow.Author.Tests.{ne-eqb}
-use lib.ListN.{length}
-use Rattle.sheet.specs.Over.{over}
+use Rattle.pieces.proofs.Growing.{same-more}
 use Rattle.sheet_text.specs.SheetText.{words}
 use Rattle.sheet_text.proofs.put_words.Statement.{statement}
 use Rattle.sheet_text.proofs.put_words.Tie as tie
 
--- the words of the number that was found
-told : (page : List ℕ) (at : ℕ) {last : List ℕ} {r n m : ℕ} → n ≡ m → (last ≡ over page at (words m)) × (r ≡ at + length (words m))
-    → (last ≡ over page at (words n)) × (r ≡ at + length (words n))
-told page at {last} {r} e h = subst (λ (k : ℕ). (last ≡ over page at (words k)) × (r ≡ at + length (words k))) (sym e) h
-
 returns : tie.Need-returns
 unfolding words
-returns c =
-    let found = c .before .before .before .before .before in
-    let a = found .before .before .args in
-    told (a .page .now) (a .at) (found .if1 .taken) (c .before .before .put .ensures)
+returns c = same-more (ap words (sym (c .before .before .before .before .before .if1 .taken))) (c .before .before .put .ensures .0)
 
 returns-2 : tie.Need-returns-2
 unfolding words
-returns-2 c =
-    let found = c .before .before .before .before .before in
-    let a = found .before .before .before .args in
-    told (a .page .now) (a .at) (found .if2 .taken) (c .before .before .put2 .ensures)
+returns-2 c = same-more (ap words (sym (c .before .before .before .before .before .if2 .taken))) (c .before .before .put2 .ensures .0)
 
 returns-3 : tie.Need-returns-3
 unfolding words
-returns-3 c =
-    let found = c .before .before .before .before .before in
-    let a = found .before .before .before .before .args in
-    told (a .page .now) (a .at) (found .if3 .taken) (c .before .before .put3 .ensures)
+returns-3 c = same-more (ap words (sym (c .before .before .before .before .before .if3 .taken))) (c .before .before .put3 .ensures .0)
 
 returns-4 : tie.Need-returns-4
 unfolding words
-returns-4 c =
-    let found = c .before .before .before .before .before in
-    let a = found .before .before .before .before .before .args in
-    told (a .page .now) (a .at) (found .if4 .taken) (c .before .before .put4 .ensures)
+returns-4 c = same-more (ap words (sym (c .before .before .before .before .before .if4 .taken))) (c .before .before .put4 .ensures .0)
 
 returns-5 : tie.Need-returns-5
 unfolding words
-returns-5 c =
-    let found = c .before .before .before .before .before in
-    let a = found .before .before .before .before .before .before .args in
-    told (a .page .now) (a .at) (found .if5 .taken) (c .before .before .put5 .ensures)
+returns-5 c = same-more (ap words (sym (c .before .before .before .before .before .if5 .taken))) (c .before .before .put5 .ensures .0)
 
 returns-6 : tie.Need-returns-6
 unfolding words
-returns-6 c =
-    let found = c .before .before .before .before .before in
-    let a = found .before .before .before .before .before .before .before .args in
-    told (a .page .now) (a .at) (found .if6 .taken) (c .before .before .put6 .ensures)
+returns-6 c = same-more (ap words (sym (c .before .before .before .before .before .if6 .taken))) (c .before .before .put6 .ensures .0)
 
 returns-7 : tie.Need-returns-7
 unfolding words
@@ -74,7 +48,7 @@ returns-7 c =
       ne-eqb _ _
           (not15 .if5 .left),
       ne-eqb _ _ (not17 .if6 .left),
-    ) (c .before .before .put7 .ensures)
+    ) (c .before .before .put7 .ensures .0)
 
 pub put-words-spec : {M : Type 1} → statement M
 put-words-spec =

@@ -1,0 +1,2 @@
+-- How long the words of a refusal are.
+pub mod Short

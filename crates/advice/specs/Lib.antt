@@ -1,0 +1,2 @@
+-- What the contracts of `advice` cite: the words of a refusal.
+pub mod Advice

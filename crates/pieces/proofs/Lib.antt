@@ -1,0 +1,2 @@
+-- A text that grows piece by piece.
+pub mod Growing

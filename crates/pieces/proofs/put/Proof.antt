@@ -1,0 +1,55 @@
+-- `pieces::put` meets its contract. Assumes nothing.
+use mathlib.Core.Path.{_≡_, refl, ap}
+use mathlib.Core.List.{List}
+use Prim.Native.Nat.{ℕ, _+_, _-_}
+use native.Mathlib.Omega.{arith}
+use borrow.Author.Needs.{needs}
+use lib.ListN.{length, take, drop, length-take, length-drop}
+use lib.Seq.{take-all}
+use Rattle.sheet.proofs.OnAPage.{copied}
+use Rattle.pieces.proofs.Growing.{full, put-part}
+use Rattle.pieces.proofs.put.Statement.{statement}
+use Rattle.pieces.proofs.put.Tie as tie
+
+returns : tie.Need-returns
+returns c = let a = c .before .before .before .args in (full (a .page .now) (a .at) (a .piece .now) (omega arith), refl)
+
+copy-requires : tie.Need-copy-requires
+copy-requires c κs =
+    let a = c .before .before .before .before .before .args in
+    omega (
+      arith,
+      ap length (c .before .fitting .ensures),
+      length-take (length (a .page .now) - a .at) (a .piece .now),
+      length-take (length (a .page .now) - a .at) (drop (a .at) (a .page .now)),
+      length-drop (a .at) (a .page .now),
+    )
+
+returns-2 : tie.Need-returns-2
+returns-2 c =
+    let copied-part = c .before .before in
+    let fit = copied-part .before .before in
+    let start = fit .before .before .before .before in
+    let a = start .args in
+    let page = a .page .now in
+    let at : ℕ = a .at in
+    let room : ℕ = length page - at in
+    let part : List ℕ = take room (a .piece .now) in
+    let is : fit .fitting .result .now ≡ part = fit .fitting .ensures in
+    let over-it = copied page at part (omega (arith, length-take room (a .piece .now))) is (take-all room (drop at page) (omega (arith, length-drop at page))) (copied-part .copy .ensures .1) in
+    (put-part page at (a .piece .now) (omega arith) over-it (ap (λ (l : List ℕ). at + length l) is), refl)
+
+pub put-spec : {M : Type 1} → statement M
+put-spec =
+    tie.close
+    (tie.spec
+    returns
+    (λ c. search needs)
+    (λ c κs. search needs)
+    (λ c. search needs)
+    (λ c. search needs)
+    (λ c. search needs)
+    copy-requires
+    (λ c. search needs)
+    (λ c. search needs)
+    returns-2)

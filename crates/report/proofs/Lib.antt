@@ -1,0 +1,7 @@
+-- A figure's column, how long a report is, the text on its page, and the record.
+pub mod Columns
+pub mod Short
+pub mod Held
+pub mod Recorded
+-- Whole reports.
+pub mod Samples

@@ -1,0 +1,34 @@
+-- `report::put_answer` meets its contract. Assumes nothing.
+use mathlib.Core.Path.{sym, ap, _∙_}
+use borrow.Author.Needs.{needs}
+use Rattle.mast.specs.Judge.{outcome}
+use Rattle.pieces.proofs.Growing.{same-more}
+use Rattle.report.specs.Report.{answerLines}
+use Rattle.report.proofs.put_answer.Statement.{statement}
+use Rattle.report.proofs.put_answer.Tie as tie
+
+returns : tie.Need-returns
+returns c =
+    let told = c .before .before .before .before .before in
+    let judged = told .before .before in
+    same-more (ap (answerLines (judged .before .before .args .readings)) (ap outcome (sym (told .figures .given .1)) ∙ judged .judge-readings .ensures)) (c .before .before .put-accepted .ensures)
+
+returns-2 : tie.Need-returns-2
+returns-2 c =
+    let told = c .before .before .before .before .before in
+    let judged = told .before .before in
+    same-more (ap (answerLines (judged .before .before .args .readings)) (ap outcome (sym (told .refusal .given .1)) ∙ judged .judge-readings .ensures)) (c .before .before .put-refused .ensures)
+
+pub put-answer-spec : {M : Type 1} → statement M
+put-answer-spec =
+    tie.close
+    (tie.spec
+    (λ c κs. search needs)
+    (λ c. search needs)
+    (λ c κs. search needs)
+    (λ c. search needs)
+    (λ c κs. search needs)
+    (λ c. search needs)
+    returns
+    (λ c. search needs)
+    returns-2)

@@ -1,0 +1,2 @@
+-- What the contract of `report_agrees` cites.
+pub mod Reports

@@ -1,0 +1,17 @@
+-- A mast record, and the report of its readings as a list has it. Definitions only.
+use Prim.Native.Nat.{ℕ}
+use mathlib.Core.Bool.{Bool, false}
+use mathlib.Core.List.{List}
+use Rattle.refusal.specs.Outcomes.{Outcome, accepted, refused}
+use Rattle.record.specs.declared.readings.Readings.{Readings}
+use Rattle.record.specs.Readings.{readRecord}
+use Rattle.lines.specs.Text.{isText}
+use Rattle.report.specs.Report.{reportText}
+
+-- a record that is not read has no report
+abbrev pub reported : List ℕ → Outcome Readings → Bool
+reported expected (accepted r) = isText (reportText r) expected
+reported expected (refused number values) = false
+
+abbrev pub reportAgrees : List ℕ → List ℕ → Bool
+reportAgrees bytes expected = reported expected (readRecord false bytes)
