@@ -1,21 +1,23 @@
 -- A double by the fields of its bit pattern: which `Parts` it is taken apart into; and how many units of 2 ^ -1074 a finite one is. Assumes nothing.
-use mathlib.Core.Path.{_≡_, refl, sym, ap, _∙_, subst}
-use mathlib.Core.Logic.{inl, inr}
+use mathlib.Core.Path.{_≡_, refl, sym, ap, ap₂, _∙_, subst}
+use mathlib.Core.Logic.{inl, inr, ⊎-elim}
 use mathlib.Core.Bool.{Bool, false, not, cond, true≢false}
-use Prim.Native.Nat.{ℕ, zero, suc, _+_, _-_, _*_, _/_, _%_, _^_, _<_}
-use native.Mathlib.Nat.{le-of-lt, lt-of-lt-of-le, mul-div-cancel, mul-pos, zero-mul, ne-of-lt}
+use Prim.Native.Nat.{ℕ, zero, suc, _+_, _-_, _*_, _/_, _%_, _^_, _≤_, _<_}
+use native.Mathlib.Nat.{le-of-lt, le-of-eq, le-trans, lt-of-lt-of-le, mul-le-mul-right, mul-lt-mul-of-pos-right, mul-div-cancel, mul-pos, zero-mul, ne-of-lt}
 use native.Mathlib.Omega.{arith}
 use lib.IntN.{ℤ, pos}
-use lib.Pow.{pow-pos, pow-mono, shl-lt}
+use lib.Pow.{pow-pos, pow-mono, pow-add, shl-lt}
 use lib.Dec.{T, leb, eqb, eqb→eq, eqb·suc-zero, not-T}
-use lib.Ieee.{Float, nan, inf, fin, binary64, up, down, odd, fits, isNan, ne, ofFields, ofBits, toBits}
+use lib.Ieee.{Float, nan, inf, fin, binary64, up, down, odd, fits, isNan, ne, ofFields, ofBits, toBits, size}
 use lib.Ieee.Fits.{down-pos, odd-fits}
 use lib.Ieee.Bits.{ofBits-toBits, cond-no}
+use lib.Ieee.Digits.{size-le}
 use lib.Ieee.Exact.{HasValue, odd-sign}
 use Rattle.elementary.specs.declared.nearest.Parts.{Parts}
-use Rattle.elementary.specs.declared.nearest.Parts.the-variants.{Infinite, Zero, Finite}
+use Rattle.elementary.specs.declared.nearest.Parts.the-variants.{NotANumber, Infinite, Zero, Finite}
 use Rattle.elementary.specs.Nearest.{unitsOf}
-use Rattle.elementary.specs.Parts.{TakenApart, Digits}
+use Rattle.elementary.specs.Parts.{partsOf, TakenApart, Digits}
+use Rattle.elementary.proofs.Pattern.{size-is}
 
 -- only the NaN differs from itself
 pub not-nan : (x : Float) → ne x x ≡ false → T (not (isNan x))
@@ -112,3 +114,35 @@ finite-of-parts s q k some = finite-of-value (odd 53 s q k 1074) s (q * 2 ^ k) (
 -- the parts of a finite double are a double
 pub parts-fit : (s : Bool) (q k : ℕ) → Digits q k → T (fits binary64 (odd 53 s q k 1074))
 parts-fit s q k d = odd-fits binary64 53 s q k (d .short) (le-of-lt (d .short)) (lt-of-lt-of-le (shl-lt 53 k (d .short)) (pow-mono {j = 2098} (omega (arith, d .exponent))))
+
+-- ---- there is one way to take a double apart
+
+-- q * 2 ^ k has k digits more than 53, or k is 0
+kept-digits : (q k : ℕ) → Digits q k → size (q * 2 ^ k) - 53 ≡ k
+kept-digits q k d =
+    ⊎-elim
+    (λ none. let few : size (q * 2 ^ k) ≤ 53 = size-le (q * 2 ^ k) 53 (rw none (omega (arith, d .short))) in omega arith)
+    (λ full.
+    let low : 2 ^ (52 + k) ≤ q * 2 ^ k = le-trans (le-of-eq (pow-add 2 52 k)) (mul-le-mul-right (2 ^ k) full) in
+    let high : q * 2 ^ k < 2 ^ suc (52 + k) = lt-of-lt-of-le (mul-lt-mul-of-pos-right (d .short) (pow-pos k)) (le-of-eq (sym (pow-add 2 53 k) ∙ ap (λ (n : ℕ). 2 ^ n) (omega arith))) in
+    omega (arith, size-is (q * 2 ^ k) (52 + k) low high))
+    (d .full)
+
+finite-parts : (s : Bool) (q k : ℕ) → Digits q k → Finite s q k ≡ partsOf (odd 53 s q k 1074)
+unfolding partsOf
+finite-parts s q k d =
+    let f = finite-of-parts s q k (d .positive) in
+    let units : q * 2 ^ k ≡ unitsOf (fin s (suc (f .0)) (f .1)) = sym (units-of-parts s q k) ∙ ap unitsOf (f .2) in
+    ap₂ (λ (n j : ℕ). Finite s n j) (sym (mul-div-cancel q (pow-pos k)) ∙ ap (λ (j : ℕ). q * 2 ^ k / 2 ^ j) (sym (kept-digits q k d))) (sym (kept-digits q k d))
+    ∙ ap (λ (n : ℕ). let j = size n - 53 in Finite s (n / 2 ^ j) j) units
+    ∙ ap partsOf (sym (f .2))
+
+one-way : (r : Parts) {x : Float} → TakenApart x r → r ≡ partsOf x
+unfolding partsOf
+one-way NotANumber apart = ap partsOf (apart .same)
+one-way (Infinite s) apart = ap partsOf (apart .same)
+one-way (Zero s) apart = ap partsOf (apart .same)
+one-way (Finite s q k) apart = finite-parts s q k (apart .within) ∙ ap partsOf (apart .same)
+
+pub in-one-way : (r : Parts) {x : Float} → TakenApart x r → (r ≡ partsOf x) × TakenApart x r
+in-one-way r apart = (one-way r apart, apart)

@@ -1,12 +1,24 @@
--- What `take_apart` makes of a double: the double that the parts stand for, and the bounds of a finite one's. Definitions only.
+-- What `take_apart` makes of a double: its parts, the double that parts stand for, and the bounds of a finite one's. Definitions only.
 use mathlib.Core.Path.{_≡_}
 use mathlib.Core.Logic.{_⊎_}
-use Prim.Native.Nat.{ℕ, _^_, _≤_, _<_}
+use Prim.Native.Nat.{ℕ, zero, suc, _-_, _/_, _^_, _≤_, _<_}
 use lib.IntN.{pos}
-use lib.Ieee.{Float, nan, inf, fin, odd}
+use lib.Ieee.{Float, nan, inf, fin, odd, size}
 use Rattle.elementary.specs.declared.nearest.Parts.{Parts}
 use Rattle.elementary.specs.declared.nearest.Parts.the-variants.{NotANumber, Infinite, Zero, Finite}
+use Rattle.elementary.specs.Nearest.{unitsOf}
 
+-- Of a finite double's n units of 2 ^ -1074, the highest 53 binary digits, or all where there are fewer, and how many places stand after them.
+unfoldable pub partsOf : Float → Parts
+partsOf nan = NotANumber
+partsOf (inf s) = Infinite s
+partsOf (fin s zero e) = Zero s
+partsOf (fin s (suc m) e) =
+    let n = unitsOf (fin s (suc m) e) in
+    let k = size n - 53 in
+    Finite s (n / 2 ^ k) k
+
+-- ---- what parts stand for
 -- `odd 53 s q k 1074` is q * 2 ^ k / 2 ^ 1074 with the sign s, written in the one way of the doubles
 abbrev pub fromParts : Parts → Float
 fromParts NotANumber = nan

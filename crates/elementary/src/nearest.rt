@@ -9,7 +9,7 @@ ghost use lib.Ieee.Nearest.{closest};
 ghost use Rattle.wide.specs.Value.{value};
 ghost use Rattle.elementary.specs.Nearest.{nearestScaled, nearestRatio};
 ghost use Rattle.elementary.specs.Normalised.{IsNormalised};
-ghost use Rattle.elementary.specs.Parts.{TakenApart};
+ghost use Rattle.elementary.specs.Parts.{partsOf, TakenApart};
 ghost use Rattle.elementary.specs.Power.{infinityOrZero};
 use wide::words::Wide;
 use wide::words::shifted_right;
@@ -26,7 +26,8 @@ pub enum Parts {
 // The kind of x and its parts. The sign, the exponent's field and the digits' field of x's bit pattern
 // say which kind it is. A field of 0 has no leading digit, and counts as a field of 1.
 pub fn take_apart(x: f64) -> Parts
-    ensures { λ r. ⌜ TakenApart x r ⌝ }
+    ensures { λ r. ⌜ r ≡ partsOf x ⌝ }
+    ensures apart { λ r. ⌜ TakenApart x r ⌝ }
 {
     if x != x {
         return Parts::NotANumber;

@@ -42,7 +42,7 @@ nearest-count-requires : tie.Need-nearest-count-requires
 nearest-count-requires c κs =
     let at = c .before .before in
     let start = at .before .before .before in (
-      told (at .before .before .take-apart .ensures) (at .negative2 .given .1) .within,
+      told (at .before .before .take-apart .ensures .1) (at .negative2 .given .1) .within,
       omega (arith, c .power-of-ten .ensures, pow-le-pow-right {n = 10} (lit< tt) {i = 0} {j = start .args .decimals} (omega arith)),
     )
 
@@ -52,7 +52,7 @@ returns c =
     let apart = c .before .before .before in
     let start = apart .before in
     c .no-text .ensures
-    ∙ ap (λ (x : Float). inSixteen (decimalText (start .args .decimals) x)) (told (apart .take-apart .ensures) (c .before .enum-told .given .1) .same)
+    ∙ ap (λ (x : Float). inSixteen (decimalText (start .args .decimals) x)) (told (apart .take-apart .ensures .1) (c .before .enum-told .given .1) .same)
 
 returns-2 : tie.Need-returns-2
 unfolding decimalText
@@ -60,14 +60,14 @@ returns-2 c =
     let apart = c .before .before .before in
     let start = apart .before in
     c .no-text2 .ensures
-    ∙ ap (λ (x : Float). inSixteen (decimalText (start .args .decimals) x)) (told (apart .take-apart .ensures) (c .before .enum-told2 .given .1) .same)
+    ∙ ap (λ (x : Float). inSixteen (decimalText (start .args .decimals) x)) (told (apart .take-apart .ensures .1) (c .before .enum-told2 .given .1) .same)
 
 returns-3 : tie.Need-returns-3
 returns-3 c =
     let at = c .before .before in
     let apart = at .before .before in
     let k = apart .before .args .decimals in
-    c .count-text .ensures ∙ ap inSixteen (zero-text k _ ∙ ap (decimalText k) (told (apart .take-apart .ensures) (at .negative .given .1) .same))
+    c .count-text .ensures ∙ ap inSixteen (zero-text k _ ∙ ap (decimalText k) (told (apart .take-apart .ensures .1) (at .negative .given .1) .same))
 
 returns-4 : tie.Need-returns-4
 returns-4 c =
@@ -75,7 +75,7 @@ returns-4 c =
     let apart = at .before .before in
     let start = apart .before in
     c .count-text2 .ensures
-    ∙ counted-text (start .args .decimals) (told (apart .take-apart .ensures) (at .negative2 .given .1)) (start .pre)
+    ∙ counted-text (start .args .decimals) (told (apart .take-apart .ensures .1) (at .negative2 .given .1)) (start .pre)
     (c .before .before .power-of-ten .ensures) (c .before .nearest-count .ensures)
 
 pub text-of-spec : {M : Type 1} → statement M

@@ -77,7 +77,7 @@ exp-zero false = refl
 floor-word-requires : tie.Need-floor-word-requires
 floor-word-requires c κs =
     let at = c .before .before .before in
-    let apart = told (at .before .before .take-apart .ensures) (at .negative2 .given .1) in
+    let apart = told (at .before .before .take-apart .ensures .1) (at .negative2 .given .1) in
     (apart .within, bounded apart (c .before .if1 .left) (c .if2 .left))
 
 -- floor(x * 2^places), and floor of its product with 1 / ln 2
@@ -90,22 +90,22 @@ times-requires c κs = (lt-of-lt-of-le (c .floor-word .ensures .1) (lit≤ tt), 
 returns : tie.Need-returns
 returns c =
     let at = c .before .before .before in
-    c .infinity-or-zero2 .ensures ∙ at-top (told (at .before .before .take-apart .ensures) (at .negative2 .given .1)) (c .before .if1 .taken)
+    c .infinity-or-zero2 .ensures ∙ at-top (told (at .before .before .take-apart .ensures .1) (at .negative2 .given .1)) (c .before .if1 .taken)
 
 returns-2 : tie.Need-returns-2
 returns-2 c =
     let at = c .before .before .before .before in
-    c .infinity-or-zero3 .ensures ∙ at-bottom (told (at .before .before .take-apart .ensures) (at .negative2 .given .1)) (c .before .before .if1 .left) (c .before .if2 .taken)
+    c .infinity-or-zero3 .ensures ∙ at-bottom (told (at .before .before .take-apart .ensures .1) (at .negative2 .given .1)) (c .before .before .if1 .left) (c .before .if2 .taken)
 
 returns-3 : tie.Need-returns-3
 unfolding exp
-returns-3 c = let e = told (c .before .before .take-apart .ensures) (c .enum-told .given .1) .same in sym e ∙ ap (exp places) e
+returns-3 c = let e = told (c .before .before .take-apart .ensures .1) (c .enum-told .given .1) .same in sym e ∙ ap (exp places) e
 
 returns-4 : tie.Need-returns-4
-returns-4 c = let at = c .before .before in c .infinity-or-zero .ensures ∙ exp-infinite _ ∙ ap (exp places) (told (at .before .before .take-apart .ensures) (at .negative .given .1) .same)
+returns-4 c = let at = c .before .before in c .infinity-or-zero .ensures ∙ exp-infinite _ ∙ ap (exp places) (told (at .before .before .take-apart .ensures .1) (at .negative .given .1) .same)
 
 returns-5 : tie.Need-returns-5
-returns-5 c = exp-zero _ ∙ ap (exp places) (told (c .before .before .take-apart .ensures) (c .enum-told2 .given .1) .same)
+returns-5 c = exp-zero _ ∙ ap (exp places) (told (c .before .before .take-apart .ensures .1) (c .enum-told2 .given .1) .same)
 
 returns-6 : tie.Need-returns-6
 returns-6 c =
@@ -115,7 +115,7 @@ returns-6 c =
     ∙ ap (λ (w : Word). antilog places (wordValue places w)) (c .before .times .ensures)
     ∙ ap (antilog places) (word-value places (floorDiv (wordValue places (at-floor .floor-word .result) *ℤ pos log2e) (2 ^ 62)))
     ∙ ap (λ (z : ℤ). antilog places (floorDiv (z *ℤ pos log2e) (2 ^ 62))) (ap (wordValue places) (at-floor .floor-word .ensures .0) ∙ word-value places (floored at-floor))
-    ∙ between (told (at .before .before .take-apart .ensures) (at .negative2 .given .1)) (at-floor .before .before .if1 .left) (at-floor .before .if2 .left)
+    ∙ between (told (at .before .before .take-apart .ensures .1) (at .negative2 .given .1)) (at-floor .before .before .if1 .left) (at-floor .before .if2 .left)
 
 pub exp-spec : {M : Type 1} → statement M
 exp-spec =

@@ -27,28 +27,28 @@ finite-ln {x} {s} {q} {k} apart e =
 
 returns : tie.Need-returns
 unfolding ln
-returns c = let e = told (c .before .before .take-apart .ensures) (c .enum-told .given .1) .same in sym e ∙ ap (ln places) e
+returns c = let e = told (c .before .before .take-apart .ensures .1) (c .enum-told .given .1) .same in sym e ∙ ap (ln places) e
 
 returns-2 : tie.Need-returns-2
 unfolding ln div ofBits
-returns-2 c = let at = c .before .before in ap (ln places) (infinite-ln (told (at .before .before .take-apart .ensures) (at .negative .given .1)) (c .if1 .taken))
+returns-2 c = let at = c .before .before in ap (ln places) (infinite-ln (told (at .before .before .take-apart .ensures .1) (at .negative .given .1)) (c .if1 .taken))
 
 returns-3 : tie.Need-returns-3
 unfolding ln
-returns-3 c = let at = c .before .before in let e = infinite-ln (told (at .before .before .take-apart .ensures) (at .negative .given .1)) (c .if1 .left) in sym e ∙ ap (ln places) e
+returns-3 c = let at = c .before .before in let e = infinite-ln (told (at .before .before .take-apart .ensures .1) (at .negative .given .1)) (c .if1 .left) in sym e ∙ ap (ln places) e
 
 returns-4 : tie.Need-returns-4
 unfolding ln ofBits
-returns-4 c = ap (ln places) (told (c .before .before .take-apart .ensures) (c .enum-told2 .given .1) .same)
+returns-4 c = ap (ln places) (told (c .before .before .take-apart .ensures .1) (c .enum-told2 .given .1) .same)
 
 returns-5 : tie.Need-returns-5
 unfolding div ofBits
-returns-5 c = let at = c .before .before in negative-ln (told (at .before .before .take-apart .ensures) (at .negative2 .given .1)) (c .if2 .taken)
+returns-5 c = let at = c .before .before in negative-ln (told (at .before .before .take-apart .ensures .1) (at .negative2 .given .1)) (c .if2 .taken)
 
 returns-6 : tie.Need-returns-6
 returns-6 c =
     let at = c .before .before .before in
-    c .positive-ln .ensures ∙ finite-ln (told (at .before .before .take-apart .ensures) (at .negative2 .given .1)) (c .before .if2 .left)
+    c .positive-ln .ensures ∙ finite-ln (told (at .before .before .take-apart .ensures .1) (at .negative2 .given .1)) (c .before .if2 .left)
 
 pub ln-spec : {M : Type 1} → statement M
 ln-spec =
@@ -60,7 +60,7 @@ ln-spec =
     (λ c. search needs)
     (λ c. unfold nanBits in tt)
     (λ c. search needs)
-    (λ c κs. told (c .before .before .before .before .take-apart .ensures) (c .before .before .negative2 .given .1) .within)
+    (λ c κs. told (c .before .before .before .before .take-apart .ensures .1) (c .before .before .negative2 .given .1) .within)
     returns
     returns-2
     returns-3

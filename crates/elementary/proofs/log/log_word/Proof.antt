@@ -28,29 +28,29 @@ positive-defined {x} {s} {q} {k} apart e =
     ∙ ap (logarithm places) (sym f ∙ signed-parts apart e)
 
 log-of-digits-requires : tie.Need-log-of-digits-requires
-log-of-digits-requires c κs = told (c .before .before .before .before .take-apart .ensures) (c .before .before .negative .given .1) .within
+log-of-digits-requires c κs = told (c .before .before .before .before .take-apart .ensures .1) (c .before .before .negative .given .1) .within
 
 returns : tie.Need-returns
 returns c =
     let at = c .before .before in
-    negative-undefined (told (at .before .before .take-apart .ensures) (at .negative .given .1)) (c .if1 .taken)
+    negative-undefined (told (at .before .before .take-apart .ensures .1) (at .negative .given .1)) (c .if1 .taken)
 
 returns-2 : tie.Need-returns-2
 returns-2 c =
     let at = c .before .before .before in
-    ap Defined (c .log-of-digits .ensures .0) ∙ positive-defined (told (at .before .before .take-apart .ensures) (at .negative .given .1)) (c .before .if1 .left)
+    ap Defined (c .log-of-digits .ensures .0) ∙ positive-defined (told (at .before .before .take-apart .ensures .1) (at .negative .given .1)) (c .before .if1 .left)
 
 returns-3 : tie.Need-returns-3
 unfolding logarithm
-returns-3 c = ap (logarithm places) (told (c .before .before .take-apart .ensures) (c .enum-told .given .1) .same)
+returns-3 c = ap (logarithm places) (told (c .before .before .take-apart .ensures .1) (c .enum-told .given .1) .same)
 
 returns-4 : tie.Need-returns-4
 unfolding logarithm
-returns-4 c = ap (logarithm places) (told (c .before .before .take-apart .ensures) (c .enum-told2 .given .1) .same)
+returns-4 c = ap (logarithm places) (told (c .before .before .take-apart .ensures .1) (c .enum-told2 .given .1) .same)
 
 returns-5 : tie.Need-returns-5
 unfolding logarithm
-returns-5 c = ap (logarithm places) (told (c .before .before .take-apart .ensures) (c .enum-told3 .given .1) .same)
+returns-5 c = ap (logarithm places) (told (c .before .before .take-apart .ensures .1) (c .enum-told3 .given .1) .same)
 
 pub log-word-spec : {M : Type 1} → statement M
 log-word-spec =

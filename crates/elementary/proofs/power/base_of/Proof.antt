@@ -12,23 +12,23 @@ abbrev zero-word : Word
 zero-word = record { negative = false; whole = 0; part = 0 }
 
 log-of-digits-requires : tie.Need-log-of-digits-requires
-log-of-digits-requires c κs = told (c .before .before .before .take-apart .ensures) (c .before .parts .given .1) .within
+log-of-digits-requires c κs = told (c .before .before .before .take-apart .ensures .1) (c .before .parts .given .1) .within
 
 returns : tie.Need-returns
 returns c =
     record {
-      apart = told (c .before .before .before .before .take-apart .ensures) (c .before .before .parts .given .1);
+      apart = told (c .before .before .before .before .take-apart .ensures .1) (c .before .before .parts .given .1);
       logged = record { word = c .log-of-digits .ensures .0; small = c .log-of-digits .ensures .1 };
     }
 
 returns-2 : tie.Need-returns-2
-returns-2 c = record { apart = c .before .before .take-apart .ensures; logged = subst (LoggedParts zero-word) (sym (c .enum-told .given .1)) tt }
+returns-2 c = record { apart = c .before .before .take-apart .ensures .1; logged = subst (LoggedParts zero-word) (sym (c .enum-told .given .1)) tt }
 
 returns-3 : tie.Need-returns-3
-returns-3 c = record { apart = c .before .before .take-apart .ensures; logged = subst (LoggedParts zero-word) (sym (c .enum-told2 .given .1)) tt }
+returns-3 c = record { apart = c .before .before .take-apart .ensures .1; logged = subst (LoggedParts zero-word) (sym (c .enum-told2 .given .1)) tt }
 
 returns-4 : tie.Need-returns-4
-returns-4 c = record { apart = c .before .before .take-apart .ensures; logged = subst (LoggedParts zero-word) (sym (c .enum-told3 .given .1)) tt }
+returns-4 c = record { apart = c .before .before .take-apart .ensures .1; logged = subst (LoggedParts zero-word) (sym (c .enum-told3 .given .1)) tt }
 
 pub base-of-spec : {M : Type 1} → statement M
 base-of-spec =

@@ -35,7 +35,7 @@ sqrt-of-parts (Finite s q k) w =
 -- what `take_apart` says of x, where its answer is p
 module _ (c : tie.After-take-apart) {p : Parts} (e : c .take-apart .result ≡ p) where
   apart : TakenApart (c .before .args .x) p
-  apart = rw e at (c .take-apart .ensures)
+  apart = rw e at (c .take-apart .ensures .1)
 
   root-is : sqrt (c .before .args .x) ≡ rootOf p
   root-is = ap sqrt (sym (apart .same)) ∙ sqrt-of-parts p (apart .within)
