@@ -258,6 +258,32 @@ def conversions(lines):
     yield line + record + buffer[:-1]
 
 
+def texts(lines):
+    """Bytes of the text, a byte less and a byte more; another case's text, of the same kind where there is one; the two strings parted a byte
+    late and a byte early; the digits of either out of form; and last a text that ends before its length."""
+    cases = list(zip(lines[::3], lines[1::3], lines[2::3]))
+    kinds = {}
+    for case in cases:
+        # by how the text starts, after the word that it quotes
+        kinds.setdefault(bytes.fromhex(case[2]).split(b'"')[-1][:12], []).append(case)
+    for kind in kinds.values():
+        for line, given, said in picked(kind):
+            size, length = words_of(line)
+            for at in (0, length // 2, length - 1):
+                yield line + given + other_byte(said, at)
+            yield text([size, length - 1]) + given + said[:-3] + "\n"
+            yield text([size, length + 1]) + given + said[:-1] + "30\n"
+            other = next(case[2] for case in kind + cases if case[2] != said)
+            yield text([size, len(other) // 2]) + given + other
+            yield text([size + 1, length - 1]) + given[:-1] + said[:2] + "\n" + said[2:]
+            if size > 0:
+                yield text([size - 1, length + 1]) + given[:-3] + "\n" + given[-3:-1] + said
+        for broken_given in broken_bytes([(line, given)]):
+            yield broken_given + said
+        yield from broken_bytes([(line + given, said)])
+    yield text([size, length + 1]) + given + said
+
+
 def main(folder):
     folder = Path(folder)
     lines = lambda name: (folder / f"{name}.txt").read_text().splitlines(keepends=True)
@@ -282,6 +308,8 @@ def main(folder):
     write("decimals", decimals(lines("decimals")))
     write("votes", votes(lines("votes")))
     write("trims", trims(lines("trims")))
+    for name in ["reports", "words"]:
+        write(name, texts(lines(name)))
     for name in ["published", "round_trips"]:
         wrong = [line for kind in by_number(lines(name)).values() for line in ends(kind, 4)]
         write(name, [line for line in wrong if line.endswith("\n") or line.endswith(" ")] + [wrong[-1]])

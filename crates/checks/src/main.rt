@@ -39,6 +39,8 @@ fn main() {
     replay(b"conversions.txt", List::Case(Kind::Conversions));
     replay(b"sheets.txt", List::Case(Kind::Sheets));
     replay(b"decimals.txt", List::Case(Kind::Decimals));
+    replay(b"reports.txt", List::Case(Kind::Reports));
+    replay(b"words.txt", List::Case(Kind::Words));
     replay(b"published.txt", List::Ends(Function::Figure));
     replay(b"round_trips.txt", List::Ends(Function::Figure));
     replay(b"outside_saturation.txt", List::Ends(Function::Figure));
@@ -75,6 +77,8 @@ fn replay_wrong() {
     replay(b"wrong_conversions.txt", List::Case(Kind::Conversions));
     replay(b"wrong_sheets.txt", List::Case(Kind::Sheets));
     replay(b"wrong_decimals.txt", List::Case(Kind::Decimals));
+    replay(b"wrong_reports.txt", List::Case(Kind::Reports));
+    replay(b"wrong_words.txt", List::Case(Kind::Words));
     replay(b"wrong_published.txt", List::Ends(Function::Figure));
     replay(b"wrong_round_trips.txt", List::Ends(Function::Figure));
 }

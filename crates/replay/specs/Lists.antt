@@ -11,7 +11,7 @@ use Rattle.replay.specs.declared.list.Function.the-variants.{Log, Antilo
 use Rattle.replay.specs.declared.list.Part.{Part}
 use Rattle.replay.specs.declared.list.Part.the-variants.{Layers, Humid, Station, Altitudes, Inverse}
 use Rattle.replay.specs.declared.list.Kind.{Kind}
-use Rattle.replay.specs.declared.list.Kind.the-variants.{Records, Strict, Votes, Trims, Writes, Conversions, Sheets, Decimals}
+use Rattle.replay.specs.declared.list.Kind.the-variants.{Records, Strict, Votes, Trims, Writes, Conversions, Sheets, Decimals, Reports, Words}
 use Rattle.replay.specs.Rules.{logAgrees, antilogAgrees, powerAgrees, expAgrees, lnAgrees, sqrtAgrees, rootsAgree}
 use Rattle.calls.specs.Source.{layersAgrees, humidAgrees, stationAgrees, altitudesAgrees, inverseAgrees}
 use Rattle.calls.specs.Figures.{figureAgrees}
@@ -22,6 +22,8 @@ use Rattle.written.specs.Writes.{writeAgrees}
 use Rattle.written.specs.Conversions.{conversionAgrees}
 use Rattle.answers.specs.Sheets.{sheetAgrees}
 use Rattle.answers.specs.Decimals.{decimalAgrees}
+use Rattle.reports.specs.Reports.{reportAgrees}
+use Rattle.printed.specs.Printed.{printedAgrees}
 
 -- ---- how many words a line has
 -- by the number of the source's function: the number, the inputs, the answer; a number that no function has stands alone
@@ -51,6 +53,8 @@ kindWords Writes = 24
 kindWords Conversions = 5
 kindWords Sheets = 6
 kindWords Decimals = 3
+kindWords Reports = 2
+kindWords Words = 2
 
 abbrev pub wordsIn : ℕ → lists.List → ℕ
 wordsIn n (Exact f) = functionWords true f
@@ -68,6 +72,8 @@ kindStrings Writes = 1
 kindStrings Conversions = 2
 kindStrings Sheets = 1
 kindStrings Decimals = 1
+kindStrings Reports = 2
+kindStrings Words = 2
 
 abbrev pub stringsIn : lists.List → ℕ
 stringsIn (Exact f) = 0
@@ -84,6 +90,8 @@ kindLengths Writes = 0
 kindLengths Conversions = 1
 kindLengths Sheets = 3
 kindLengths Decimals = 2
+kindLengths Reports = 0
+kindLengths Words = 0
 
 abbrev pub lengthsIn : lists.List → ℕ
 lengthsIn (Exact f) = 0
@@ -118,6 +126,8 @@ caseAgrees w bytes Writes = writeAgrees w bytes
 caseAgrees w bytes Conversions = conversionAgrees w bytes
 caseAgrees w bytes Sheets = sheetAgrees w bytes
 caseAgrees w bytes Decimals = decimalAgrees w bytes
+caseAgrees w bytes Reports = reportAgrees w bytes
+caseAgrees w bytes Words = printedAgrees w bytes
 
 abbrev pub agrees : List ℕ → List ℕ → lists.List → Bool
 agrees w bytes (Exact f) = functionAgrees true w f

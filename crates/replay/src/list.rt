@@ -23,6 +23,8 @@ use exports::functions::station_air_sqrt;
 use exports::rules::station_air_power;
 use lines::doubles::double_at;
 use lines::line::word;
+use printed::printed_agrees;
+use reports::report_agrees;
 use written::conversions::conversion_agrees;
 use written::writes::write_agrees;
 
@@ -57,7 +59,8 @@ pub enum Part {
 }
 
 // Answers to mast records, the figures of one, by either reader, the vote of three and the next trim
-// class; records that are written, and converted; setting sheets; and texts of figures.
+// class; records that are written, and converted; setting sheets; texts of figures; reports of records'
+// readings; and what is printed for words that are typed.
 pub enum Kind {
     Records,
     Strict,
@@ -67,6 +70,8 @@ pub enum Kind {
     Conversions,
     Sheets,
     Decimals,
+    Reports,
+    Words,
 }
 
 // The most words that a line has.
@@ -143,6 +148,8 @@ fn kind_words(kind: Kind) -> usize
         Kind::Conversions => 5,
         Kind::Sheets => 6,
         Kind::Decimals => 3,
+        Kind::Reports => 2,
+        Kind::Words => 2,
     }
 }
 
@@ -170,6 +177,8 @@ fn kind_strings(kind: Kind) -> usize
         Kind::Conversions => 2,
         Kind::Sheets => 1,
         Kind::Decimals => 1,
+        Kind::Reports => 2,
+        Kind::Words => 2,
     }
 }
 
@@ -197,6 +206,8 @@ fn kind_lengths(kind: Kind) -> usize
         Kind::Conversions => 1,
         Kind::Sheets => 3,
         Kind::Decimals => 2,
+        Kind::Reports => 0,
+        Kind::Words => 0,
     }
 }
 
@@ -260,6 +271,8 @@ fn case_agrees(kind: Kind, words: &[u64], bytes: &[u8]) -> bool
         Kind::Conversions => conversion_agrees(words, bytes),
         Kind::Sheets => sheet_agrees(words, bytes),
         Kind::Decimals => decimal_agrees(words, bytes),
+        Kind::Reports => report_agrees(words, bytes),
+        Kind::Words => printed_agrees(words, bytes),
     }
 }
 

@@ -1,8 +1,9 @@
-// A mast record, and the report of its readings as a list has it.
+// A mast record, and a line with the report of its readings.
 ghost use mathlib.Core.Path.{_≡_};
 ghost use Rattle.lines.specs.Text.{isText};
 ghost use Rattle.report.specs.Report.{reportText};
-ghost use Rattle.reports.specs.Reports.{reportAgrees};
+ghost use Rattle.reports.specs.Reports.{recordAgrees, reportAgrees};
+use lines::line::word;
 use lines::text::is_same;
 use record::readings::Readings;
 use record::readings::read_record;
@@ -18,11 +19,9 @@ fn is_reported(readings: Readings, expected: &[u8]) -> bool
     is_same(&bytes[..len], expected)
 }
 
-// Whether the report of a record's readings is the expected text; a record that is not read has none.
-// Both are left as they were.
-pub fn report_agrees(record: &[u8], expected: &[u8]) -> bool
-    ensures { λ r. ⌜ r ≡ reportAgrees (now («record» .entry)) (now (expected .entry)) ⌝ }
-    ensures kept { λ _. ⌜ (now («record» .exit) ≡ now («record» .entry)) × (now (expected .exit) ≡ now (expected .entry)) ⌝ }
+// A record that is not read has no report.
+fn record_agrees(record: &[u8], expected: &[u8]) -> bool
+    ensures { λ r. ⌜ r ≡ recordAgrees (now («record» .entry)) (now (expected .entry)) ⌝ }
 {
     let read = read_record(record);
     let check = read.check;
@@ -30,4 +29,18 @@ pub fn report_agrees(record: &[u8], expected: &[u8]) -> bool
         Check::Refused(_) => false,
         Check::Passed => is_reported(read.readings, expected),
     }
+}
+
+// Whether the report of a record's readings is the line's text. The record comes first in `bytes`, and
+// then the text. Both are left as they were.
+pub fn report_agrees(words: &[u64], bytes: &[u8]) -> bool
+    ensures { λ r. ⌜ r ≡ reportAgrees (now (words .entry)) (now (bytes .entry)) ⌝ }
+    ensures kept { λ _. ⌜ (now (words .exit) ≡ now (words .entry)) × (now (bytes .exit) ≡ now (bytes .entry)) ⌝ }
+{
+    let size = word(words, 0);
+    if (bytes.len() as u64) < size {
+        return false;
+    }
+    let at = size as usize;
+    record_agrees(&bytes[..at], &bytes[at..])
 }

@@ -3,8 +3,9 @@ use Prim.Native.Nat.{ℕ}
 use mathlib.Core.Bool.{Bool, true, false, cond, _&&_}
 use mathlib.Core.List.{List}
 use lib.Dec.{leb, eqb}
-use lib.ListN.{length, getD, take, drop}
+use lib.ListN.{length, getD}
 use Rattle.conversion.specs.Conversion.{converted, lengthConverted, writtenIn}
+use Rattle.lines.specs.Parts.{splitAgrees}
 use Rattle.lines.specs.Buffer.{freshBuffer}
 use Rattle.written.specs.Answer.{outcomeStands}
 
@@ -23,6 +24,4 @@ partsAgree w s bytes =
 
 -- the record, of whose length the second word tells, and then the buffer
 abbrev pub conversionAgrees : List ℕ → List ℕ → Bool
-conversionAgrees w bytes =
-    let size = getD w 1 0 in
-    leb size (length bytes) && partsAgree w (take size bytes) (drop size bytes)
+conversionAgrees w bytes = splitAgrees (partsAgree w) (getD w 1 0) bytes

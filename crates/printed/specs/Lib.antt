@@ -1,0 +1,2 @@
+-- What the contract of `printed_agrees` cites.
+pub mod Printed
