@@ -12,10 +12,17 @@ if [ ! -d "$to/$commit" ]; then
     git archive "$commit" | tar -x -C "$to/part"
     mv "$to/part" "$to/$commit"
 fi
-(cd "$to/$commit" && rt staticlib exports)
-rt staticlib exports
+# an older commit exports all functions from one crate
+if [ -e "$to/$commit/examples/library.sh" ]; then
+    "$to/$commit/examples/library.sh"
+    library=libstation_air.a
+else
+    (cd "$to/$commit" && rt staticlib exports)
+    library=libexports.a
+fi
+examples/library.sh
 # the functions of the commit get a prefix; those of the C library keep their names
-objcopy --prefix-symbols=before_ "$to/$commit/target/staticlib/libexports.a" "$to/libbefore.a"
+objcopy --prefix-symbols=before_ "$to/$commit/target/staticlib/$library" "$to/libbefore.a"
 objcopy --redefine-sym before_memcpy=memcpy --redefine-sym before_memset=memset "$to/libbefore.a"
-cc -std=c11 -Wall -Wextra -Werror -O2 bench/before.c "$to/libbefore.a" target/staticlib/libexports.a -o "$to/before"
+cc -std=c11 -Wall -Wextra -Werror -O2 bench/before.c "$to/libbefore.a" target/staticlib/libstation_air.a -o "$to/before"
 exec "$to/before"

@@ -4,10 +4,10 @@
 # program in C calls at the interface's edges.
 set -euo pipefail
 cd "$(dirname "$0")/.."
-rt staticlib exports | grep '^rt:'
+examples/library.sh | grep '^rt:'
 mkdir -p target/examples
 for program in main edges; do
-    cc -std=c11 -Wall -Wextra -Werror -pedantic -O2 -Iinclude "examples/c/$program.c" target/staticlib/libexports.a -o "target/examples/c_$program"
+    cc -std=c11 -Wall -Wextra -Werror -pedantic -O2 -Iinclude "examples/c/$program.c" target/staticlib/libstation_air.a -o "target/examples/c_$program"
 done
 rustc --edition 2021 -D warnings -O -L native=target/staticlib examples/rust/main.rs -o target/examples/rust_main
 

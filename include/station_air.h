@@ -1,5 +1,5 @@
-/* The air at a station, from the readings of a mast: what `rt staticlib exports` builds,
- * target/staticlib/libexports.a.
+/* The air at a station, from the readings of a mast: what `examples/library.sh` builds,
+ * target/staticlib/libstation_air.a.
  *
  * Numbers. A double is an IEEE 754 binary64, and every double may be passed, NaN and the infinities
  * too. Each answer is one double, fixed to the last bit; only the sign and the payload of a NaN are

@@ -20,7 +20,7 @@ const FIGURES: [(&str, &str); 8] = [
 ];
 
 // include/station_air.h says what it answers.
-#[link(name = "exports", kind = "static")]
+#[link(name = "station_air", kind = "static")]
 extern "C" {
     fn station_air_judge(
         record: *const u8,

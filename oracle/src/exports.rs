@@ -1,7 +1,6 @@
-//! The proved functions, through the static library of the crate `exports`. A slice travels as its pointer
-//! and its length.
+//! The proved functions, through the static library. A slice travels as its pointer and its length.
 
-#[link(name = "exports", kind = "static")]
+#[link(name = "station_air", kind = "static")]
 unsafe extern "C" {
     #[link_name = "station_air_log_word"]
     pub safe fn log_word(x: f64, negative: &mut bool, whole: &mut u32, part: &mut u64) -> bool;

@@ -6,9 +6,10 @@ use native.Mathlib.Omega.{arith}
 use lib.Dec.{eqb, ltb, lit≤}
 use lib.ListN.{length, length-append}
 use Rattle.record.specs.declared.readings.Readings.{Readings}
-use Rattle.record.specs.Fields.{altitude, temperature, stationPressure, qnh, humidity, densityAltitude, measuredPressure}
-use Rattle.text.specs.Text.{decimal, refusalLine}
-use Rattle.advice.specs.Advice.{readingOf, readingLine, causeLines, refusedLines}
+use Rattle.fields.specs.Fields.{altitude, temperature, stationPressure, qnh, humidity, densityAltitude, measuredPressure}
+use Rattle.pieces.specs.Characters.{decimal, refusalLine}
+use Rattle.fault.specs.Fault.{readingOf}
+use Rattle.advice.specs.Advice.{readingLine, causeLines, refusedLines}
 
 pub either : {n : ℕ} (b : Bool) (xs ys : List ℕ) → length xs ≤ n → length ys ≤ n → length (cond b xs ys) ≤ n
 either true xs ys h g = h
@@ -18,7 +19,7 @@ either false xs ys h g = g
 pub number-short : (n : ℕ) → length (decimal n) ≤ 2
 number-short n = either (ltb n 10) ((48 + n) ∷ []) ((48 + n / 10) ∷ (48 + n % 10) ∷ []) (lit≤ tt) (lit≤ tt)
 
-line-short : (n : ℕ) → length (refusalLine n) ≤ 11
+pub line-short : (n : ℕ) → length (refusalLine n) ≤ 11
 unfolding refusalLine
 line-short n = omega (arith, number-short n, length-append (114 ∷ 101 ∷ 102 ∷ 117 ∷ 115 ∷ 101 ∷ 100 ∷ 32 ∷ []) (decimal n), length-append ((114 ∷ 101 ∷ 102 ∷ 117 ∷ 115 ∷ 101 ∷ 100 ∷ 32 ∷ []) ++ decimal n) (10 ∷ []))
 

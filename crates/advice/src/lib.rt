@@ -1,103 +1,22 @@
 // What is said of readings that are refused: the number, the reading that it is about, what it means and
 // what to do.
-ghost use mathlib.Core.Path.{_≡_};
 ghost use Rattle.refusal.specs.Refusals.{numberOf};
-ghost use Rattle.text.specs.Text.{refusalLine};
+ghost use Rattle.pieces.specs.Characters.{refusalLine};
 ghost use Rattle.pieces.specs.Pieces.{Appended};
-ghost use Rattle.record.specs.Readings.{entryOf};
-ghost use Rattle.advice.specs.Advice.{notFinite, notPositive, firstNotFinite, firstNotPositive, readingOf, readingLine, causeLines, refusedLines};
-use humid_air::doubles::is_finite;
+ghost use Rattle.advice.specs.Advice.{readingLine, causeLines, refusedLines};
+use fault::reading_of;
+use fields::fields::ALTITUDE;
+use fields::fields::DENSITY_ALTITUDE;
+use fields::fields::HUMIDITY;
+use fields::fields::MEASURED_PRESSURE;
+use fields::fields::QNH;
+use fields::fields::STATION_PRESSURE;
+use fields::fields::TEMPERATURE;
 use pieces::put;
 use pieces::put_number;
-use record::fields::ALTITUDE;
-use record::fields::DENSITY_ALTITUDE;
-use record::fields::HUMIDITY;
-use record::fields::MEANINGS;
-use record::fields::MEASURED_PRESSURE;
-use record::fields::QNH;
-use record::fields::STATION_PRESSURE;
-use record::fields::TEMPERATURE;
-use record::readings::Entry;
 use record::readings::Readings;
-use record::readings::entry_of;
 use refusal::Refusal;
 use refusal::number;
-
-fn is_not_finite(readings: Readings, meaning: usize) -> bool
-    ensures { λ r. ⌜ r ≡ notFinite (entryOf readings meaning) ⌝ }
-{
-    match entry_of(readings, meaning) {
-        Entry::Absent => false,
-        Entry::Present(x) => !is_finite(x),
-    }
-}
-
-fn is_not_positive(readings: Readings, meaning: usize) -> bool
-    ensures { λ r. ⌜ r ≡ notPositive (entryOf readings meaning) ⌝ }
-{
-    match entry_of(readings, meaning) {
-        Entry::Absent => false,
-        Entry::Present(p) => p <= 0.0,
-    }
-}
-
-fn first_not_finite(readings: Readings) -> usize
-    ensures { λ r. ⌜ r ≡ firstNotFinite readings ⌝ }
-{
-    if is_not_finite(readings, ALTITUDE) {
-        return ALTITUDE;
-    }
-    if is_not_finite(readings, STATION_PRESSURE) {
-        return STATION_PRESSURE;
-    }
-    if is_not_finite(readings, QNH) {
-        return QNH;
-    }
-    if is_not_finite(readings, HUMIDITY) {
-        return HUMIDITY;
-    }
-    MEASURED_PRESSURE
-}
-
-fn first_not_positive(readings: Readings) -> usize
-    ensures { λ r. ⌜ r ≡ firstNotPositive readings ⌝ }
-{
-    if is_not_positive(readings, STATION_PRESSURE) {
-        return STATION_PRESSURE;
-    }
-    if is_not_positive(readings, QNH) {
-        return QNH;
-    }
-    MEASURED_PRESSURE
-}
-
-// The meaning of the reading that a refusal is about, and MEANINGS where there is not one.
-fn reading_of(readings: Readings, number: u8) -> usize
-    ensures { λ r. ⌜ r ≡ readingOf readings number ⌝ }
-{
-    if number == 1 {
-        return DENSITY_ALTITUDE;
-    }
-    if number == 2 {
-        return TEMPERATURE;
-    }
-    if number == 3 {
-        return TEMPERATURE;
-    }
-    if number == 4 {
-        return DENSITY_ALTITUDE;
-    }
-    if number == 11 {
-        return first_not_finite(readings);
-    }
-    if number == 12 {
-        return first_not_positive(readings);
-    }
-    if number == 13 {
-        return HUMIDITY;
-    }
-    MEANINGS
-}
 
 // Each answers the position after what it puts.
 fn put_reading(page: &mut [u8], at: usize, meaning: usize) -> usize
@@ -207,7 +126,8 @@ fn put_cause(page: &mut [u8], at: usize, number: u8) -> usize
     )
 }
 
-fn put_refusal_line(page: &mut [u8], at: usize, number: u8) -> usize
+// The line of a refusal.
+pub fn put_refusal_line(page: &mut [u8], at: usize, number: u8) -> usize
     ensures { λ r. ⌜ Appended (now (page .entry)) at (refusalLine number) (now (page .exit)) r ⌝ }
 {
     let word = put(page, at, b"refused ");

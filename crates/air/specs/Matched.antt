@@ -7,7 +7,7 @@ use Rattle.elementary.specs.Decimals.{nought}
 use Rattle.elementary.specs.Operators.{_⊘_}
 use Rattle.atmosphere.specs.declared.station.Reading.the-variants.{Given}
 use Rattle.atmosphere.specs.Station.{standardPressure, standardTemperature}
-use Rattle.atmosphere.specs.Altitudes.{tropopause, heightOfRatio, troposphereHeight}
+use Rattle.altitudes.specs.Altitudes.{tropopause, heightOfRatio, troposphereHeight}
 use Rattle.air.specs.Station.{atmosphere}
 
 abbrev pub density : ℕ → Float → Float → Float → Float

@@ -2,10 +2,10 @@
 use Prim.Native.Nat.{ℕ}
 use mathlib.Core.Path.{_≡_}
 use lib.Ieee.{Float}
-use Rattle.elementary.specs.Places.{places}
+use Rattle.rounding.specs.Places.{places}
 use Rattle.elementary.specs.Decimals.{nought, hundred}
 use Rattle.elementary.specs.Operators.{_⊖_, _⊘_}
-use Rattle.humid_air.specs.Doubles.{clampDouble}
+use Rattle.doubles.specs.Doubles.{clampDouble}
 use Rattle.humid_air.specs.MoistAir.{icePoint, neededPressure, densityMoleFraction, airDensity}
 use Rattle.air.specs.declared.moist.Saturation.{Saturation}
 use Rattle.air.specs.declared.moist.MoistDensity.{MoistDensity}

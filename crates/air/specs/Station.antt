@@ -4,7 +4,7 @@ use Prim.Native.Nat.{ℕ}
 use lib.Ieee.{Float}
 use Rattle.elementary.specs.Decimals.{nought, hundred}
 use Rattle.elementary.specs.Operators.{_⊕_, _⊖_, _⊗_, _⊘_}
-use Rattle.humid_air.specs.Doubles.{clampDouble}
+use Rattle.doubles.specs.Doubles.{clampDouble}
 use Rattle.humid_air.specs.MoistAir.{icePoint}
 use Rattle.humid_air.specs.Sound.{soundSpeed}
 use Rattle.atmosphere.specs.declared.station.Reading.{Reading}

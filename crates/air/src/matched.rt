@@ -1,11 +1,11 @@
 // The density-matched altitude: the height in the standard atmosphere of a density, and of moist air's.
 ghost use mathlib.Core.Path.{_≡_};
-ghost use Rattle.elementary.specs.Places.{places};
+ghost use Rattle.rounding.specs.Places.{places};
 ghost use Rattle.air.specs.Matched.{heightOfDensity, densityMatchedAltitude};
 use super::moist::density_of;
 use super::moist::saturation_at;
-use atmosphere::altitudes::TROPOSPHERE_TOP_M;
-use atmosphere::altitudes::standard_altitude_above_tropopause_m;
+use altitudes::altitudes::TROPOSPHERE_TOP_M;
+use altitudes::altitudes::standard_altitude_above_tropopause_m;
 use elementary::power::power;
 
 const ISA_SEA_LEVEL_TEMP_K: f64 = 288.15;

@@ -2,13 +2,13 @@
 // it from there, and what asks for another computes its own.
 ghost use mathlib.Core.Path.{_≡_};
 ghost use mathlib.Core.Bool.{true};
-ghost use Rattle.elementary.specs.Places.{places};
+ghost use Rattle.rounding.specs.Places.{places};
 ghost use Rattle.elementary.specs.Decimals.{nought, hundred};
-ghost use Rattle.humid_air.specs.Doubles.{clampDouble};
+ghost use Rattle.doubles.specs.Doubles.{clampDouble};
 ghost use Rattle.humid_air.specs.MoistAir.{neededPressure, moleFractionAt};
 ghost use Rattle.humid_air.specs.Sound.{soundSpeed};
 ghost use Rattle.air.specs.Moist.{saturationAt, Serves, densityOf};
-use humid_air::doubles::clamp;
+use doubles::doubles::clamp;
 use humid_air::humid::air_density_at_mole_fraction;
 use humid_air::humid::capped_vapor_mole_fraction;
 use humid_air::humid::moist_sound_speed_at_mole_fraction;

@@ -8,7 +8,7 @@ use lib.Ieee.{Float}
 use Rattle.elementary.specs.Decimals.{nought}
 use Rattle.refusal.specs.Outcomes.{Outcome}
 use Rattle.station.specs.declared.figures.Figures.{Figures}
-use Rattle.exports.specs.Lent.{told, handedOut, figureValues, markOr}
+use Rattle.lent.specs.Lent.{told, handedOut, figureValues, markOr}
 use Rattle.lines.specs.Doubles.{stand}
 use Rattle.calls.specs.Source.{truthAgrees}
 

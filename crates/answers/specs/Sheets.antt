@@ -6,8 +6,8 @@ use lib.Dec.{leb, eqb}
 use lib.ListN.{length, getD, drop, replicate}
 use Rattle.elementary.specs.Decimals.{nought}
 use Rattle.sheet.specs.Over.{after}
-use Rattle.exports.specs.Lent.{statusOf, valuesAfter}
-use Rattle.exports.specs.Sheets.{sheetIn}
+use Rattle.lent.specs.Lent.{statusOf, valuesAfter}
+use Rattle.exported_answers.specs.Sheets.{sheetIn}
 use Rattle.lines.specs.Buffer.{freshBuffer}
 use Rattle.lines.specs.Doubles.{doubleAt, stand}
 use Rattle.lines.specs.Text.{isText}

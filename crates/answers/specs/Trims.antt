@@ -8,8 +8,8 @@ use lib.ListN.{getD, drop, replicate}
 use Rattle.elementary.specs.Decimals.{nought}
 use Rattle.refusal.specs.Outcomes.{Outcome}
 use Rattle.trim.specs.Search.{Next, nextTrimClass}
-use Rattle.exports.specs.Lent.{statusOf, valuesAfter}
-use Rattle.exports.specs.Trims.{answerAfter}
+use Rattle.lent.specs.Lent.{statusOf, valuesAfter}
+use Rattle.exported_answers.specs.Trims.{answerAfter}
 use Rattle.lines.specs.Matches.{matches}
 use Rattle.lines.specs.Doubles.{stand}
 use Rattle.lines.specs.Whole.{isWhole}

@@ -3,7 +3,7 @@
 ghost use mathlib.Core.Path.{_≡_};
 ghost use lib.ListN.{length};
 ghost use Rattle.answers.specs.Sheets.{sheetStands, sheetAgrees};
-use exports::sheets::station_air_setting_sheet;
+use exported_answers::sheets::station_air_setting_sheet;
 use lines::buffer::refresh;
 use lines::doubles::double_at;
 use lines::doubles::stand_on;

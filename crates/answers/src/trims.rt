@@ -1,7 +1,7 @@
 // A mast record, and a line with its trim class and the smallest change that gives another.
 ghost use mathlib.Core.Path.{_≡_};
 ghost use Rattle.answers.specs.Trims.{trimAgrees};
-use exports::trims::station_air_next_trim_class;
+use exported_answers::trims::station_air_next_trim_class;
 use lines::doubles::stand_on;
 use lines::line::word;
 use lines::whole::whole_stand_on;

@@ -3,7 +3,7 @@ ghost use mathlib.Core.Path.{_≡_};
 ghost use Rattle.answers.specs.Votes.{votesAgree, voteAgrees};
 use super::figures::FIGURES;
 use super::figures::answer_stands;
-use exports::votes::station_air_vote;
+use exported_answers::votes::station_air_vote;
 use lines::line::word;
 
 fn votes_agree(words: &[u64], a: &[u8], b: &[u8], c: &[u8]) -> bool

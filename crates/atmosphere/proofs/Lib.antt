@@ -1,5 +1,3 @@
 -- The laws of the definitions, a file for each idea.
+pub mod FirstLayer
 pub mod LayerNumber
-pub mod LayerFrom
-pub mod Chained
-pub mod AltitudeOrder

@@ -2,7 +2,7 @@
 -- pressure in a layer. The manual's sections and tables are cited by what they hold, since their numbers were not at hand. Constants and rounding order
 -- are those of src/atmosphere.rs; p is the number of places of exp and power. Definitions only.
 use mathlib.Core.Path.{_≡_}
-use Prim.Native.Nat.{ℕ, suc, _<_}
+use Prim.Native.Nat.{ℕ, zero, suc, _<_}
 use Prim.Native.String.{String}
 use mathlib.Core.Bool.{Bool, _&&_, cond}
 use mathlib.Core.List.{List, [], _∷_}
@@ -14,7 +14,7 @@ use Rattle.elementary.specs.Operators.{_⊕_, _⊖_, _⊗_, _⊘_}
 use Rattle.elementary.specs.Exponents.{ofDouble, g₀, Rd, pressureExponent}
 use Rattle.elementary.specs.Power.{power}
 use Rattle.elementary.specs.Exp.{exp}
-use Rattle.humid_air.specs.Doubles.{clampDouble, absDouble}
+use Rattle.doubles.specs.Doubles.{clampDouble, absDouble}
 use Rattle.atmosphere.specs.declared.layers.StandardAir.{StandardAir}
 
 -- ---- Doc 7488, primary constants; g₀ and R, here `Rd`, are elementary's, where the exponents need them
@@ -65,6 +65,11 @@ basePressure i = getD (getD layers i []) 2 nan
 
 abbrev pub gradient : ℕ → Float
 gradient i = getD (getD layers i []) 3 nan
+
+-- the first of the layers i, i + 1, .., i + n that passes the test; the last of them has what is left
+unfoldable pub firstFrom : (ℕ → Bool) → ℕ → ℕ → ℕ
+firstFrom test zero i = i
+firstFrom test (suc n) i = cond (test i) i (firstFrom test n (suc i))
 
 -- ---- the layer of a geopotential height H, in m
 -- from a to below b

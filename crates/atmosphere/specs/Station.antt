@@ -7,7 +7,7 @@ use Rattle.elementary.specs.Decimals.{decimal, one, hundred}
 use Rattle.elementary.specs.Operators.{_⊕_, _⊖_, _⊗_, _⊘_}
 use Rattle.elementary.specs.Exponents.{ofDouble, pressureExponent}
 use Rattle.elementary.specs.Power.{power}
-use Rattle.humid_air.specs.Doubles.{absDouble}
+use Rattle.doubles.specs.Doubles.{absDouble}
 use Rattle.atmosphere.specs.declared.station.Reading.{Reading}
 use Rattle.atmosphere.specs.declared.station.Reading.the-variants.{Given, FromLayer}
 use Rattle.atmosphere.specs.Layers.{baseTemperature, basePressure, gradient, standardHeight}

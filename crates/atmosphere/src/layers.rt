@@ -5,14 +5,14 @@ ghost use Prim.Native.Nat.{_<_};
 ghost use mathlib.Core.Bool.{false};
 ghost use lib.Ieee.{isNan};
 ghost use Rattle.atmosphere.specs.Layers.{geopotentialHeight, standardHeight, layerAt, OnlyRange, layerPressure, standardAir};
-ghost use Rattle.elementary.specs.Places.{places};
+ghost use Rattle.rounding.specs.Places.{places};
+use doubles::doubles::abs;
+use doubles::doubles::clamp;
 use elementary::exp::exp;
 use elementary::power::power;
-use humid_air::doubles::abs;
-use humid_air::doubles::clamp;
 use humid_air::humid::R_AIR;
 
-pub(crate) const G_ACCEL_MPS2: f64 = 9.80665;
+pub const G_ACCEL_MPS2: f64 = 9.80665;
 
 const GEOPOTENTIAL_EARTH_RADIUS_M: f64 = 6_356_766.0;
 
@@ -26,7 +26,7 @@ const MAX_STANDARD_GEOPOTENTIAL_HEIGHT_M: f64 = 84000.0;
 
 // A row for each layer: the geopotential height (m), temperature (K) and pressure (Pa) of its base,
 // and its lapse rate (K/m).
-pub(crate) const ICAO_LAYERS: [[f64; 4]; 7] = [
+pub const ICAO_LAYERS: [[f64; 4]; 7] = [
     [0.0, 288.15, 101325.0, -0.0065],
     [11000.0, 216.65, 22632.1, 0.0],
     [20000.0, 216.65, 5474.89, 0.001],

@@ -1,5 +1,4 @@
-// The standard atmosphere, the station and its altitudes: figures of src/atmosphere.rs, each formula as
-// double operations in the source's order.
-pub mod altitudes;
+// The standard atmosphere, and a station's pressure and temperature: figures of src/atmosphere.rs, each
+// formula as double operations in the source's order.
 pub mod layers;
 pub mod station;

@@ -1,11 +1,11 @@
 // The readings of a station: what is absent or a default, and the altimeter setting.
 ghost use mathlib.Core.Path.{_≡_};
 ghost use Rattle.atmosphere.specs.Station.{inPressureBand, inTemperatureBand, resolved, stationPressure, stationTemperature, reducedQnh};
-ghost use Rattle.elementary.specs.Places.{places};
+ghost use Rattle.rounding.specs.Places.{places};
 use super::layers::ICAO_LAYERS;
 use super::layers::standard_geopotential_height_m;
+use doubles::doubles::abs;
 use elementary::power::power;
-use humid_air::doubles::abs;
 
 // The numbers in elementary's table of the lowest layer's exponent, -G_ACCEL_MPS2 / (lapse rate *
 // R_AIR), and of its reciprocal.

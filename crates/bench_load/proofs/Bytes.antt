@@ -8,8 +8,8 @@ use lib.IntN.{ℤ}
 use lib.ListN.{length, length-append}
 use Rattle.thousandths.specs.Thousandths.{wordOf}
 use Rattle.load_records.specs.declared.counts.LoadCounts.{LoadCounts}
-use Rattle.record.specs.declared.fields.Value.the-variants.{Count}
-use Rattle.record.specs.Fields.{dataSize}
+use Rattle.fields.specs.declared.fields.Value.the-variants.{Count}
+use Rattle.fields.specs.Fields.{dataSize}
 use Rattle.writer.specs.Records.{fieldsFrom, recordOf}
 use Rattle.writer.proofs.Fields.{length-field}
 use Rattle.bench_load.specs.Records.{readingsOf}

@@ -9,10 +9,10 @@ use lib.IntN.{ℤ, pos, negsuc}
 use lib.Signed.{_≤ℤ_}
 use lib.Ieee.{Float, nan, inf, fin, binary64, fits, lt, le}
 use lib.Ieee.Scale.{finite}
-use Rattle.elementary.proofs.Integers.{times-mono}
-use Rattle.elementary.proofs.Rounding.{ratio-mono}
-use Rattle.elementary.proofs.Strict.{not-le-of-less, lt-le-trans}
-use Rattle.humid_air.specs.Doubles.{isFinite}
+use Rattle.rounding.proofs.Integers.{times-mono}
+use Rattle.rounding.proofs.Rounding.{ratio-mono}
+use Rattle.rounding.proofs.Strict.{not-le-of-less, lt-le-trans}
+use Rattle.doubles.specs.Doubles.{isFinite}
 use Rattle.thousandths.specs.Thousandths.{thousandths}
 use Rattle.thousandths.specs.Laws.{InRange}
 use Rattle.thousandths.proofs.Laws.{double-of-count, thousandths-fits}

@@ -18,11 +18,11 @@ use Rattle.record.specs.declared.readings.Entry.the-variants.{Absent, Present}
 use Rattle.record.specs.declared.readings.Stored.{Stored}
 use Rattle.record.specs.declared.readings.Stored.the-variants as stored
 use Rattle.record.specs.declared.readings.Readings.{Readings}
-use Rattle.record.specs.Fields as meaning
+use Rattle.fields.specs.Fields as meaning
 use Rattle.record.specs.Readings.{isPresent, entryFor, entryOf}
-use Rattle.station.specs.Resolved.{ordinary}
+use Rattle.resolved.specs.Resolved.{ordinary}
 use Rattle.station.specs.Figures.{figuresOf}
-use Rattle.mast.specs.Checks.{has, isClash, finiteRows, pressureRows, humidityRows, present, valueRows, ordinaryRows}
+use Rattle.limits.specs.Checks.{has, isClash, finiteRows, pressureRows, humidityRows, present, valueRows, ordinaryRows}
 use Rattle.mast.specs.Judge.{airRows, airOutcome, wayRows, resolvedBy, judged}
 use Rattle.load_records.specs.Laws.{Between}
 use Rattle.bench_load.specs.Laws.{CountIn, IsOfTheLoad}

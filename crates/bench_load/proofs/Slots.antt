@@ -12,8 +12,8 @@ use Rattle.thousandths.specs.Laws.{InRange}
 use Rattle.thousandths.proofs.Words.{twos-complement}
 use Rattle.load_records.specs.declared.counts.LoadCounts.{LoadCounts}
 use Rattle.load_records.specs.Laws.{Between, InRanges}
-use Rattle.record.specs.declared.fields.Value.{Value}
-use Rattle.record.specs.declared.fields.Value.the-variants.{Count}
+use Rattle.fields.specs.declared.fields.Value.{Value}
+use Rattle.fields.specs.declared.fields.Value.the-variants.{Count}
 use Rattle.record.specs.declared.readings.Slot.{Slot}
 use Rattle.record.specs.declared.readings.Stored.{Stored}
 use Rattle.record.specs.declared.readings.Stored.the-variants.{Absent, Present}

@@ -5,7 +5,7 @@ use Prim.Native.Nat.{ℕ, suc, _+_, _-_, _*_, _<_}
 use native.Mathlib.Nat.{add-zero, sub-zero, mul-suc}
 use native.Mathlib.Omega.{arith}
 use lib.ListN.{length}
-use Rattle.text.specs.Text.{hexDigits}
+use Rattle.answer_lines.specs.Lines.{hexDigits}
 use Rattle.bench_load.specs.Text.{digits, recordText, recordsText}
 
 pub length-digits : (s : List ℕ) → length (digits s) ≡ 2 * length s

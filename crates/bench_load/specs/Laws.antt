@@ -11,14 +11,14 @@ use Rattle.thousandths.specs.Thousandths.{wordOf}
 use Rattle.load_records.specs.declared.counts.LoadCounts.{LoadCounts}
 use Rattle.load_records.specs.Counts.{loadCounts}
 use Rattle.load_records.specs.Laws.{Between}
-use Rattle.record.specs.declared.fields.Value.the-variants.{Count}
+use Rattle.fields.specs.declared.fields.Value.the-variants.{Count}
 use Rattle.record.specs.declared.readings.Stored.{Stored}
 use Rattle.record.specs.declared.readings.Stored.the-variants.{Absent, Present}
 use Rattle.record.specs.declared.readings.Readings.{Readings}
-use Rattle.record.specs.Fields as meaning
+use Rattle.fields.specs.Fields as meaning
 use Rattle.record.specs.Readings.{storedOf, readRecord}
 use Rattle.writer.specs.Records.{fieldWith}
-use Rattle.station.specs.Resolved.{ordinary}
+use Rattle.resolved.specs.Resolved.{ordinary}
 use Rattle.mast.specs.Judge.{airOutcome, judgeBy}
 use Rattle.bench_load.specs.Records.{loadReadings, loadRecord}
 

@@ -6,9 +6,9 @@ use lib.IntN.{ℤ}
 use Rattle.thousandths.specs.Thousandths.{wordOf}
 use Rattle.load_records.specs.declared.counts.LoadCounts.{LoadCounts}
 use Rattle.load_records.specs.Counts.{loadCounts}
-use Rattle.record.specs.declared.fields.Value.the-variants.{Count}
+use Rattle.fields.specs.declared.fields.Value.the-variants.{Count}
 use Rattle.record.specs.declared.readings.Readings.{Readings}
-use Rattle.record.specs.Fields.{altitude, temperature, humidity, measuredPressure}
+use Rattle.fields.specs.Fields.{altitude, temperature, humidity, measuredPressure}
 use Rattle.record.specs.Readings.{noReadings, withValue}
 use Rattle.writer.specs.Records.{recordOf}
 

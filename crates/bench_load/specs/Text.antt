@@ -6,7 +6,8 @@ use mathlib.Core.List.{List, [], _∷_, _++_}
 use lib.ListN.{length, take}
 use Rattle.refusal.specs.Outcomes.{Outcome, accepted, refused}
 use Rattle.mast.specs.Judge.{judge}
-use Rattle.text.specs.Text.{hexDigits, answerText}
+use Rattle.answer_lines.specs.Lines.{hexDigits}
+use Rattle.text.specs.Text.{answerText}
 use Rattle.bench_load.specs.declared.pages.Block.{Block}
 use Rattle.bench_load.specs.Records.{loadRecord}
 

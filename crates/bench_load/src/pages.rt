@@ -8,8 +8,8 @@ ghost use Rattle.writer.specs.Written.{written};
 ghost use Rattle.bench_load.specs.Text.{digits, judgedText, recordText, recordsText, recordsIn, lengthOf, Fills};
 use super::records::write_load_record;
 use mast::judge::judge;
+use pieces::hex_digit;
 use text::answer_text;
-use text::hex_digit;
 use writer::Written;
 
 // The bytes of the longest record: four fields of seven.

@@ -2,13 +2,13 @@
 ghost use mathlib.Core.Path.{_≡_};
 ghost use Rattle.writer.specs.Written.{written, lengthWritten, overwritten};
 ghost use Rattle.bench_load.specs.Records.{withCount, readingsOf, loadReadings, loadRecord};
+use fields::fields::ALTITUDE;
+use fields::fields::HUMIDITY;
+use fields::fields::MEASURED_PRESSURE;
+use fields::fields::TEMPERATURE;
+use fields::fields::Value;
 use load_records::counts::LoadCounts;
 use load_records::counts::load_counts;
-use record::fields::ALTITUDE;
-use record::fields::HUMIDITY;
-use record::fields::MEASURED_PRESSURE;
-use record::fields::TEMPERATURE;
-use record::fields::Value;
 use record::readings::Readings;
 use record::readings::no_readings;
 use record::readings::with_value;

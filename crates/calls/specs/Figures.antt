@@ -5,16 +5,17 @@ use mathlib.Core.List.{List}
 use lib.Dec.{eqb}
 use lib.ListN.{getD, replicate}
 use lib.Ieee.{Float, nan}
-use Rattle.elementary.specs.Places.{places}
+use Rattle.rounding.specs.Places.{places}
 use Rattle.elementary.specs.Decimals.{nought}
 use Rattle.elementary.specs.Operators.{_⊗_}
-use Rattle.humid_air.specs.Saturation.{saturationPressure}
+use Rattle.saturation.specs.Saturation.{saturationPressure}
 use Rattle.humid_air.specs.MoistAir.{airDensity}
 use Rattle.humid_air.specs.Sound.{soundSpeed}
 use Rattle.atmosphere.specs.Layers.{standardAir}
-use Rattle.atmosphere.specs.Altitudes.{foot, nwsAltitude, heightOfPressure, faaDensityAltitude}
+use Rattle.altitudes.specs.Altitudes.{foot, nwsAltitude, heightOfPressure, faaDensityAltitude}
 use Rattle.density_altitude.specs.Inverse.{fahrenheit, station}
-use Rattle.exports.specs.Lent.{Told, told, handedOut, reading, standardValues, stationValues}
+use Rattle.lent.specs.Lent.{Told, told, handedOut, stationValues}
+use Rattle.exported_air.specs.Readings.{reading, standardValues}
 use Rattle.lines.specs.Doubles.{doubleAt, liesLast}
 use Rattle.calls.specs.Source.{number}
 

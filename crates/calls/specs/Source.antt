@@ -6,19 +6,20 @@ use mathlib.Core.List.{List, [], _∷_}
 use lib.Dec.{leb, eqb}
 use lib.ListN.{getD, drop, replicate}
 use lib.Ieee.{Float}
-use Rattle.elementary.specs.Places.{places}
+use Rattle.rounding.specs.Places.{places}
 use Rattle.elementary.specs.Decimals.{nought}
-use Rattle.humid_air.specs.Saturation.{saturationPressure}
+use Rattle.saturation.specs.Saturation.{saturationPressure}
 use Rattle.humid_air.specs.MoistAir.{enhancementFactor, compressibilityFactor, moleFraction, capped, moleFractionCelsius, moleFractionKelvin, molarMassRatio, airDensity}
 use Rattle.humid_air.specs.Sound.{soundSpeedAt, soundSpeed}
 use Rattle.atmosphere.specs.declared.station.Reading.{Reading}
 use Rattle.atmosphere.specs.Layers.{geopotentialHeight, standardAir}
 use Rattle.atmosphere.specs.Station.{inPressureBand, inTemperatureBand, stationPressure, stationTemperature, reducedQnh}
-use Rattle.atmosphere.specs.Altitudes.{nwsAltitude, pressureAltitude, heightOfPressure, faaDensityAltitude, heightOfRatio}
+use Rattle.altitudes.specs.Altitudes.{nwsAltitude, pressureAltitude, heightOfPressure, faaDensityAltitude, heightOfRatio}
 use Rattle.air.specs.Station.{atmosphere}
 use Rattle.air.specs.Matched.{densityMatchedAltitude}
 use Rattle.density_altitude.specs.Inverse.{resolve, station}
-use Rattle.exports.specs.Lent.{Told, told, handedOut, reading, isGiven, standardValues, airValues, stationValues}
+use Rattle.lent.specs.Lent.{Told, told, handedOut, stationValues}
+use Rattle.exported_air.specs.Readings.{reading, isGiven, standardValues, airValues}
 use Rattle.lines.specs.Doubles.{doubleAt, isLast, stand}
 
 -- ---- words of a line

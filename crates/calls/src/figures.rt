@@ -3,17 +3,17 @@
 ghost use mathlib.Core.Path.{_≡_};
 ghost use Prim.Native.Nat.{_<_};
 ghost use Rattle.calls.specs.Figures.{standardValue, thereAndBack, figure, figureAgrees};
-use atmosphere::altitudes::standard_pressure_altitude_m;
-use exports::functions::station_air_faa_density_altitude_ft;
-use exports::functions::station_air_nws_pressure_altitude_ft;
-use exports::stations::station_air_for_density_altitude;
-use exports::stations::station_air_standard_atmosphere;
+use altitudes::altitudes::standard_pressure_altitude_m;
+use exported_air::functions::station_air_faa_density_altitude_ft;
+use exported_air::functions::station_air_nws_pressure_altitude_ft;
+use exported_air::stations::station_air_for_density_altitude;
+use exported_air::stations::station_air_standard_atmosphere;
 use humid_air::humid::calculate_air_density_cimp;
-use humid_air::humid::enhanced_saturation_vapor_pressure;
 use humid_air::humid::moist_speed_of_sound;
 use lines::doubles::double_at;
 use lines::doubles::lies_last;
 use lines::line::word;
+use saturation::saturation::enhanced_saturation_vapor_pressure;
 
 // The standard atmosphere's temperature in K, place 0, or pressure in Pa, place 1.
 fn standard_value(altitude_m: f64, place: usize) -> f64

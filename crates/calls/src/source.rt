@@ -3,29 +3,28 @@
 // `oracle/README.md` has the numbers.
 ghost use mathlib.Core.Path.{_≡_};
 ghost use Rattle.calls.specs.Source.{layersAgrees, standardAgrees, humidValue, humidAgrees, isReading, atmosphereAgrees, keptAgrees, truthAgrees, stationAgrees, altitudesValue, altitudesAgrees, temperatureOf, resolvedAgrees, foundAgrees, stationOfDensityAgrees, inverseAgrees};
-use atmosphere::altitudes::standard_altitude_above_tropopause_m;
-use atmosphere::altitudes::standard_pressure_altitude_m;
+use altitudes::altitudes::standard_altitude_above_tropopause_m;
+use altitudes::altitudes::standard_pressure_altitude_m;
 use atmosphere::layers::geometric_to_geopotential_height_m;
 use atmosphere::station::Reading;
 use atmosphere::station::in_legacy_default_pressure_band;
 use atmosphere::station::in_legacy_default_temperature_band;
 use density_altitude::inverse::resolve_atmosphere_for_density_altitude;
-use exports::functions::station_air_density_matched_altitude_m;
-use exports::functions::station_air_faa_density_altitude_ft;
-use exports::functions::station_air_keeps_pressure;
-use exports::functions::station_air_keeps_temperature;
-use exports::functions::station_air_nws_pressure_altitude_ft;
-use exports::functions::station_air_pressure_altitude_m;
-use exports::functions::station_air_reduced_qnh;
-use exports::functions::station_air_water_vapor_mole_fraction_uncapped;
-use exports::stations::station_air_calculate_atmosphere;
-use exports::stations::station_air_for_density_altitude;
-use exports::stations::station_air_standard_atmosphere;
+use exported_air::functions::station_air_density_matched_altitude_m;
+use exported_air::functions::station_air_faa_density_altitude_ft;
+use exported_air::functions::station_air_keeps_pressure;
+use exported_air::functions::station_air_keeps_temperature;
+use exported_air::functions::station_air_nws_pressure_altitude_ft;
+use exported_air::functions::station_air_pressure_altitude_m;
+use exported_air::functions::station_air_reduced_qnh;
+use exported_air::functions::station_air_water_vapor_mole_fraction_uncapped;
+use exported_air::stations::station_air_calculate_atmosphere;
+use exported_air::stations::station_air_for_density_altitude;
+use exported_air::stations::station_air_standard_atmosphere;
 use humid_air::humid::calculate_air_density_cimp;
 use humid_air::humid::capped_vapor_mole_fraction;
 use humid_air::humid::enhanced_compressibility_factor;
 use humid_air::humid::enhanced_enhancement_factor;
-use humid_air::humid::enhanced_saturation_vapor_pressure;
 use humid_air::humid::moist_air_vapor_mole_fraction;
 use humid_air::humid::moist_molar_mass_ratio;
 use humid_air::humid::moist_sound_speed_at_mole_fraction;
@@ -35,6 +34,7 @@ use lines::doubles::double_at;
 use lines::doubles::is_last;
 use lines::doubles::stand_on;
 use lines::line::word;
+use saturation::saturation::enhanced_saturation_vapor_pressure;
 
 // Whether a line of the layers' list agrees.
 pub fn layers_agrees(words: &[u64]) -> bool

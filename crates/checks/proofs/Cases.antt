@@ -3,11 +3,11 @@ use mathlib.Core.Path.{refl, sym, ap, _∙_}
 use mathlib.Core.Bool.{true≢false}
 use lib.Ieee.{ofBits, neg, add, sub, mul, div, lt, le}
 use Rattle.elementary.specs.Decimals.{nought}
-use Rattle.elementary.specs.Log.{wordOfUnits}
-use Rattle.elementary.specs.Antilog.{antilogRoot}
+use Rattle.antilog.specs.Log.{wordOfUnits}
+use Rattle.antilog.specs.Antilog.{antilogRoot}
 use Rattle.elementary.specs.Exponents.{exponents}
 use Rattle.elementary.specs.Power.{power, powerAt}
-use Rattle.humid_air.specs.Doubles.{absDouble, isFinite}
+use Rattle.doubles.specs.Doubles.{absDouble, isFinite}
 use Rattle.atmosphere.specs.declared.station.Reading.the-variants.{FromLayer}
 use Rattle.atmosphere.specs.Layers.{standardAir}
 use Rattle.density_altitude.specs.Inverse.{station}

@@ -7,13 +7,13 @@ use Prim.Native.Nat.{ℕ, _*_, _^_}
 use lib.IntN.{pos, negℤ}
 use lib.ListN.{replicate}
 use lib.Ieee.{Float, nan, le}
-use Rattle.elementary.specs.Places.{places}
+use Rattle.rounding.specs.Places.{places}
 use Rattle.elementary.specs.Decimals.{decimal, nought, one, hundred}
-use Rattle.elementary.specs.Log.{logWord}
-use Rattle.elementary.specs.Antilog.{antilogRoot}
+use Rattle.antilog.specs.Log.{logWord}
+use Rattle.antilog.specs.Antilog.{antilogRoot}
 use Rattle.elementary.specs.Exponents.{exponents, ofDouble}
 use Rattle.elementary.specs.Power.{power}
-use Rattle.humid_air.specs.Doubles.{isFinite}
+use Rattle.doubles.specs.Doubles.{isFinite}
 use Rattle.atmosphere.specs.declared.station.Reading.{Reading}
 use Rattle.atmosphere.specs.declared.station.Reading.the-variants.{Given, FromLayer}
 use Rattle.atmosphere.specs.Layers.{standardAir}

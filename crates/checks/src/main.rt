@@ -3,84 +3,133 @@
 // the lists come from. A line that is not in its list's form counts as one that differs.
 mod read;
 
+ghost use Prim.Native.Nat.{_≤_};
+ghost use lib.ListN.{length};
 use libc::STDOUT_FILENO;
-use lines::tally::Outcome;
-use lines::tally::Tally;
-use lines::tally::counted;
 use replay::list::Function;
-use replay::list::Kind;
 use replay::list::List;
+use replay::list::Mast;
 use replay::list::Part;
+use replay::list::Text;
+use tally::Outcome;
+use tally::Tally;
+use tally::counted;
 
 fn main() {
-    replay(b"rules_log.txt", List::Exact(Function::Log));
-    replay(b"rules_antilog.txt", List::Exact(Function::Antilog));
-    replay(b"rules_power.txt", List::Exact(Function::Power));
-    replay(b"rules_exp.txt", List::Exact(Function::Exp));
-    replay(b"rules_ln.txt", List::Exact(Function::Ln));
-    replay(b"rules_sqrt.txt", List::Exact(Function::Sqrt));
-    replay(b"roots.txt", List::Exact(Function::Root));
-    replay(b"true_log.txt", List::Ends(Function::Log));
-    replay(b"true_antilog.txt", List::Ends(Function::Antilog));
-    replay(b"true_power.txt", List::Ends(Function::Power));
-    replay(b"true_exp.txt", List::Ends(Function::Exp));
-    replay(b"true_ln.txt", List::Ends(Function::Ln));
-    replay(b"true_sqrt.txt", List::Ends(Function::Sqrt));
-    replay(b"source_layers.txt", List::Source(Part::Layers));
-    replay(b"source_humid.txt", List::Source(Part::Humid));
-    replay(b"source_station.txt", List::Source(Part::Station));
-    replay(b"source_altitudes.txt", List::Source(Part::Altitudes));
-    replay(b"source_inverse.txt", List::Source(Part::Inverse));
-    replay(b"records.txt", List::Case(Kind::Records));
-    replay(b"strict.txt", List::Case(Kind::Strict));
-    replay(b"votes.txt", List::Case(Kind::Votes));
-    replay(b"trims.txt", List::Case(Kind::Trims));
-    replay(b"writes.txt", List::Case(Kind::Writes));
-    replay(b"conversions.txt", List::Case(Kind::Conversions));
-    replay(b"sheets.txt", List::Case(Kind::Sheets));
-    replay(b"decimals.txt", List::Case(Kind::Decimals));
-    replay(b"reports.txt", List::Case(Kind::Reports));
-    replay(b"words.txt", List::Case(Kind::Words));
-    replay(b"published.txt", List::Ends(Function::Figure));
-    replay(b"round_trips.txt", List::Ends(Function::Figure));
+    replay_all(false);
+    replay_all(true);
+}
+
+// Every list; or every list of wrong lines, each of which differs.
+fn replay_all(wrong: bool) {
+    rules(wrong);
+    if !wrong {
+        replay(b"roots.txt", List::Exact(Function::Root));
+    }
+    truths(wrong);
+    sources(wrong);
+    masts(wrong);
+    texts(wrong);
+    figures(wrong);
+    if !wrong {
+        outside();
+    }
+}
+
+fn rules(wrong: bool) {
+    exact(wrong, b"wrong_rules_log.txt", Function::Log);
+    exact(wrong, b"wrong_rules_antilog.txt", Function::Antilog);
+    exact(wrong, b"wrong_rules_power.txt", Function::Power);
+    exact(wrong, b"wrong_rules_exp.txt", Function::Exp);
+    exact(wrong, b"wrong_rules_ln.txt", Function::Ln);
+    exact(wrong, b"wrong_rules_sqrt.txt", Function::Sqrt);
+}
+
+fn truths(wrong: bool) {
+    ends(wrong, b"wrong_true_log.txt", Function::Log);
+    ends(wrong, b"wrong_true_antilog.txt", Function::Antilog);
+    ends(wrong, b"wrong_true_power.txt", Function::Power);
+    ends(wrong, b"wrong_true_exp.txt", Function::Exp);
+    ends(wrong, b"wrong_true_ln.txt", Function::Ln);
+    ends(wrong, b"wrong_true_sqrt.txt", Function::Sqrt);
+}
+
+fn sources(wrong: bool) {
+    source(wrong, b"wrong_source_layers.txt", Part::Layers);
+    source(wrong, b"wrong_source_humid.txt", Part::Humid);
+    source(wrong, b"wrong_source_station.txt", Part::Station);
+    source(wrong, b"wrong_source_altitudes.txt", Part::Altitudes);
+    source(wrong, b"wrong_source_inverse.txt", Part::Inverse);
+}
+
+fn masts(wrong: bool) {
+    mast(wrong, b"wrong_records.txt", Mast::Records);
+    mast(wrong, b"wrong_strict.txt", Mast::Strict);
+    mast(wrong, b"wrong_votes.txt", Mast::Votes);
+    mast(wrong, b"wrong_trims.txt", Mast::Trims);
+}
+
+fn texts(wrong: bool) {
+    text(wrong, b"wrong_writes.txt", Text::Writes);
+    text(wrong, b"wrong_conversions.txt", Text::Conversions);
+    text(wrong, b"wrong_sheets.txt", Text::Sheets);
+    text(wrong, b"wrong_decimals.txt", Text::Decimals);
+    text(wrong, b"wrong_reports.txt", Text::Reports);
+    text(wrong, b"wrong_words.txt", Text::Words);
+}
+
+fn figures(wrong: bool) {
+    ends(wrong, b"wrong_published.txt", Function::Figure);
+    ends(wrong, b"wrong_round_trips.txt", Function::Figure);
+}
+
+// Lists that have none of wrong lines.
+fn outside() {
     replay(b"outside_saturation.txt", List::Ends(Function::Figure));
     replay(b"outside_density.txt", List::Ends(Function::Figure));
     replay(b"outside_sound.txt", List::Ends(Function::Figure));
     replay(b"outside_layers.txt", List::Ends(Function::Figure));
-    replay_wrong();
 }
 
-// Lists of wrong lines: each line differs.
-fn replay_wrong() {
-    replay(b"wrong_rules_log.txt", List::Exact(Function::Log));
-    replay(b"wrong_rules_antilog.txt", List::Exact(Function::Antilog));
-    replay(b"wrong_rules_power.txt", List::Exact(Function::Power));
-    replay(b"wrong_rules_exp.txt", List::Exact(Function::Exp));
-    replay(b"wrong_rules_ln.txt", List::Exact(Function::Ln));
-    replay(b"wrong_rules_sqrt.txt", List::Exact(Function::Sqrt));
-    replay(b"wrong_true_log.txt", List::Ends(Function::Log));
-    replay(b"wrong_true_antilog.txt", List::Ends(Function::Antilog));
-    replay(b"wrong_true_power.txt", List::Ends(Function::Power));
-    replay(b"wrong_true_exp.txt", List::Ends(Function::Exp));
-    replay(b"wrong_true_ln.txt", List::Ends(Function::Ln));
-    replay(b"wrong_true_sqrt.txt", List::Ends(Function::Sqrt));
-    replay(b"wrong_source_layers.txt", List::Source(Part::Layers));
-    replay(b"wrong_source_humid.txt", List::Source(Part::Humid));
-    replay(b"wrong_source_station.txt", List::Source(Part::Station));
-    replay(b"wrong_source_altitudes.txt", List::Source(Part::Altitudes));
-    replay(b"wrong_source_inverse.txt", List::Source(Part::Inverse));
-    replay(b"wrong_records.txt", List::Case(Kind::Records));
-    replay(b"wrong_strict.txt", List::Case(Kind::Strict));
-    replay(b"wrong_votes.txt", List::Case(Kind::Votes));
-    replay(b"wrong_trims.txt", List::Case(Kind::Trims));
-    replay(b"wrong_writes.txt", List::Case(Kind::Writes));
-    replay(b"wrong_conversions.txt", List::Case(Kind::Conversions));
-    replay(b"wrong_sheets.txt", List::Case(Kind::Sheets));
-    replay(b"wrong_decimals.txt", List::Case(Kind::Decimals));
-    replay(b"wrong_reports.txt", List::Case(Kind::Reports));
-    replay(b"wrong_words.txt", List::Case(Kind::Words));
-    replay(b"wrong_published.txt", List::Ends(Function::Figure));
-    replay(b"wrong_round_trips.txt", List::Ends(Function::Figure));
+fn exact(wrong: bool, name: &[u8], function: Function)
+    requires { ⌜ 6 ≤ length (now name) ⌝ }
+{
+    replay_one(wrong, name, List::Exact(function));
+}
+
+fn ends(wrong: bool, name: &[u8], function: Function)
+    requires { ⌜ 6 ≤ length (now name) ⌝ }
+{
+    replay_one(wrong, name, List::Ends(function));
+}
+
+fn source(wrong: bool, name: &[u8], part: Part)
+    requires { ⌜ 6 ≤ length (now name) ⌝ }
+{
+    replay_one(wrong, name, List::Source(part));
+}
+
+fn mast(wrong: bool, name: &[u8], mast: Mast)
+    requires { ⌜ 6 ≤ length (now name) ⌝ }
+{
+    replay_one(wrong, name, List::Mast(mast));
+}
+
+fn text(wrong: bool, name: &[u8], text: Text)
+    requires { ⌜ 6 ≤ length (now name) ⌝ }
+{
+    replay_one(wrong, name, List::Text(text));
+}
+
+// `name` is that of the list of wrong lines: after its first six bytes, `wrong_`, it is the other's.
+fn replay_one(wrong: bool, name: &[u8], list: List)
+    requires { ⌜ 6 ≤ length (now name) ⌝ }
+{
+    if wrong {
+        replay(name, list);
+    } else {
+        replay(&name[6..], list);
+    }
 }
 
 // Prints what came of one list. Where it cannot be opened, that is printed, and the run goes on.

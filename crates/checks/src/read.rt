@@ -3,16 +3,15 @@
 ghost use mathlib.Core.Path.{_≡_};
 ghost use Prim.Native.Nat.{_+_, _*_, _≤_};
 ghost use lib.ListN.{length};
-use lines::line::first_word;
-use lines::line::read_bytes;
-use lines::line::read_words;
-use lines::tally::Outcome;
+use line_reader::first_word;
+use line_reader::read_bytes;
+use line_reader::read_words;
 use replay::list::List;
+use replay::list::Shape;
 use replay::list::WORDS;
 use replay::list::agrees;
-use replay::list::lengths;
-use replay::list::strings;
-use replay::list::words;
+use replay::list::shape_of;
+use tally::Outcome;
 
 // The most bytes that the lines of bytes of a case have together.
 const BYTES: usize = 2048;
@@ -35,18 +34,19 @@ fn outcome_in(fd: i32, list: List, line: &mut [u8], found: &mut [u64]) -> Outcom
     if head != 17 {
         return Outcome::Differs;
     }
-    let count = words(list, first_word(line));
-    if line_agrees(fd, list, count, line, found) {
+    let shape = shape_of(list, first_word(line));
+    if line_agrees(fd, list, shape, line, found) {
         Outcome::Agrees
     } else {
         Outcome::Differs
     }
 }
 
-// Reads the rest of a line of `count` words, of which the first is there.
-fn line_agrees(fd: i32, list: List, count: usize, line: &mut [u8], found: &mut [u64]) -> bool
+// Reads the rest of a line of words, of which the first is there.
+fn line_agrees(fd: i32, list: List, shape: Shape, line: &mut [u8], found: &mut [u64]) -> bool
     requires { ⌜ length (now line) ≡ 17 * length (now found) ⌝ }
 {
+    let count = shape.words;
     if count < 1 {
         return false;
     }
@@ -63,18 +63,25 @@ fn line_agrees(fd: i32, list: List, count: usize, line: &mut [u8], found: &mut [
     }
     let mut bytes = [0u8; BYTES];
     let mut digits = [0u8; 2 * BYTES + 1];
-    case_agrees(fd, list, &found[..count], &mut bytes, &mut digits)
+    case_agrees(fd, list, shape, &found[..count], &mut bytes, &mut digits)
 }
 
 // Reads the lines of bytes that follow a line's words, and compares the case. All of them are read, also
 // where one is out of form.
-fn case_agrees(fd: i32, list: List, words: &[u64], bytes: &mut [u8], digits: &mut [u8]) -> bool
+fn case_agrees(
+    fd: i32,
+    list: List,
+    shape: Shape,
+    words: &[u64],
+    bytes: &mut [u8],
+    digits: &mut [u8],
+) -> bool
     requires { ⌜ length (now digits) ≡ 2 * length (now bytes) + 1 ⌝ }
 {
     let mut all = true;
     let mut at = 0;
-    let mut i = lengths(list);
-    let mut left = strings(list);
+    let mut i = shape.lengths;
+    let mut left = shape.strings;
     while left > 0 {
         if words.len() <= i {
             return false;
@@ -87,13 +94,18 @@ fn case_agrees(fd: i32, list: List, words: &[u64], bytes: &mut [u8], digits: &mu
         let n = count as usize;
         let end = at + n;
         let width = 2 * n + 1;
-        if io::read_full(fd, &mut digits[..width]) != width {
-            return false;
-        }
-        all = all & read_bytes(&digits[..width], &mut bytes[at..end]);
+        all = all & string_read(fd, &mut digits[..width], &mut bytes[at..end]);
         at = end;
         i += 1;
         left -= 1;
     }
     all & agrees(list, words, &bytes[..at])
+}
+
+// Reads a line of digits into `digits`, and the bytes that it spells into `bytes`.
+fn string_read(fd: i32, digits: &mut [u8], bytes: &mut [u8]) -> bool {
+    if io::read_full(fd, digits) != digits.len() {
+        return false;
+    }
+    read_bytes(digits, bytes)
 }

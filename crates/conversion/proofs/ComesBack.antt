@@ -8,7 +8,7 @@ use lib.ListN.{length, take, drop, length-drop, take-append-drop}
 use Rattle.refusal.specs.Outcomes.{accepted, _then_}
 use Rattle.refusal.specs.Causes.{NoneHolds}
 use Rattle.refusal.proofs.Rows.{then-none, then-accepted, none-both}
-use Rattle.record.specs.Fields.{sizeOf}
+use Rattle.fields.specs.Fields.{sizeOf}
 use Rattle.record.specs.Readings.{readRows}
 use Rattle.writer.specs.Laws.{AreBytes}
 use Rattle.conversion.specs.Conversion.{fieldIn, splitFrom, fieldsOf, fieldsIn, recordIn, countRows, converted}

@@ -9,11 +9,11 @@ use lib.Ieee.Bits.{ofBits-fits}
 use lib.ListN.{length, take}
 use lib.Seq.{take-all}
 use Rattle.refusal.specs.Causes.{NoneHolds}
-use Rattle.record.specs.declared.fields.Value.{Value}
-use Rattle.record.specs.declared.fields.Value.the-variants.{Double, Count}
-use Rattle.record.specs.Bytes.{wordAt, doubleAt}
-use Rattle.record.specs.Fields.{meanings, isCountTag, isTag, meaningOf, tagIn, isCount, doubleOf, tagOf, sizeOf, valueOf, headRows}
-use Rattle.record.proofs.Forms.{tag-known, tag-meaning}
+use Rattle.fields.specs.declared.fields.Value.{Value}
+use Rattle.fields.specs.declared.fields.Value.the-variants.{Double, Count}
+use Rattle.fields.specs.Bytes.{wordAt, doubleAt}
+use Rattle.fields.specs.Fields.{meanings, isCountTag, isTag, meaningOf, tagIn, isCount, doubleOf, tagOf, sizeOf, valueOf, headRows}
+use Rattle.fields.proofs.Forms.{tag-known, tag-meaning}
 use Rattle.writer.specs.Records.{fieldWith, hasForm}
 use Rattle.writer.specs.Laws.{AreBytes, IsHeld}
 use Rattle.writer.proofs.Spelled.{word-lt}

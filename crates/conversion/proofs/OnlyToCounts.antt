@@ -8,10 +8,10 @@ use lib.Dec.{ltb}
 use lib.Ieee.{Float}
 use lib.ListN.{length, drop}
 use Rattle.refusal.specs.Outcomes.{Outcome, accepted, refused, _⟫_, Row, _then_}
-use Rattle.record.specs.declared.fields.Value.{Value}
-use Rattle.record.specs.declared.fields.Value.the-variants.{Double, Count}
+use Rattle.fields.specs.declared.fields.Value.{Value}
+use Rattle.fields.specs.declared.fields.Value.the-variants.{Double, Count}
 use Rattle.record.specs.declared.readings.Readings.{Readings}
-use Rattle.record.specs.Fields.{meaningOf, tagOf, sizeOf, valueOf, field, headRows}
+use Rattle.fields.specs.Fields.{meaningOf, tagOf, sizeOf, valueOf, field, headRows}
 use Rattle.record.specs.Readings.{noReadings, noted, orderRows, rowsFrom, readRows}
 use Rattle.writer.specs.Written.{lengthWritten}
 use Rattle.conversion.specs.Conversion.{turned, hasNoCount, fieldsOf, recordIn, countRows, converted}

@@ -8,7 +8,7 @@ use lib.ListN.{length, take, drop, length-drop}
 use lib.Seq.{drop-drop, length-take-le}
 use Rattle.refusal.specs.Outcomes.{Row}
 use Rattle.refusal.specs.Causes.{NoneHolds}
-use Rattle.record.specs.Fields.{sizeOf, headRows, nextAt}
+use Rattle.fields.specs.Fields.{sizeOf, headRows, nextAt}
 use Rattle.conversion.specs.Conversion.{fieldsOf}
 use Rattle.conversion.proofs.Split.{split-step, first-rows, Whole, none, more}
 

@@ -12,9 +12,9 @@ use Rattle.refusal.specs.Causes.{NoneHolds}
 use Rattle.refusal.proofs.Rows.{none-before, none-after}
 use Rattle.record.specs.declared.readings.Stored.the-variants.{Present}
 use Rattle.record.specs.declared.readings.Readings.{Readings}
-use Rattle.record.specs.Fields.{meanings, dataSize, tagOf, sizeOf, field, headRows}
+use Rattle.fields.specs.Fields.{meanings, dataSize, tagOf, sizeOf, field, headRows}
 use Rattle.record.specs.Readings.{slotOf, noReadings, noted, orderRows, rowsFrom, readRows}
-use Rattle.record.proofs.Forms.{at-most}
+use Rattle.fields.proofs.Forms.{at-most}
 use Rattle.record.proofs.Walk.{fieldRows}
 use Rattle.record.proofs.Entries.{is-new}
 use Rattle.record.proofs.Followed.{same-rows, same-field}

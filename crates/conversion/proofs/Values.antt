@@ -12,9 +12,9 @@ use Rattle.thousandths.specs.declared.Counted.the-variants as found
 use Rattle.thousandths.specs.Thousandths.{countOf, wordOf, thousandths, countFor}
 use Rattle.thousandths.proofs.Words.{twos-complement}
 use Rattle.thousandths.proofs.Laws.{thousandths-fits, count-of-double, double-of-count}
-use Rattle.record.specs.declared.fields.Value.{Value}
-use Rattle.record.specs.declared.fields.Value.the-variants.{Double, Count}
-use Rattle.record.specs.Fields.{tagIn, isCount, doubleOf}
+use Rattle.fields.specs.declared.fields.Value.{Value}
+use Rattle.fields.specs.declared.fields.Value.the-variants.{Double, Count}
+use Rattle.fields.specs.Fields.{tagIn, isCount, doubleOf}
 use Rattle.writer.specs.Laws.{IsHeld, NotNan}
 use Rattle.conversion.specs.declared.Turned.the-variants.{Kept, Other}
 use Rattle.conversion.specs.Conversion.{counted, turned}

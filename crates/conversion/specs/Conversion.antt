@@ -8,9 +8,9 @@ use Rattle.refusal.specs.Outcomes.{Outcome, accepted, refused, _⟫_, Row, row,
 use Rattle.thousandths.specs.declared.Counted.{Counted}
 use Rattle.thousandths.specs.declared.Counted.the-variants as found
 use Rattle.thousandths.specs.Thousandths.{countOf, wordOf, thousandths, countFor}
-use Rattle.record.specs.declared.fields.Value.{Value}
-use Rattle.record.specs.declared.fields.Value.the-variants.{Double, Count}
-use Rattle.record.specs.Fields.{meaningOf, tagIn, dataSize, tagOf, sizeOf, valueOf}
+use Rattle.fields.specs.declared.fields.Value.{Value}
+use Rattle.fields.specs.declared.fields.Value.the-variants.{Double, Count}
+use Rattle.fields.specs.Fields.{meaningOf, tagIn, dataSize, tagOf, sizeOf, valueOf}
 use Rattle.record.specs.Readings.{readRows}
 use Rattle.writer.specs.Records.{fieldWith}
 use Rattle.writer.specs.Written.{lengthWritten, overwritten}

@@ -6,7 +6,7 @@ use mathlib.Core.List.{List, [], _∷_}
 use lib.Ieee.{Float}
 use Rattle.refusal.specs.Outcomes.{accepted, refused}
 use Rattle.record.specs.declared.readings.Readings.{Readings}
-use Rattle.record.specs.Fields.{isCountTag, tagOf}
+use Rattle.fields.specs.Fields.{isCountTag, tagOf}
 use Rattle.record.specs.Readings.{entryOf, readRecord}
 use Rattle.writer.specs.Laws.{AreBytes}
 use Rattle.conversion.specs.Conversion.{fieldsOf, converted, lengthConverted}

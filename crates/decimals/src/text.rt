@@ -6,8 +6,8 @@ ghost use Rattle.decimals.specs.Decimal.{lastDigits, digits, pointed, co
 ghost use Rattle.decimals.specs.Places.{inSixteen, Before};
 use super::count::nearest_count;
 use super::count::power_of_ten;
-use elementary::nearest::Parts;
-use elementary::nearest::take_apart;
+use rounding::nearest::Parts;
+use rounding::nearest::take_apart;
 
 // The last `len` of the bytes are the text and the others are blanks. A text of more than sixteen bytes
 // has a `len` of seventeen, and blanks only.

@@ -14,9 +14,9 @@ use Rattle.elementary.proofs.Sums.{add-rises, sub-falls, sub-rises}
 use Rattle.elementary.proofs.Products.{mul-rises, mul-by-rises, div-rises}
 use Rattle.atmosphere.specs.declared.station.Reading.{Reading}
 use Rattle.atmosphere.specs.declared.station.Reading.the-variants.{Given, FromLayer}
-use Rattle.humid_air.specs.Doubles.{isFinite}
-use Rattle.atmosphere.specs.Altitudes.{foot, seaLevelFahrenheit, standardFahrenheit}
-use Rattle.atmosphere.proofs.AltitudeOrder.{Falls, standard-falls}
+use Rattle.doubles.specs.Doubles.{isFinite}
+use Rattle.altitudes.specs.Altitudes.{foot, seaLevelFahrenheit, standardFahrenheit}
+use Rattle.altitudes.proofs.AltitudeOrder.{Falls, standard-falls}
 use Rattle.density_altitude.specs.Inverse.{fahrenheit, correction, steepness, pressureAltitudeFeet, stationCelsius, nwsBase, nwsReciprocal, nwsPressure}
 
 -- ---- the correction for a temperature

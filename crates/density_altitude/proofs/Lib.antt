@@ -1,11 +1,2 @@
--- The laws of the definitions, a file for each idea.
+-- The laws of the definitions.
 pub mod Figures
-pub mod Accepted
-pub mod Heights
-pub mod Between
-pub mod Warmer
-pub mod PressuresApart
-pub mod Spread
-pub mod Demand
-pub mod Owned
-pub mod Rejected

@@ -12,9 +12,9 @@ use Rattle.elementary.specs.Exponents.{Exponent, ofDouble, nwsExponent}
 use Rattle.elementary.specs.Power.{power}
 use Rattle.atmosphere.specs.declared.station.Reading.{Reading}
 use Rattle.atmosphere.specs.declared.station.Reading.the-variants.{Given, FromLayer}
-use Rattle.humid_air.specs.Doubles.{isFinite}
+use Rattle.doubles.specs.Doubles.{isFinite}
 use Rattle.atmosphere.specs.Station.{standardPressure}
-use Rattle.atmosphere.specs.Altitudes.{foot, nwsFeet, seaLevelFahrenheit, thousand, fahrenheitPerThousandFeet, feetPerDegree, standardFahrenheit}
+use Rattle.altitudes.specs.Altitudes.{foot, nwsFeet, seaLevelFahrenheit, thousand, fahrenheitPerThousandFeet, feetPerDegree, standardFahrenheit}
 use Rattle.density_altitude.specs.declared.inverse.Station.{Station}
 use Rattle.density_altitude.specs.declared.inverse.Answer.{Answer}
 use Rattle.density_altitude.specs.declared.inverse.Answer.the-variants as answer

@@ -1,4 +1,2 @@
-// The station with a given density altitude, and what engineers may rely on between such stations.
+// The station with a given density altitude.
 pub mod inverse;
-pub mod order;
-pub mod warmth;

@@ -9,7 +9,7 @@ use lib.IntN.{ℤ}
 use lib.Dec.{T, eqb·suc-zero}
 use lib.Ieee.{Float, nan, inf, fin, binary64, up, down, round, sum, neg, add, sub, mul, div, lt}
 use lib.Ieee.Fits.{up-pos, down-pos, neg-fits}
-use Rattle.elementary.specs.Nearest.{unitsOf}
+use Rattle.rounding.specs.Nearest.{unitsOf}
 use Rattle.elementary.proofs.CommonDenominator.{above, beneath}
 use Rattle.elementary.proofs.Sums.{sum-is, add-counts, add-comm-double}
 use Rattle.elementary.proofs.Products.{unlike-plus, scaled}

@@ -13,9 +13,9 @@ use lib.Ieee.Fits.{round-fits, mul-fits}
 use lib.Ieee.Exact.{HasValue, round-exact}
 use lib.Ieee.Order.{round-mono}
 use lib.Ieee.Positive.{positive-of-value, values-of-le, mul-at}
-use Rattle.elementary.proofs.Order.{numbers-of-le, le-trans-double}
-use Rattle.elementary.proofs.Units.{split-power}
-use Rattle.elementary.proofs.Strict.{less-of-not-le}
+use Rattle.rounding.proofs.Order.{numbers-of-le, le-trans-double}
+use Rattle.rounding.proofs.Units.{split-power}
+use Rattle.rounding.proofs.Strict.{less-of-not-le}
 use Rattle.elementary.proofs.Products.{mul-by-rises}
 
 -- n / 2 ^ j, which is a double for an n of 53 digits

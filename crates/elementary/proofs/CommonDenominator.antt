@@ -11,11 +11,11 @@ use lib.Signed.{_≤ℤ_}
 use lib.Ieee.{Float, nan, inf, fin, binary64, round, neg, fits, le}
 use lib.Ieee.Order.{round-mono}
 use lib.Ieee.Scale.{round-same}
-use Rattle.elementary.specs.Whole.{signed}
-use Rattle.elementary.specs.Nearest.{unitsOf}
-use Rattle.elementary.proofs.Integers.{le-of-pos, not-below-neg, le-of-opposites}
-use Rattle.elementary.proofs.Order.{count-of-le, number, unsigned, unsigned-cases, lowest, highest, ordered-cases, neg-below-unsigned, neg-turns}
-use Rattle.elementary.proofs.Rounding.{round-opposite, round-unsigned}
+use Rattle.rounding.specs.Whole.{signed}
+use Rattle.rounding.specs.Nearest.{unitsOf}
+use Rattle.rounding.proofs.Integers.{le-of-pos, not-below-neg, le-of-opposites}
+use Rattle.rounding.proofs.Order.{count-of-le, number, unsigned, unsigned-cases, lowest, highest, ordered-cases, neg-below-unsigned, neg-turns}
+use Rattle.rounding.proofs.Rounding.{round-opposite, round-unsigned}
 use Rattle.elementary.proofs.Rises.{Rises}
 
 -- ---- ±a against ±b, over natural numbers: what is above zero, and what below

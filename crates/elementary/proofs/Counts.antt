@@ -11,11 +11,11 @@ use lib.Signed.{_≤ℤ_}
 use lib.Ieee.{Float, nan, inf, fin, binary64, neg, fits, lt, le}
 use lib.Ieee.Fits.{neg-fits}
 use lib.Ieee.Scale.{finite}
-use Rattle.elementary.specs.Whole.{signed}
-use Rattle.elementary.specs.Nearest.{unitsOf}
-use Rattle.elementary.proofs.Integers.{pos-le, neg-below, opposites}
-use Rattle.elementary.proofs.Order.{count, count-of-le, le-of-count}
-use Rattle.elementary.proofs.Strict.{less-of-not-le}
+use Rattle.rounding.specs.Whole.{signed}
+use Rattle.rounding.specs.Nearest.{unitsOf}
+use Rattle.rounding.proofs.Integers.{pos-le, neg-below, opposites}
+use Rattle.rounding.proofs.Order.{count, count-of-le, le-of-count}
+use Rattle.rounding.proofs.Strict.{less-of-not-le}
 use Rattle.elementary.proofs.CommonDenominator.{above, beneath, AtMost, at-most}
 
 -- ---- what is above zero, and what below

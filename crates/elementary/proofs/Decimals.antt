@@ -12,9 +12,9 @@ use lib.Ieee.Digits.{size-lt, size-reaches}
 use lib.Ieee.Nearest.{closest}
 use borrow.Author.Tests.{le-leb, lt-leb}
 use Rattle.elementary.specs.Decimals.{fraction, digits, pattern, nearestTo, decimal}
-use Rattle.elementary.proofs.Rounding.{odd-opposite, round-opposite}
-use Rattle.elementary.proofs.Pattern.{size-is, round-bits}
-use Rattle.elementary.proofs.Size.{size-pos}
+use Rattle.rounding.proofs.Rounding.{odd-opposite, round-opposite}
+use Rattle.rounding.proofs.Pattern.{size-is, round-bits}
+use Rattle.rounding.proofs.Size.{size-pos}
 
 -- ---- the digits are counted right
 -- those above the lowest s, and these

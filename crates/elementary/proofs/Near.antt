@@ -14,9 +14,9 @@ use lib.Ieee.Fits.{down-pos, round-fits}
 use lib.Ieee.Exact.{HasValue}
 use lib.Ieee.Order.{drop, kept}
 use lib.Ieee.Scale.{finite, grid, round-val}
-use Rattle.elementary.specs.Nearest.{unitsOf}
-use Rattle.elementary.proofs.Closest.{closest-at-most, closest-at-least}
-use Rattle.elementary.proofs.Rounding.{round-opposite}
+use Rattle.rounding.specs.Nearest.{unitsOf}
+use Rattle.rounding.proofs.Closest.{closest-at-most, closest-at-least}
+use Rattle.rounding.proofs.Rounding.{round-opposite}
 use Rattle.elementary.proofs.CommonDenominator.{above, beneath}
 use Rattle.elementary.proofs.Counts.{over, under, Small}
 

@@ -8,8 +8,8 @@ use lib.Ieee.{Float, nan, inf, fin, neg, odd}
 use lib.Ieee.Bits.{is-true}
 use Rattle.elementary.specs.Exponents.{Exponent, exponentAt, isThree, isFour}
 use Rattle.elementary.specs.Power.{positivePower, infinityOrZero, power, powerAt}
-use Rattle.elementary.proofs.Parts.{finite-of-parts}
-use Rattle.elementary.proofs.Rounding.{odd-opposite}
+use Rattle.rounding.proofs.Parts.{finite-of-parts}
+use Rattle.rounding.proofs.Rounding.{odd-opposite}
 
 pub infinite-three : (p : ℕ) (e : Exponent) → isThree e ≡ true → inf true ≡ power p e (inf true)
 unfolding power

@@ -9,16 +9,17 @@ use lib.IntN.{ℤ, pos, _*ℤ_}
 use lib.Dec.{T, lit<}
 use lib.Pow.{pow-pos, pow-lt, pow-mono, pow-add}
 use lib.Ieee.{fin, binary64, round, minus, fits}
-use Rattle.elementary.specs.Whole.{floorDiv}
-use Rattle.elementary.specs.Nearest.{unitsOf}
-use Rattle.elementary.specs.Log.{logWord}
-use Rattle.elementary.specs.Antilog.{antilogRoot, antilog}
+use Rattle.rounding.specs.Whole.{floorDiv}
+use Rattle.rounding.specs.Nearest.{unitsOf}
+use Rattle.antilog.specs.Log.{logWord}
+use Rattle.antilog.specs.Antilog.{antilogRoot, antilog}
 use Rattle.elementary.specs.Exponents.{Exponent}
 use Rattle.elementary.specs.Power.{power}
 use Rattle.estimate.proofs.Powers.{pow-product, pow-power, pow-scaled, two-each-le-next, next-le-two-each, lt-of-powers, lt-of-exponents}
-use Rattle.elementary.proofs.Range.{antilogRoot-mantissa}
-use Rattle.elementary.proofs.Distance.{antilogRoot-below, antilogRoot-above, NearLog, near-log}
-use Rattle.elementary.proofs.Differences.{minus-same, minus-times, floor-minus, scaledRoot, antilog-minus}
+use Rattle.antilog.proofs.Range.{antilogRoot-mantissa}
+use Rattle.antilog.proofs.Distance.{antilogRoot-below, antilogRoot-above, NearLog, near-log}
+use Rattle.rounding.proofs.Differences.{minus-same, minus-times, floor-minus}
+use Rattle.antilog.proofs.OneFraction.{scaledRoot, antilog-minus}
 use Rattle.elementary.proofs.Between.{Parted, round-parted}
 
 -- ---- the words: Y is 1 + 1 / n times X or more, and both are raised to the power n * D

@@ -12,18 +12,18 @@ use lib.Pow.{pow-pos}
 use lib.Ieee.{Float, nan, inf, fin, binary64, up, down, neg, fits, le}
 use lib.Ieee.Fits.{round-fits, cond-fits, neg-fits}
 use lib.Ieee.Positive.{above-of-le}
-use Rattle.elementary.specs.Whole.{signed, floorDiv, floorMod}
-use Rattle.elementary.specs.Nearest.{nearestRatio}
-use Rattle.elementary.specs.Log.{logWord}
-use Rattle.elementary.specs.Antilog.{antilogRoot, antilog}
+use Rattle.rounding.specs.Whole.{signed, floorDiv, floorMod}
+use Rattle.rounding.specs.Nearest.{nearestRatio}
+use Rattle.antilog.specs.Log.{logWord}
+use Rattle.antilog.specs.Antilog.{antilogRoot, antilog}
 use Rattle.elementary.specs.Exponents.{Exponent, exponentAt, isThree, isFour}
 use Rattle.elementary.specs.Power.{positivePower, infinityOrZero, power, powerAt}
 use Rattle.elementary.specs.Ln.{ln2, ln}
-use Rattle.elementary.proofs.Integers.{le-of-pos, times-mono, times-anti, floorDiv-mono}
-use Rattle.elementary.proofs.Order.{count-of-le, number, numbers-of-le, unsigned, lowest, highest, zero-below, below-infinity, neg-below-unsigned, neg-turns, le-trans-double}
-use Rattle.elementary.proofs.Rounding.{round-unsigned, ratio-mono}
+use Rattle.rounding.proofs.Integers.{le-of-pos, times-mono, times-anti, floorDiv-mono}
+use Rattle.rounding.proofs.Order.{count-of-le, number, numbers-of-le, unsigned, lowest, highest, zero-below, below-infinity, neg-below-unsigned, neg-turns, le-trans-double}
+use Rattle.rounding.proofs.Rounding.{round-unsigned, ratio-mono}
 use Rattle.elementary.proofs.PowerCases.{in-table}
-use Rattle.elementary.proofs.Ordered.{wordOfUnits-mono, antilog-mono}
+use Rattle.antilog.proofs.Ordered.{wordOfUnits-mono, antilog-mono}
 
 -- ---- the log word
 pub logWord-rises : (p m n : ℕ) (e d : ℤ) → T (fits binary64 (fin false (suc m) e)) → T (fits binary64 (fin false (suc n) d)) → T (le (fin false (suc m) e) (fin false (suc n) d))

@@ -10,8 +10,8 @@ use lib.Pow.{pow-pos}
 use lib.Ieee.{Float, nan, inf, fin, binary64, up, down, round, sum, add, sub, neg, fits, le}
 use lib.Ieee.Fits.{down-pos, neg-fits}
 use lib.Ieee.Scale.{round-same}
-use Rattle.elementary.specs.Nearest.{unitsOf}
-use Rattle.elementary.proofs.Order.{units-exact, number, neg-turns}
+use Rattle.rounding.specs.Nearest.{unitsOf}
+use Rattle.rounding.proofs.Order.{units-exact, number, neg-turns}
 use Rattle.elementary.proofs.Rises.{Rises}
 use Rattle.elementary.proofs.CommonDenominator.{above, beneath, AtMost, round-order, round-number, by-counts}
 

@@ -3,9 +3,9 @@ use Prim.Native.Nat.{ℕ, zero, suc, _^_}
 use mathlib.Core.Bool.{true, false}
 use lib.IntN.{pos, _*ℤ_}
 use lib.Ieee.{Float, nan, inf, fin, round}
-use Rattle.elementary.specs.Whole.{floorDiv}
-use Rattle.elementary.specs.Nearest.{nearestRatio}
-use Rattle.elementary.specs.Log.{logWord, wordOfUnits}
+use Rattle.rounding.specs.Whole.{floorDiv}
+use Rattle.rounding.specs.Nearest.{nearestRatio}
+use Rattle.antilog.specs.Log.{logWord, wordOfUnits}
 
 -- ln 2, times 2^62
 abbrev pub ln2 : ℕ

@@ -1,10 +1,7 @@
-// exp, ln, power and square root of a double by whole-number rules, so that every answer has one
-// fixed bit pattern.
-pub mod antilog;
+// The log word, power, exp and ln of a double by whole-number rules, so that every answer has one fixed
+// bit pattern.
 pub mod exp;
 pub mod ln;
 pub mod log;
-pub mod nearest;
+mod multiples;
 pub mod power;
-pub mod sqrt;
-pub mod word;

@@ -4,36 +4,20 @@ ghost use mathlib.Core.Bool.{false};
 ghost use Prim.Native.Nat.{_+_, _*_, _^_, _≤_, _<_};
 ghost use lib.IntN.{pos};
 ghost use lib.Ieee.{odd};
-ghost use Rattle.elementary.specs.Whole.{wordValue};
-ghost use Rattle.elementary.specs.Nearest.{nearestRatio};
-ghost use Rattle.elementary.specs.Parts.{Digits};
+ghost use Rattle.rounding.specs.Whole.{wordValue};
+ghost use Rattle.rounding.specs.Nearest.{nearestRatio};
+ghost use Rattle.rounding.specs.Parts.{Digits};
 ghost use Rattle.elementary.specs.Ln.{lnPositive, ln};
-ghost use Rattle.elementary.specs.Places.{places};
+ghost use Rattle.rounding.specs.Places.{places};
 use super::log::log_of_digits;
-use super::nearest::Parts;
-use super::nearest::nearest_wide_quotient;
-use super::nearest::take_apart;
-use super::word::PLACES;
-use super::word::WHOLE;
-use super::word::Word;
-use super::word::times;
-use wide::words::Wide;
-use wide::words::product;
-use wide::words::sum;
+use super::multiples::times;
+use rounding::nearest::Parts;
+use rounding::nearest::nearest_to_digits;
+use rounding::nearest::take_apart;
+use rounding::word::Word;
 
 // ln 2, times 2^62
 const LN_2: u64 = 0x2c5c_85fd_f473_de6a;
-
-const DIGITS: u64 = PLACES as u64;
-
-// The double nearest to whole + part / 2^60. The two together can pass 64 bits.
-fn nearest_to_digits(whole: u32, part: u64) -> f64
-    requires { ⌜ (whole < 2 ^ 11) × (part ≤ 2 ^ places) ⌝ }
-    ensures { λ r. ⌜ r ≡ nearestRatio (pos (whole * 2 ^ places + part)) (2 ^ places) ⌝ }
-{
-    let digits = sum(product(whole as u64, WHOLE), Wide { hi: 0, lo: part });
-    nearest_wide_quotient(digits.word, DIGITS)
-}
 
 // The double nearest to w / 2^60.
 fn nearest_to_word(w: Word) -> f64

@@ -2,22 +2,17 @@
 // repeated squaring.
 ghost use mathlib.Core.Path.{_≡_};
 ghost use Prim.Native.Nat.{_+_, _*_, _/_, _^_, _≤_, _<_};
-ghost use Rattle.elementary.specs.Whole.{asWord};
-ghost use Rattle.elementary.specs.Log.{logBits, wordOfUnits, logarithm};
-ghost use Rattle.elementary.specs.Parts.{Digits};
-ghost use Rattle.elementary.specs.Places.{places};
-use super::nearest::Parts;
-use super::nearest::take_apart;
-use super::word::ONES;
-use super::word::PLACES;
-use super::word::Word;
+ghost use Rattle.rounding.specs.Whole.{asWord};
+ghost use Rattle.antilog.specs.Log.{logBits, wordOfUnits, logarithm};
+ghost use Rattle.rounding.specs.Parts.{Digits};
+ghost use Rattle.rounding.specs.Places.{places};
+use rounding::nearest::Parts;
+use rounding::nearest::take_apart;
+use rounding::word::Logarithm;
+use rounding::word::ONES;
+use rounding::word::PLACES;
+use rounding::word::Word;
 use wide::words::product;
-
-// What `log_word` answers: the word of a positive finite double, and of no other.
-pub enum Logarithm {
-    Defined(Word),
-    Undefined,
-}
 
 // floor(m * m / 2^62).
 fn squared(m: u64) -> u64

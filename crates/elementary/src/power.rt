@@ -5,19 +5,18 @@ ghost use mathlib.Core.List.{[], _∷_};
 ghost use Prim.Native.Nat.{_<_};
 ghost use lib.IntN.{pos};
 ghost use lib.Ieee.{inf, fin, odd};
-ghost use Rattle.elementary.specs.Parts.{Digits};
+ghost use Rattle.rounding.specs.Parts.{Digits};
 ghost use Rattle.elementary.specs.Base.{Logged, IsBase};
 ghost use Rattle.elementary.specs.Exponents.{exponentAt};
-ghost use Rattle.elementary.specs.Power.{positivePower, power, powerAt};
-ghost use Rattle.elementary.specs.Places.{places};
-use super::antilog::antilog;
+ghost use Rattle.elementary.specs.Power.{infinityOrZero, positivePower, power, powerAt};
+ghost use Rattle.rounding.specs.Places.{places};
 use super::log::log_of_digits;
-use super::nearest::Parts;
-use super::nearest::infinity_or_zero;
-use super::nearest::take_apart;
-use super::word::Word;
-use super::word::opposite;
-use super::word::times;
+use super::multiples::opposite;
+use super::multiples::times;
+use antilog::antilog::antilog;
+use rounding::nearest::Parts;
+use rounding::nearest::take_apart;
+use rounding::word::Word;
 
 // The exponents' magnitudes times 2^58, and which exponents are negative, by their numbers in
 // specs/Exponents.
@@ -85,6 +84,17 @@ const NEGATIVE: [bool; 27] = [
 const THREE: usize = 23;
 
 const FOUR: usize = 25;
+
+// Infinity, or +0 where zero is true.
+pub(crate) fn infinity_or_zero(zero: bool) -> f64
+    ensures { λ r. ⌜ r ≡ infinityOrZero zero ⌝ }
+{
+    if zero {
+        0.0
+    } else {
+        f64::from_bits(0x7FF0_0000_0000_0000)
+    }
+}
 
 fn magnitude(number: usize) -> u64
     requires { ⌜ number < 27 ⌝ }

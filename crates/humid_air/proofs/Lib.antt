@@ -1,3 +1,2 @@
 -- The laws of the definitions, a file for each idea.
-pub mod NotANumber
 pub mod Needed

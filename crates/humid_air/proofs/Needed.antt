@@ -6,8 +6,8 @@ use Prim.Native.Nat.{ℕ}
 use lib.Ieee.{Float, lt, eq, ofBits}
 use Rattle.elementary.specs.Decimals.{nought, hundred}
 use Rattle.elementary.specs.Operators.{_⊗_, _⊘_}
-use Rattle.humid_air.specs.Doubles.{clampDouble}
-use Rattle.humid_air.specs.Saturation.{saturationPressure}
+use Rattle.doubles.specs.Doubles.{clampDouble}
+use Rattle.saturation.specs.Saturation.{saturationPressure}
 use Rattle.humid_air.specs.MoistAir.{moleFraction, neededPressure}
 
 -- dry air has the same mole fraction at every saturation pressure

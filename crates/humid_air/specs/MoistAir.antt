@@ -7,8 +7,8 @@ use mathlib.Core.Bool.{cond}
 use lib.Ieee.{Float, lt, eq}
 use Rattle.elementary.specs.Decimals.{decimal, nought, one, hundred}
 use Rattle.elementary.specs.Operators.{_⊕_, _⊖_, _⊗_, _⊘_}
-use Rattle.humid_air.specs.Doubles.{maxDouble, clampDouble}
-use Rattle.humid_air.specs.Saturation.{coldest, saturationPressure}
+use Rattle.doubles.specs.Doubles.{maxDouble, clampDouble}
+use Rattle.saturation.specs.Saturation.{coldest, saturationPressure}
 
 -- ---- units: 0 °C in K
 abbrev pub icePoint : Float

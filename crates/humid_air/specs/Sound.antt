@@ -6,7 +6,7 @@ use lib.Ieee.{Float}
 use Rattle.elementary.specs.Decimals.{decimal, one}
 use Rattle.elementary.specs.Operators.{_⊕_, _⊖_, _⊗_}
 use Rattle.elementary.specs.Exponents.{Rd}
-use Rattle.elementary.specs.Sqrt.{sqrt}
+use Rattle.rounding.specs.Sqrt.{sqrt}
 use Rattle.humid_air.specs.MoistAir.{capped, moleFractionKelvin}
 
 -- γ = 1.4 (1 - 0.062 x_v)

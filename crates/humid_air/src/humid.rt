@@ -1,15 +1,12 @@
-// Humid air: the saturation pressure of water, the mole fraction of its vapour, the CIPM-2007 density
-// and the speed of sound.
+// Humid air: the mole fraction of water vapour, the CIPM-2007 density and the speed of sound.
 ghost use mathlib.Core.Path.{_≡_};
-ghost use Rattle.humid_air.specs.Saturation.{saturationPressure};
 ghost use Rattle.humid_air.specs.MoistAir.{enhancementFactor, moleFraction, capped, neededPressure, moleFractionOf, moleFractionAt, moleFractionCelsius, moleFractionKelvin, compressibilityFactor, molarMassRatio, airDensityAt, airDensity};
 ghost use Rattle.humid_air.specs.Sound.{soundSpeedAt, soundSpeed};
-ghost use Rattle.elementary.specs.Places.{places};
-use super::doubles::clamp;
-use super::doubles::max;
-use elementary::exp::exp;
-use elementary::power::five_powers;
-use elementary::sqrt::sqrt;
+ghost use Rattle.rounding.specs.Places.{places};
+use doubles::doubles::clamp;
+use doubles::doubles::max;
+use rounding::sqrt::sqrt;
+use saturation::saturation::enhanced_saturation_vapor_pressure;
 
 // dry air of the US Standard Atmosphere 1976: the specific gas constant, J/(kg K), and the
 // heat-capacity ratio
@@ -26,27 +23,6 @@ const M_V: f64 = 18.01528e-3;
 
 // the smallest normal double
 const MIN_POSITIVE: f64 = 2.2250738585072014e-308;
-
-// the Wagner-Pruss coefficients a1..a6
-const A: [f64; 6] = [
-    -7.85951783,
-    1.84408259,
-    -11.7866497,
-    22.6807411,
-    -15.9618719,
-    1.80122502,
-];
-
-// the numbers of the exponents 1.5, 3, 3.5, 4 and 7.5 in elementary's table
-const TO_1_5: usize = 22;
-
-const TO_3: usize = 23;
-
-const TO_3_5: usize = 24;
-
-const TO_4: usize = 25;
-
-const TO_7_5: usize = 26;
 
 // the enhancement factor's constants
 const F_ALPHA: f64 = 1.00062;
@@ -73,19 +49,6 @@ const C1: f64 = -2.376e-6;
 const D: f64 = 1.83e-11;
 
 const E: f64 = -0.765e-8;
-
-// The saturation pressure of water vapour, hPa, at a temperature in K: over liquid water at every
-// temperature, and NaN above the critical one.
-pub fn enhanced_saturation_vapor_pressure(t_k: f64) -> f64
-    ensures { λ r. ⌜ r ≡ saturationPressure places «t_k» ⌝ }
-{
-    let t_k_safe = max(t_k, 173.15);
-    let tau = 1.0 - t_k_safe / 647.096;
-    let to = five_powers(tau, TO_1_5, TO_3, TO_3_5, TO_4, TO_7_5);
-    let ln_p_ratio = (647.096 / t_k_safe)
-        * (A[0] * tau + A[1] * to[0] + A[2] * to[1] + A[3] * to[2] + A[4] * to[3] + A[5] * to[4]);
-    220640.0 * exp(ln_p_ratio)
-}
 
 // The enhancement factor of moist air, of a pressure in Pa and a temperature in degrees Celsius.
 pub fn enhanced_enhancement_factor(p: f64, t: f64) -> f64

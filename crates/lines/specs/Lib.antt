@@ -1,9 +1,7 @@
 -- What the contracts of `lines` cite.
 pub mod Matches
-pub mod Line
 pub mod Parts
 pub mod Buffer
 pub mod Doubles
 pub mod Whole
 pub mod Text
-pub mod Tally

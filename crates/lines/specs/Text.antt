@@ -8,7 +8,7 @@ use mathlib.Core.List.{List, [], _∷_, _++_}
 use lib.Dec.{ltb, eqb}
 use lib.ListN.{length, getD}
 use Rattle.lines.specs.Matches.{matches}
-use Rattle.lines.specs.Line.{upTo}
+use Rattle.line_reader.specs.Line.{upTo}
 
 -- the text t is xs
 abbrev pub isText : List ℕ → List ℕ → Bool

@@ -3,8 +3,8 @@ ghost use mathlib.Core.Path.{_≡_};
 ghost use lib.ListN.{drop};
 ghost use Rattle.lines.specs.Doubles.{doubleAt, isDouble, liesBetween, isLast, liesLast, stand};
 use super::line::word;
-use record::bits::double;
-use record::bits::pattern;
+use fields::bits::double;
+use fields::bits::pattern;
 
 // The double of word number k.
 pub fn double_at(words: &[u64], k: usize) -> f64

@@ -3,7 +3,7 @@ ghost use mathlib.Core.Path.{_≡_};
 ghost use Prim.Native.Nat.{_+_, _≤_, _<_};
 ghost use lib.Dec.{eqb};
 ghost use lib.ListN.{length, getD, drop};
-ghost use Rattle.lines.specs.Line.{upTo};
+ghost use Rattle.line_reader.specs.Line.{upTo};
 ghost use Rattle.lines.specs.Matches.{matches};
 ghost use Rattle.lines.specs.Text.{upperCase, upperDigit, cell, markCell, isText, figuresText, refusalText, spelledText};
 use super::line::word;

@@ -6,8 +6,8 @@ use Prim.Native.Nat.{ℕ, zero, suc, _<_}
 use native.Mathlib.Omega.{arith}
 use borrow.Author.Tests.{not-false}
 use lib.Ieee.{Float}
-use Rattle.elementary.specs.Places.{places}
-use Rattle.humid_air.specs.Doubles.{isFinite}
+use Rattle.rounding.specs.Places.{places}
+use Rattle.doubles.specs.Doubles.{isFinite}
 use Rattle.refusal.specs.Outcomes.{accepted, Row, row, _then_}
 use Rattle.refusal.specs.Causes.{NoneHolds}
 use Rattle.refusal.proofs.Rows.{exactly, none-before, none-after}
@@ -15,11 +15,11 @@ use Rattle.density_altitude.specs.Inverse.{temperatureRows, stationRows}
 use Rattle.record.specs.declared.readings.Entry.{Entry}
 use Rattle.record.specs.declared.readings.Entry.the-variants.{Absent, Present}
 use Rattle.record.specs.declared.readings.Readings.{Readings}
-use Rattle.record.specs.Fields.{meanings, altitude, temperature, stationPressure, qnh, humidity, densityAltitude, measuredPressure}
+use Rattle.fields.specs.Fields.{meanings, altitude, temperature, stationPressure, qnh, humidity, densityAltitude, measuredPressure}
 use Rattle.record.specs.Readings.{entryOf, isPresent}
-use Rattle.station.specs.declared.resolved.Resolved.{Resolved}
-use Rattle.mast.specs.Checks.{has, isClash, finiteRows, pressureRows, humidityRows, present, valueRows}
-use Rattle.station.specs.Resolved.{ordinary, givenTemperature}
+use Rattle.resolved.specs.declared.resolved.Resolved.{Resolved}
+use Rattle.limits.specs.Checks.{has, isClash, finiteRows, pressureRows, humidityRows, present, valueRows}
+use Rattle.resolved.specs.Resolved.{ordinary, givenTemperature}
 use Rattle.station.specs.Figures.{figuresOf}
 use Rattle.mast.specs.Judge.{airRows, wayRows, resolvedBy, resolved, readingRows, judged}
 use Rattle.mast.specs.Entries.{SameEntries, JudgedByEntries, FiniteEntry, AcceptedIsFinite}

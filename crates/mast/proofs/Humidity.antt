@@ -1,7 +1,7 @@
 -- Readings that differ only in humidity are shown as one station: nothing before the air looks at the humidity. Assumes nothing.
 use mathlib.Core.Path.{_≡_, ap, ap₂, subst, subst₂}
 use native.Mathlib.Omega.{arith}
-use Rattle.elementary.specs.Places.{places}
+use Rattle.rounding.specs.Places.{places}
 use Rattle.refusal.specs.Outcomes.{accepted}
 use Rattle.refusal.proofs.Rows.{exactly}
 use Rattle.atmosphere.specs.declared.station.Reading.{Reading}
@@ -10,11 +10,11 @@ use Rattle.density_altitude.specs.Inverse.{resolve}
 use Rattle.record.specs.declared.readings.Entry.{Entry}
 use Rattle.record.specs.declared.readings.Entry.the-variants.{Absent, Present}
 use Rattle.record.specs.declared.readings.Readings.{Readings}
-use Rattle.record.specs.Fields.{altitude, temperature, stationPressure, qnh, humidity, densityAltitude, measuredPressure}
+use Rattle.fields.specs.Fields.{altitude, temperature, stationPressure, qnh, humidity, densityAltitude, measuredPressure}
 use Rattle.record.specs.Readings.{entryOf}
 use Rattle.station.specs.declared.figures.Figures.{Figures}
-use Rattle.station.specs.declared.resolved.Resolved.{Resolved}
-use Rattle.station.specs.Resolved.{unmeasuredPressure, measuredOr, pressureOf, resolvedTemperature, resolvedPressure, valueOrZero, givenTemperature, ordinary}
+use Rattle.resolved.specs.declared.resolved.Resolved.{Resolved}
+use Rattle.resolved.specs.Resolved.{unmeasuredPressure, measuredOr, pressureOf, resolvedTemperature, resolvedPressure, valueOrZero, givenTemperature, ordinary}
 use Rattle.station.specs.Figures.{shownCelsius, shownHectopascals, figuresWith, figuresOf}
 use Rattle.mast.specs.Judge.{readingRows, resolvedBy, resolved, judged}
 use Rattle.mast.specs.Humidity.{DifferOnlyInHumidity, SameStation, HumidityLeavesTheStation}

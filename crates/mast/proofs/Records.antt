@@ -5,20 +5,20 @@ use mathlib.Core.List.{List, [], _∷_, _++_}
 use Prim.Native.Nat.{ℕ, _≤_}
 use native.Mathlib.Omega.{arith}
 use lib.Ieee.{Float}
-use Rattle.elementary.specs.Places.{places}
+use Rattle.rounding.specs.Places.{places}
 use Rattle.refusal.specs.Outcomes.{Outcome, accepted, refused, _⟫_, Row}
 use Rattle.refusal.proofs.Rows.{exactly}
 use Rattle.density_altitude.specs.Inverse.{temperatureRows, stationRows}
 use Rattle.record.specs.declared.readings.Entry.{Entry}
 use Rattle.record.specs.declared.readings.Entry.the-variants.{Absent, Present}
 use Rattle.record.specs.declared.readings.Readings.{Readings}
-use Rattle.record.specs.Fields.{altitude, temperature, stationPressure, qnh, humidity, densityAltitude, measuredPressure}
+use Rattle.fields.specs.Fields.{altitude, temperature, stationPressure, qnh, humidity, densityAltitude, measuredPressure}
 use Rattle.record.specs.Readings.{entryOf, readRecord}
 use Rattle.record.proofs.FirstBytes.{first-bytes}
 use Rattle.record.proofs.Following.{nothing-after}
 use Rattle.record.proofs.Exchange.{exchange}
-use Rattle.mast.specs.Checks.{finiteRows, pressureRows, humidityRows, present}
-use Rattle.station.specs.Resolved.{givenTemperature}
+use Rattle.limits.specs.Checks.{finiteRows, pressureRows, humidityRows, present}
+use Rattle.resolved.specs.Resolved.{givenTemperature}
 use Rattle.station.specs.Figures.{figuresOf}
 use Rattle.mast.specs.Judge.{airRows, wayRows, resolved, readingRows, judged, judge}
 use Rattle.mast.specs.Laws.{FirstBytes, NothingAfter, AnyOrder}

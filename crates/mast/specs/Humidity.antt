@@ -5,7 +5,7 @@ use mathlib.Core.Logic.{_≢_}
 use Prim.Native.Nat.{ℕ}
 use Rattle.refusal.specs.Outcomes.{accepted}
 use Rattle.record.specs.declared.readings.Readings.{Readings}
-use Rattle.record.specs.Fields.{humidity}
+use Rattle.fields.specs.Fields.{humidity}
 use Rattle.record.specs.Readings.{entryOf}
 use Rattle.station.specs.declared.figures.Figures.{Figures}
 use Rattle.mast.specs.Judge.{judged}

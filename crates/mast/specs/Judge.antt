@@ -4,7 +4,7 @@ use Prim.Native.Nat.{ℕ}
 use mathlib.Core.Bool.{Bool, true, false, not}
 use mathlib.Core.List.{List, [], _∷_, _++_}
 use lib.Ieee.{Float, lt}
-use Rattle.elementary.specs.Places.{places}
+use Rattle.rounding.specs.Places.{places}
 use Rattle.elementary.specs.Decimals.{one}
 use Rattle.humid_air.specs.MoistAir.{moleFractionCelsius}
 use Rattle.refusal.specs.Outcomes.{Outcome, accepted, refusal, _⟫_, Row, row, _then_}
@@ -14,14 +14,14 @@ use Rattle.density_altitude.specs.Inverse.{resolve, stationRows}
 use Rattle.record.specs.declared.readings.Entry.{Entry}
 use Rattle.record.specs.declared.readings.Entry.the-variants.{Absent, Present}
 use Rattle.record.specs.declared.readings.Readings.{Readings}
-use Rattle.record.specs.Fields.{temperature, humidity, densityAltitude}
+use Rattle.fields.specs.Fields.{temperature, humidity, densityAltitude}
 use Rattle.record.specs.Readings.{entryOf, readRows, readings, readRecord}
 use Rattle.station.specs.declared.figures.Figures.{Figures}
-use Rattle.station.specs.declared.resolved.Resolved.{Resolved}
+use Rattle.resolved.specs.declared.resolved.Resolved.{Resolved}
 use Rattle.mast.specs.declared.judge.Answer.{Answer}
 use Rattle.mast.specs.declared.judge.Answer.the-variants as answer
-use Rattle.mast.specs.Checks.{isClash, humidityRows, present, ordinaryRows}
-use Rattle.station.specs.Resolved.{ordinary, givenTemperature, atStation}
+use Rattle.limits.specs.Checks.{isClash, humidityRows, present, ordinaryRows}
+use Rattle.resolved.specs.Resolved.{ordinary, givenTemperature, atStation}
 use Rattle.station.specs.Figures.{shownTemperature, shownPressure, figuresOf, isAir}
 
 -- what each case of the code's answer stands for

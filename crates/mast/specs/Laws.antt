@@ -6,14 +6,14 @@ use mathlib.Core.List.{List, [], _∷_, _++_}
 use lib.Dec.{eqb}
 use lib.Ieee.{Float, lt}
 use lib.ListN.{length, take}
-use Rattle.elementary.specs.Places.{places}
+use Rattle.rounding.specs.Places.{places}
 use Rattle.elementary.specs.Decimals.{decimal, one}
 use Rattle.humid_air.specs.MoistAir.{moleFractionCelsius}
 use Rattle.refusal.specs.Outcomes.{accepted, refused, Row, _then_}
 use Rattle.record.specs.declared.readings.Readings.{Readings}
-use Rattle.record.specs.Fields.{sizeOf, densityAltitude, humidity}
+use Rattle.fields.specs.Fields.{sizeOf, densityAltitude, humidity}
 use Rattle.record.specs.Readings.{readRecord}
-use Rattle.mast.specs.Checks.{has}
+use Rattle.limits.specs.Checks.{has}
 use Rattle.station.specs.Figures.{figuresOf}
 use Rattle.mast.specs.Judge.{resolved, readingRows, judged, judge}
 

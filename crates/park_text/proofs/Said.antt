@@ -6,14 +6,14 @@ use Prim.Native.Nat.{ℕ, _<_}
 use native.Mathlib.Omega.{arith}
 use lib.ListN.{length, getD, drop}
 use Rattle.record.specs.declared.readings.Readings.{Readings}
-use Rattle.text.specs.Samples.{ascii}
-use Rattle.typed_readings.specs.declared.Problem.{Problem}
+use Rattle.pieces.specs.Ascii.{ascii}
+use Rattle.typed_word.specs.declared.Problem.{Problem}
 use Rattle.typed_readings.specs.declared.WordCheck.{WordCheck}
 use Rattle.typed_readings.specs.declared.WordCheck.the-variants.{Passed, Wrong}
 use Rattle.typed_readings.specs.declared.TypedReadings.{TypedReadings}
 use Rattle.typed_readings.specs.Words.{words}
 use Rattle.typed_readings.specs.Understood.{understand, checked, understood}
-use Rattle.typed_readings.proofs.Names.{Compared, compared}
+use Rattle.typed_word.proofs.Names.{Compared, compared}
 use Rattle.typed_readings.proofs.Split.{some-word}
 use Rattle.park_text.specs.ParkText.{problemLine, usageText, said, sheetWords, readingsWords, parkText}
 

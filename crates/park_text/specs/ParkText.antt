@@ -6,34 +6,23 @@ use mathlib.Core.List.{List, [], _∷_, _++_}
 use lib.Ieee.{Float}
 use lib.ListN.{getD, take}
 use Rattle.refusal.specs.Outcomes.{Outcome, accepted, refused}
-use Rattle.decimals.specs.Decimal.{decimalText}
-use Rattle.decimals.specs.Places.{inSixteen}
 use Rattle.record.specs.declared.readings.Entry.{Entry}
 use Rattle.record.specs.declared.readings.Entry.the-variants.{Absent, Present}
 use Rattle.record.specs.declared.readings.Readings.{Readings}
-use Rattle.record.specs.Fields.{altitude, temperature, stationPressure, qnh, humidity, densityAltitude, measuredPressure}
+use Rattle.fields.specs.Fields.{altitude, temperature, stationPressure, qnh, humidity, densityAltitude, measuredPressure}
 use Rattle.record.specs.Readings.{entryOf}
-use Rattle.station.specs.Resolved.{valueOrZero}
-use Rattle.mast.specs.Checks.{has}
-use Rattle.text.specs.Asked.{same}
-use Rattle.text.specs.Samples.{ascii}
+use Rattle.resolved.specs.Resolved.{valueOrZero}
+use Rattle.limits.specs.Checks.{has}
+use Rattle.pieces.specs.Characters.{same}
+use Rattle.pieces.specs.Ascii.{ascii}
 use Rattle.sheet.specs.Sheet.{settingSheet}
-use Rattle.sheet_text.specs.SheetText.{refusedText}
+use Rattle.sheet_refusal.specs.SheetRefusal.{refusedText}
 use Rattle.report.specs.Report.{reportText}
-use Rattle.typed_readings.specs.declared.Problem.{Problem}
-use Rattle.typed_readings.specs.declared.Problem.the-variants.{UnknownWord, NotANumber, TooManyDecimals, OutOfRange, RepeatedWord}
+use Rattle.park_lines.specs.ParkLines.{messageOf, heading}
+use Rattle.typed_word.specs.declared.Problem.{Problem}
 use Rattle.typed_readings.specs.Understood.{Understood, given, problem, understand}
 
 -- ---- a word that is not understood: its first 64 bytes in quotes (34), what is wrong and what is expected
-abbrev pub messageOf : Problem → List ℕ
-messageOf UnknownWord =
-    ascii
-    ": unknown word, expected altitude=, temperature=, pressure=, station-pressure=, qnh=, humidity= or density-altitude= and a number\n"
-messageOf NotANumber = ascii ": not a number, expected digits with up to three decimals, as 1586 or -12.5\n"
-messageOf TooManyDecimals = ascii ": more than three decimals, expected thousandths at most, as 841.897\n"
-messageOf OutOfRange = ascii ": out of range, expected a number from -2147483.648 to 2147483.647\n"
-messageOf RepeatedWord = ascii ": repeated, expected each reading once\n"
-
 unfoldable pub problemLine : List ℕ → Problem → List ℕ
 problemLine w p = (34 ∷ []) ++ take 64 w ++ (34 ∷ []) ++ messageOf p
 
@@ -52,21 +41,6 @@ usageText =
     ascii "  density-altitude=  m, in place of altitude and pressure\n"
 
 -- ---- a sheet: altitude h in m, measured pressure p in hPa, humidity u in percent
--- a reading with three decimals at the right of sixteen places
-unfoldable pub places : Float → List ℕ
-places x = inSixteen (decimalText 3 x) .bytes
-
-unfoldable pub readingLine : List ℕ → Float → List ℕ → List ℕ
-readingLine name x unit = name ++ places x ++ unit
-
-unfoldable pub heading : Float → Float → Float → List ℕ
-heading h p u =
-    ascii "setting sheet for the trim brakes, date ____________\n" ++
-    readingLine (ascii "altitude ") h (ascii " m\n") ++
-    readingLine (ascii "pressure ") p (ascii " hPa\n") ++
-    readingLine (ascii "humidity ") u (ascii " percent\n") ++
-    ascii "  temp density  sound matched\n     C   kg/m3    m/s       m\n"
-
 -- the rows of document 02, K1, or why there are none
 abbrev pub under : List ℕ → Outcome (List ℕ) → List ℕ
 under head (accepted rows) = head ++ rows

@@ -3,21 +3,21 @@ ghost use mathlib.Core.Path.{_≡_};
 ghost use Prim.Native.Nat.{_≤_};
 ghost use lib.ListN.{length, take};
 ghost use Rattle.refusal.specs.Refusals.{numberOf};
-ghost use Rattle.station.specs.Resolved.{valueOrZero};
-ghost use Rattle.sheet_text.specs.SheetText.{refusedText};
-ghost use Rattle.pieces.specs.Pieces.{Appended};
+ghost use Rattle.resolved.specs.Resolved.{valueOrZero};
+ghost use Rattle.sheet_refusal.specs.SheetRefusal.{refusedText};
 ghost use Rattle.report.specs.Report.{Holds};
 ghost use Rattle.typed_readings.specs.Words.{words};
-ghost use Rattle.park_text.specs.ParkText.{messageOf, problemLine, usageText, places, readingLine, heading, sheetPage, sheetNeeds, sheetOnly, hasOther, sheetFor, sheetOf, sheetWords, readingsWords, parkText};
-use decimals::text::decimal_text;
+ghost use Rattle.park_text.specs.ParkText.{problemLine, usageText, sheetPage, sheetNeeds, sheetOnly, hasOther, sheetFor, sheetOf, sheetWords, readingsWords, parkText};
+use fields::fields::ALTITUDE;
+use fields::fields::DENSITY_ALTITUDE;
+use fields::fields::HUMIDITY;
+use fields::fields::MEASURED_PRESSURE;
+use fields::fields::QNH;
+use fields::fields::STATION_PRESSURE;
+use fields::fields::TEMPERATURE;
+use park_lines::put_heading;
+use park_lines::put_message;
 use pieces::put;
-use record::fields::ALTITUDE;
-use record::fields::DENSITY_ALTITUDE;
-use record::fields::HUMIDITY;
-use record::fields::MEASURED_PRESSURE;
-use record::fields::QNH;
-use record::fields::STATION_PRESSURE;
-use record::fields::TEMPERATURE;
 use record::readings::Entry;
 use record::readings::Readings;
 use record::readings::entry_of;
@@ -27,12 +27,12 @@ use report::ReportText;
 use report::report_text;
 use sheet::page::Sheet;
 use sheet::page::setting_sheet;
-use sheet_text::refused_text;
-use typed_readings::Problem;
+use sheet_refusal::refused_text;
 use typed_readings::WordCheck;
 use typed_readings::nth_word;
 use typed_readings::read_words;
 use typed_readings::word_start;
+use typed_word::Problem;
 
 // A text of one piece.
 fn whole_text(text: &[u8]) -> ReportText
@@ -54,35 +54,6 @@ fn quoted_part(word: &[u8]) -> &[u8]
     &word[..64]
 }
 
-// Each puts a piece on the page from `at` on, and answers the position after it.
-fn put_message(page: &mut [u8], at: usize, problem: Problem) -> usize
-    ensures { λ r. ⌜ Appended (now (page .entry)) at (messageOf problem) (now (page .exit)) r ⌝ }
-{
-    match problem {
-        Problem::UnknownWord => put(
-            page,
-            at,
-            b": unknown word, expected altitude=, temperature=, pressure=, station-pressure=, qnh=, humidity= or density-altitude= and a number\n",
-        ),
-        Problem::NotANumber => put(
-            page,
-            at,
-            b": not a number, expected digits with up to three decimals, as 1586 or -12.5\n",
-        ),
-        Problem::TooManyDecimals => put(
-            page,
-            at,
-            b": more than three decimals, expected thousandths at most, as 841.897\n",
-        ),
-        Problem::OutOfRange => put(
-            page,
-            at,
-            b": out of range, expected a number from -2147483.648 to 2147483.647\n",
-        ),
-        Problem::RepeatedWord => put(page, at, b": repeated, expected each reading once\n"),
-    }
-}
-
 fn problem_text(word: &[u8], problem: Problem) -> ReportText
     ensures { λ r. ⌜ Holds r (problemLine (now (word .entry)) problem) ⌝ }
 {
@@ -99,47 +70,6 @@ fn usage_text() -> ReportText
 {
     whole_text(
         b"usage: park altitude=1586 temperature=24 qnh=1019.3 humidity=32\n       park sheet altitude=1586 pressure=841.9 humidity=32\nwords in any order, each a number with up to three decimals:\n  altitude=          m\n  temperature=       C\n  pressure=          hPa, measured at the station\n  station-pressure=  hPa, of a mast that sends 1013.25 until it is set up\n  qnh=               hPa\n  humidity=          percent\n  density-altitude=  m, in place of altitude and pressure\n",
-    )
-}
-
-// The decimal text of a reading in sixteen places, three of them decimals.
-fn put_places(page: &mut [u8], at: usize, x: f64) -> usize
-    ensures { λ r. ⌜ Appended (now (page .entry)) at (places x) (now (page .exit)) r ⌝ }
-{
-    let text = decimal_text(x, 3);
-    let sixteen = text.bytes;
-    put(page, at, &sixteen)
-}
-
-fn put_reading(page: &mut [u8], at: usize, name: &[u8], x: f64, unit: &[u8]) -> usize
-    ensures { λ r. ⌜ Appended (now (page .entry)) at (readingLine (now (name .entry)) x (now (unit .entry))) (now (page .exit)) r ⌝ }
-{
-    let named = put(page, at, name);
-    let read = put_places(page, named, x);
-    put(page, read, unit)
-}
-
-fn put_heading(page: &mut [u8], altitude_m: f64, pressure_hpa: f64, humidity_percent: f64) -> usize
-    ensures { λ r. ⌜ Appended (now (page .entry)) 0 (heading «altitude_m» «pressure_hpa» «humidity_percent») (now (page .exit)) r ⌝ }
-{
-    let title = put(
-        page,
-        0,
-        b"setting sheet for the trim brakes, date ____________\n",
-    );
-    let altitude = put_reading(page, title, b"altitude ", altitude_m, b" m\n");
-    let pressure = put_reading(page, altitude, b"pressure ", pressure_hpa, b" hPa\n");
-    let humidity = put_reading(
-        page,
-        pressure,
-        b"humidity ",
-        humidity_percent,
-        b" percent\n",
-    );
-    put(
-        page,
-        humidity,
-        b"  temp density  sound matched\n     C   kg/m3    m/s       m\n",
     )
 }
 

@@ -3,10 +3,9 @@ use mathlib.Core.Path.{_≡_, refl, sym, ap, ap₂, subst, _∙_}
 use mathlib.Core.List.{List, [], _∷_, _++_, append-nil, append-assoc}
 use Prim.Native.Nat.{ℕ, zero, suc, _+_, _-_, _≤_}
 use native.Mathlib.Omega.{arith}
-use lib.ListN.{length, take, length-take}
-use lib.Seq.{length-take-le, take-all, take-append-seam, take-append-add}
-use Rattle.sheet.specs.Over.{over}
-use Rattle.sheet.proofs.OnAPage.{over-length, over-front}
+use borrow.Rule.Slice.PartMut.{putMid}
+use lib.ListN.{length, take, drop, length-append, length-take, length-drop}
+use lib.Seq.{length-take-le, take-at, take-all, take-length, take-append-seam, take-append-add}
 use Rattle.pieces.specs.Pieces.{Appended, grown}
 
 -- what is cut off already is cut off again
@@ -51,7 +50,7 @@ full page at more h = record {
   within = λ g. g;
 }
 
--- ---- what fits of a piece, over the page
+-- ---- what fits of a piece, copied into the page from `at` on
 module _ (page : List ℕ) (at : ℕ) (more : List ℕ) (h : at ≤ length page) where
   part : List ℕ
   part = take (length page - at) more
@@ -62,15 +61,36 @@ module _ (page : List ℕ) (at : ℕ) (more : List ℕ) (h : at ≤ length page)
       let front : length page ≡ length (take at page) + (length page - at) = omega (arith, length-take-le at page h) in
       ap (λ (n : ℕ). take n (take at page ++ more)) front ∙ take-append-add (take at page) more (length page - at)
 
-  pub put-part : {last : List ℕ} {next : ℕ} → last ≡ over page at (take (length page - at) more) → next ≡ at + length (take (length page - at) more)
-      → Appended page at more last next
+  -- the page's rest after the copy begins with the part
+  pub put-part : {source rest last : List ℕ} → source ≡ take (length page - at) more → rest ≡ drop at page
+      → last ≡ take (length source) source ++ drop (length source) rest
+      → Appended page at more (putMid at (length page - at) page last) (at + length source)
   unfolding part
-  put-part {last} {next} e f =
-      let room : at + length part ≤ length page = omega (arith, length-take (length page - at) more) in
+  put-part {source} {rest} {last} e f l =
+      let left : List ℕ = drop (length part) (drop at page) in
+      let end : List ℕ = drop (length page - at) (drop at page) in
+      let begins : last ≡ part ++ left =
+      l ∙ ap₂ (λ (s d : List ℕ). take (length s) s ++ drop (length s) d) e f ∙ ap (λ (s : List ℕ). s ++ left) (take-length part) in
+      let front : length (take at page ++ part) ≡ at + length source =
+      omega (arith, ap length e, length-append (take at page) part, length-take-le at page h) in
+      let split : take at page ++ (last ++ end) ≡ (take at page ++ part) ++ (left ++ end) =
+      ap (λ (s : List ℕ). take at page ++ (s ++ end)) begins
+      ∙ ap (λ (s : List ℕ). take at page ++ s) (append-assoc part left end)
+      ∙ sym (append-assoc (take at page) part (left ++ end)) in
       record {
-        whole = ap length e ∙ over-length page at part room;
-        text = ap₂ take f e ∙ over-front page at part room ∙ sym grown-is;
-        within = λ g. omega arith;
+        whole = ap length split ∙ omega (
+          arith,
+          front,
+          ap length e,
+          length-append (take at page ++ part) (left ++ end),
+          length-append left end,
+          length-take (length page - at) more,
+          length-drop at page,
+          length-drop (length part) (drop at page),
+          length-drop (length page - at) (drop at page),
+        );
+        text = ap (take (at + length source)) split ∙ take-at (take at page ++ part) (left ++ end) (at + length source) front ∙ sym grown-is;
+        within = λ g. omega (arith, ap length e, length-take (length page - at) more);
       }
 
 -- ---- a text on a page from its first byte on, which has room for it

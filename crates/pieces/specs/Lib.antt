@@ -1,2 +1,4 @@
--- What the contracts of `pieces` cite: a text on a page.
+-- What the contracts of `pieces` cite: characters, and a text on a page.
+pub mod Ascii
+pub mod Characters
 pub mod Pieces

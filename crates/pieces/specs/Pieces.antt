@@ -3,7 +3,7 @@ use Prim.Native.Nat.{ℕ, _/_, _%_, _≤_}
 use mathlib.Core.Path.{_≡_}
 use mathlib.Core.List.{List, [], _∷_, _++_}
 use lib.ListN.{length, take}
-use Rattle.text.specs.Text.{hexDigit}
+use Rattle.pieces.specs.Characters.{hexDigit}
 
 -- the text with more at its end, as much of it as the page has room for
 unfoldable pub grown : List ℕ → ℕ → List ℕ → List ℕ

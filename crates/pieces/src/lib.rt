@@ -1,9 +1,9 @@
 // Pieces of a text on a page, one after the other. A page that is full takes no more.
 ghost use mathlib.Core.Path.{_≡_};
+ghost use Prim.Native.Nat.{_%_};
 ghost use lib.ListN.{take};
-ghost use Rattle.text.specs.Text.{decimal};
+ghost use Rattle.pieces.specs.Characters.{hexDigit, decimal};
 ghost use Rattle.pieces.specs.Pieces.{Appended, hex};
-use text::hex_digit;
 
 fn fitting(piece: &[u8], room: usize) -> &[u8]
     ensures { λ r. ⌜ now r ≡ take room (now (piece .entry)) ⌝ }
@@ -26,6 +26,14 @@ pub fn put(page: &mut [u8], at: usize, piece: &[u8]) -> usize
     let fitting = fitting(piece, page.len() - at);
     bytes::copy(fitting, &mut page[at..]);
     at + fitting.len()
+}
+
+// The digit of a number's last four bits, in upper case.
+pub fn hex_digit(n: u8) -> u8
+    ensures { λ r. ⌜ r ≡ hexDigit (n % 16) ⌝ }
+{
+    let digit = n % 16;
+    if digit < 10 { 48 + digit } else { 55 + digit }
 }
 
 // Two hex digits for each byte. The bytes are left as they were.

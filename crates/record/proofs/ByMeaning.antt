@@ -13,14 +13,14 @@ use lib.Seq.{getD-set-same, getD-set-other}
 use Rattle.refusal.proofs.Rows.{exactly}
 use Rattle.thousandths.specs.Thousandths.{countOf}
 use Rattle.thousandths.proofs.Laws.{thousandths-fits}
-use Rattle.record.specs.declared.fields.Value.{Value}
-use Rattle.record.specs.declared.fields.Value.the-variants.{Double, Count}
+use Rattle.fields.specs.declared.fields.Value.{Value}
+use Rattle.fields.specs.declared.fields.Value.the-variants.{Double, Count}
 use Rattle.record.specs.declared.readings.Entry.the-variants.{Absent, Present}
 use Rattle.record.specs.declared.readings.Stored.the-variants as stored
 use Rattle.record.specs.declared.readings.Slot.{Slot}
 use Rattle.record.specs.declared.readings.Readings.{Readings}
-use Rattle.record.specs.Bytes.{wordAt, doubleAt}
-use Rattle.record.specs.Fields.{meanings, doubleOf, isCountTag, tagOf, valueOf, field, sizeOf}
+use Rattle.fields.specs.Bytes.{wordAt, doubleAt}
+use Rattle.fields.specs.Fields.{meanings, doubleOf, isCountTag, tagOf, valueOf, field, sizeOf}
 use Rattle.record.specs.Readings.{slotOf, noReadings, entryFor, entryOf, withValue, withEntry, noted, readingsFrom, readRows, readings}
 use Rattle.record.specs.Doubles.{HoldsDoubles, ReadsDoubles}
 

@@ -8,11 +8,11 @@ use borrow.Author.Tests.{ltb-false}
 use lib.Dec.{ltb}
 use lib.ListN.{length, getD, set}
 use Rattle.refusal.specs.Causes.{NoneHolds}
-use Rattle.record.specs.declared.fields.Value.{Value}
+use Rattle.fields.specs.declared.fields.Value.{Value}
 use Rattle.record.specs.declared.readings.Stored.the-variants.{Absent, Present}
 use Rattle.record.specs.declared.readings.Slot.{Slot}
 use Rattle.record.specs.declared.readings.Readings.{Readings}
-use Rattle.record.specs.Fields.{field, headRows, sizeOf}
+use Rattle.fields.specs.Fields.{field, headRows, sizeOf}
 use Rattle.record.specs.Readings.{slotOf, entryFor, entryOf, isPresent}
 use Rattle.record.proofs.Walk.{fieldRows}
 

@@ -9,7 +9,7 @@ use Rattle.refusal.specs.Outcomes.{Outcome, accepted, Row, _then_}
 use Rattle.refusal.proofs.Rows.{then-none, then-accepted}
 use Rattle.record.specs.declared.readings.Slot.{Slot}
 use Rattle.record.specs.declared.readings.Readings.{Readings}
-use Rattle.record.specs.Fields.{tagOf, field, sizeOf}
+use Rattle.fields.specs.Fields.{tagOf, field, sizeOf}
 use Rattle.record.specs.Readings.{noted, readRecord}
 use Rattle.record.proofs.Walk.{fieldRows, read, any-last}
 use Rattle.record.proofs.Entries.{is-new, with-readings, either-order}

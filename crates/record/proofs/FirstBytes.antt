@@ -10,13 +10,13 @@ use lib.ListN.{length, take, drop, getD, set, length-drop, length-set, take-appe
 use lib.Seq.{length-take-le, take-all}
 use Rattle.refusal.specs.Causes.{NoneHolds}
 use Rattle.refusal.proofs.Rows.{then-same}
-use Rattle.record.specs.declared.fields.Value.{Value}
+use Rattle.fields.specs.declared.fields.Value.{Value}
 use Rattle.record.specs.declared.readings.Stored.the-variants.{Absent, Present}
 use Rattle.record.specs.declared.readings.Slot.{Slot}
 use Rattle.record.specs.declared.readings.Readings.{Readings}
-use Rattle.record.specs.Fields.{meanings, tagOf, sizeOf, field, headRows}
+use Rattle.fields.specs.Fields.{meanings, tagOf, sizeOf, field, headRows}
 use Rattle.record.specs.Readings.{slotOf, noReadings, entryFor, isPresent, noted, readRecord}
-use Rattle.record.proofs.Forms.{at-most, tagged}
+use Rattle.fields.proofs.Forms.{at-most, tagged}
 use Rattle.record.proofs.Walk.{fieldRows, read, read-step}
 use Rattle.record.proofs.Entries.{is-new}
 use Rattle.record.proofs.Followed.{read-whole}

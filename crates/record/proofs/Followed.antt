@@ -10,13 +10,13 @@ use lib.Ieee.{binary64, ofBits}
 use lib.ListN.{length, drop, length-append, List·getD-append}
 use lib.Seq.{drop-append-le}
 use Rattle.refusal.specs.Outcomes.{Outcome, Row, row, _then_}
-use Rattle.record.specs.declared.fields.Field.{Field}
-use Rattle.record.specs.declared.fields.Value.the-variants.{Double, Count}
+use Rattle.fields.specs.declared.fields.Field.{Field}
+use Rattle.fields.specs.declared.fields.Value.the-variants.{Double, Count}
 use Rattle.record.specs.declared.readings.Readings.{Readings}
-use Rattle.record.specs.Bytes.{wordAt, doubleAt}
-use Rattle.record.specs.Fields.{isCountTag, isTag, meaningOf, dataSize, tagOf, lengthOf, sizeOf, valueOf, field, headRows}
+use Rattle.fields.specs.Bytes.{wordAt, doubleAt}
+use Rattle.fields.specs.Fields.{isCountTag, isTag, meaningOf, dataSize, tagOf, lengthOf, sizeOf, valueOf, field, headRows}
 use Rattle.record.specs.Readings.{orderRows, noted}
-use Rattle.record.proofs.Forms.{size-by}
+use Rattle.fields.proofs.Forms.{size-by}
 use Rattle.record.proofs.Walk.{fieldRows, read, read-step}
 
 -- the rows of a field's header

@@ -12,7 +12,7 @@ use lib.ListN.{length, drop, length-append, length-drop}
 use Rattle.refusal.specs.Outcomes.{Outcome, accepted, refused, Row, row, _then_}
 use Rattle.refusal.proofs.Rows.{then-append, then-none, then-to, then-accepted}
 use Rattle.record.specs.declared.readings.Readings.{Readings}
-use Rattle.record.specs.Fields.{tagOf, field, headRows, sizeOf}
+use Rattle.fields.specs.Fields.{tagOf, field, headRows, sizeOf}
 use Rattle.record.specs.Readings.{orderRows, noReadings, noted, readRecord}
 use Rattle.record.proofs.Walk.{fieldRows, no-bytes, read, read-step, any-last}
 use Rattle.record.proofs.Entries.{is-whole}

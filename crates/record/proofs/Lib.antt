@@ -1,6 +1,4 @@
--- A field by its form and its checks, the record field by field, and a turn of the reading.
-pub mod Forms
-pub mod FieldChecks
+-- The record field by field, and a turn of the reading.
 pub mod Walk
 pub mod Entries
 -- The entries by meaning, each of them a double.
@@ -14,6 +12,3 @@ pub mod Following
 pub mod Exchange
 -- The strict reader beside the first.
 pub mod Strict
--- The walks of the field reader's functions.
-pub mod Thin
-pub mod Held

@@ -12,9 +12,9 @@ use Rattle.refusal.specs.Outcomes.{Outcome, accepted, refused, Row, row, _then_
 use Rattle.refusal.specs.Causes.{NoneHolds}
 use Rattle.refusal.proofs.Rows.{then-append, then-accepted, then-none, none-before, none-after, decided}
 use Rattle.record.specs.declared.readings.Readings.{Readings}
-use Rattle.record.specs.Fields.{tagOf, field, headRows, sizeOf}
+use Rattle.fields.specs.Fields.{tagOf, field, headRows, sizeOf}
 use Rattle.record.specs.Readings.{orderRows, noReadings, noted, isPresent, entryOf, rowsFrom, readings, readRecord}
-use Rattle.record.specs.Tags.{tagsFrom, tags, RisingFrom, Rising}
+use Rattle.fields.specs.Tags.{tagsFrom, tags, RisingFrom, Rising}
 use Rattle.record.proofs.Walk.{fieldRows}
 use Rattle.record.proofs.Entries.{in-order}
 

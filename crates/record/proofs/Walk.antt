@@ -10,7 +10,7 @@ use Rattle.refusal.specs.Outcomes.{Outcome, accepted, Row, _then_}
 use Rattle.refusal.proofs.Rows.{then-append}
 use Rattle.record.specs.declared.readings.Readings.{Readings}
 use Rattle.record.specs.declared.readings.Stored.the-variants.{Present}
-use Rattle.record.specs.Fields.{meanings, tagOf, field, headRows, sizeOf}
+use Rattle.fields.specs.Fields.{meanings, tagOf, field, headRows, sizeOf}
 use Rattle.record.specs.Readings.{slotOf, noReadings, orderRows, noted, rowsFrom, readingsFrom, readings}
 
 module _ (strict : Bool) where

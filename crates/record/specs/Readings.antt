@@ -7,9 +7,9 @@ use lib.Dec.{ltb}
 use lib.Ieee.{Float}
 use lib.ListN.{length, getD, set, drop, replicate}
 use Rattle.refusal.specs.Outcomes.{Outcome, accepted, _⟫_, Row, row, _then_, checked}
-use Rattle.record.specs.declared.fields.Field.{Field}
-use Rattle.record.specs.declared.fields.Value.{Value}
-use Rattle.record.specs.declared.fields.Value.the-variants.{Double}
+use Rattle.fields.specs.declared.fields.Field.{Field}
+use Rattle.fields.specs.declared.fields.Value.{Value}
+use Rattle.fields.specs.declared.fields.Value.the-variants.{Double}
 use Rattle.record.specs.declared.readings.Entry.{Entry}
 use Rattle.record.specs.declared.readings.Entry.the-variants.{Absent, Present}
 use Rattle.record.specs.declared.readings.Stored.{Stored}
@@ -17,7 +17,7 @@ use Rattle.record.specs.declared.readings.Stored.the-variants as stored
 use Rattle.record.specs.declared.readings.Slot.{Slot}
 use Rattle.record.specs.declared.readings.Readings.{Readings}
 use Rattle.record.specs.declared.readings.Read.{Read}
-use Rattle.record.specs.Fields.{meanings, doubleOf, tagOf, sizeOf, field, headRows}
+use Rattle.fields.specs.Fields.{meanings, doubleOf, tagOf, sizeOf, field, headRows}
 
 -- ---- what is stored by meaning: the value of its field, in the field's form
 abbrev pub slotOf : Stored → Slot

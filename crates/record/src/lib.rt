@@ -1,5 +1,2 @@
-// The mast record: bytes, the fields in them, and the readings that the fields give.
-pub mod bits;
-pub mod fields;
-pub mod reader;
+// The mast record: the readings that its fields give.
 pub mod readings;

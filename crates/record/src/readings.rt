@@ -2,15 +2,15 @@
 ghost use mathlib.Core.Path.{_≡_};
 ghost use mathlib.Core.Bool.{true, false};
 ghost use Rattle.refusal.specs.Outcomes.{_⟫_};
-ghost use Rattle.record.specs.Fields.{found};
+ghost use Rattle.fields.specs.Fields.{found};
 ghost use Rattle.record.specs.Readings.{noReadings, isPresent, entryFor, storedOf, entryOf, withValue, withEntry, withField, readOutcome, readRecord};
-use super::fields::Field;
-use super::fields::Found;
-use super::fields::MEANINGS;
-use super::fields::Value;
-use super::fields::double_of_value;
-use super::fields::next_at;
-use super::reader::field_from;
+use fields::fields::Field;
+use fields::fields::Found;
+use fields::fields::MEANINGS;
+use fields::fields::Value;
+use fields::fields::double_of_value;
+use fields::fields::next_at;
+use reader::reader::field_from;
 use refusal::Check;
 use refusal::Refusal;
 

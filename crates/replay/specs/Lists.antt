@@ -5,13 +5,17 @@ use mathlib.Core.List.{List, [], _∷_}
 use lib.Dec.{ltb}
 use lib.ListN.{getD}
 use Rattle.replay.specs.declared.list.List as lists
-use Rattle.replay.specs.declared.list.List.the-variants.{Exact, Ends, Source, Case}
+use Rattle.replay.specs.declared.list.List.the-variants.{Exact, Ends, Source}
+use Rattle.replay.specs.declared.list.List.the-variants as list
 use Rattle.replay.specs.declared.list.Function.{Function}
 use Rattle.replay.specs.declared.list.Function.the-variants.{Log, Antilog, Power, Exp, Ln, Sqrt, Figure, Root}
 use Rattle.replay.specs.declared.list.Part.{Part}
 use Rattle.replay.specs.declared.list.Part.the-variants.{Layers, Humid, Station, Altitudes, Inverse}
-use Rattle.replay.specs.declared.list.Kind.{Kind}
-use Rattle.replay.specs.declared.list.Kind.the-variants.{Records, Strict, Votes, Trims, Writes, Conversions, Sheets, Decimals, Reports, Words}
+use Rattle.replay.specs.declared.list.Mast.{Mast}
+use Rattle.replay.specs.declared.list.Mast.the-variants.{Records, Strict, Votes, Trims}
+use Rattle.replay.specs.declared.list.Text.{Text}
+use Rattle.replay.specs.declared.list.Text.the-variants.{Writes, Conversions, Sheets, Decimals, Reports, Words}
+use Rattle.replay.specs.declared.list.Shape.{Shape}
 use Rattle.replay.specs.Rules.{logAgrees, antilogAgrees, powerAgrees, expAgrees, lnAgrees, sqrtAgrees, rootsAgree}
 use Rattle.calls.specs.Source.{layersAgrees, humidAgrees, stationAgrees, altitudesAgrees, inverseAgrees}
 use Rattle.calls.specs.Figures.{figureAgrees}
@@ -43,61 +47,33 @@ functionWords exact Sqrt = cond exact 2 3
 functionWords exact Figure = 6
 functionWords exact Root = cond exact 3 4
 
--- by the kind of a case with lines of bytes
-abbrev pub kindWords : Kind → ℕ
-kindWords Records = 11
-kindWords Strict = 11
-kindWords Votes = 14
-kindWords Trims = 6
-kindWords Writes = 24
-kindWords Conversions = 5
-kindWords Sheets = 6
-kindWords Decimals = 3
-kindWords Reports = 2
-kindWords Words = 2
+-- ---- its words; the lines of bytes in hex digits that follow it; and which word is the first of those that say how many bytes each has
+abbrev shape : ℕ → ℕ → ℕ → Shape
+shape n k at = record { words = n; strings = k; lengths = at }
 
-abbrev pub wordsIn : ℕ → lists.List → ℕ
-wordsIn n (Exact f) = functionWords true f
-wordsIn n (Ends f) = functionWords false f
-wordsIn n (Source part) = sourceWords n
-wordsIn n (Case kind) = kindWords kind
+abbrev pub plain : ℕ → Shape
+plain n = shape n 0 0
 
--- ---- lines of bytes in hex digits that follow it: how many, and which word is the first of those that say how many bytes each has
-abbrev pub kindStrings : Kind → ℕ
-kindStrings Records = 1
-kindStrings Strict = 1
-kindStrings Votes = 3
-kindStrings Trims = 1
-kindStrings Writes = 1
-kindStrings Conversions = 2
-kindStrings Sheets = 1
-kindStrings Decimals = 1
-kindStrings Reports = 2
-kindStrings Words = 2
+abbrev pub mastShape : Mast → Shape
+mastShape Records = shape 11 1 10
+mastShape Strict = shape 11 1 10
+mastShape Votes = shape 14 3 11
+mastShape Trims = shape 6 1 5
 
-abbrev pub stringsIn : lists.List → ℕ
-stringsIn (Exact f) = 0
-stringsIn (Ends f) = 0
-stringsIn (Source part) = 0
-stringsIn (Case kind) = kindStrings kind
+abbrev pub textShape : Text → Shape
+textShape Writes = shape 24 1 0
+textShape Conversions = shape 5 2 1
+textShape Sheets = shape 6 1 3
+textShape Decimals = shape 3 1 2
+textShape Reports = shape 2 2 0
+textShape Words = shape 2 2 0
 
-abbrev pub kindLengths : Kind → ℕ
-kindLengths Records = 10
-kindLengths Strict = 10
-kindLengths Votes = 11
-kindLengths Trims = 5
-kindLengths Writes = 0
-kindLengths Conversions = 1
-kindLengths Sheets = 3
-kindLengths Decimals = 2
-kindLengths Reports = 0
-kindLengths Words = 0
-
-abbrev pub lengthsIn : lists.List → ℕ
-lengthsIn (Exact f) = 0
-lengthsIn (Ends f) = 0
-lengthsIn (Source part) = 0
-lengthsIn (Case kind) = kindLengths kind
+abbrev pub shapeIn : ℕ → lists.List → Shape
+shapeIn n (Exact f) = plain (functionWords true f)
+shapeIn n (Ends f) = plain (functionWords false f)
+shapeIn n (Source part) = plain (sourceWords n)
+shapeIn n (list.Mast mast) = mastShape mast
+shapeIn n (list.Text text) = textShape text
 
 -- ---- when the words w and the bytes agree
 abbrev pub sourceAgrees : List ℕ → Part → Bool
@@ -117,20 +93,23 @@ functionAgrees exact w Sqrt = sqrtAgrees exact w
 functionAgrees exact w Figure = figureAgrees w
 functionAgrees exact w Root = rootsAgree w
 
-abbrev pub caseAgrees : List ℕ → List ℕ → Kind → Bool
-caseAgrees w bytes Records = recordAgrees w bytes
-caseAgrees w bytes Strict = strictAgrees w bytes
-caseAgrees w bytes Votes = voteAgrees w bytes
-caseAgrees w bytes Trims = trimAgrees w bytes
-caseAgrees w bytes Writes = writeAgrees w bytes
-caseAgrees w bytes Conversions = conversionAgrees w bytes
-caseAgrees w bytes Sheets = sheetAgrees w bytes
-caseAgrees w bytes Decimals = decimalAgrees w bytes
-caseAgrees w bytes Reports = reportAgrees w bytes
-caseAgrees w bytes Words = printedAgrees w bytes
+abbrev pub mastAgrees : List ℕ → List ℕ → Mast → Bool
+mastAgrees w bytes Records = recordAgrees w bytes
+mastAgrees w bytes Strict = strictAgrees w bytes
+mastAgrees w bytes Votes = voteAgrees w bytes
+mastAgrees w bytes Trims = trimAgrees w bytes
+
+abbrev pub textAgrees : List ℕ → List ℕ → Text → Bool
+textAgrees w bytes Writes = writeAgrees w bytes
+textAgrees w bytes Conversions = conversionAgrees w bytes
+textAgrees w bytes Sheets = sheetAgrees w bytes
+textAgrees w bytes Decimals = decimalAgrees w bytes
+textAgrees w bytes Reports = reportAgrees w bytes
+textAgrees w bytes Words = printedAgrees w bytes
 
 abbrev pub agrees : List ℕ → List ℕ → lists.List → Bool
 agrees w bytes (Exact f) = functionAgrees true w f
 agrees w bytes (Ends f) = functionAgrees false w f
 agrees w bytes (Source part) = sourceAgrees w part
-agrees w bytes (Case kind) = caseAgrees w bytes kind
+agrees w bytes (list.Mast mast) = mastAgrees w bytes mast
+agrees w bytes (list.Text text) = textAgrees w bytes text

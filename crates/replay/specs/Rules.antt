@@ -7,16 +7,16 @@ use lib.Dec.{eqb}
 use lib.ListN.{getD}
 use lib.Ieee.{Float}
 use Rattle.wide.specs.Root.{root}
-use Rattle.elementary.specs.Places.{places}
-use Rattle.elementary.specs.Whole.{wordValue}
-use Rattle.elementary.specs.declared.log.Logarithm.{Logarithm}
-use Rattle.elementary.specs.declared.log.Logarithm.the-variants.{Defined, Undefined}
-use Rattle.elementary.specs.Log.{logarithm}
-use Rattle.elementary.specs.Antilog.{antilog}
+use Rattle.rounding.specs.Places.{places}
+use Rattle.rounding.specs.Whole.{wordValue}
+use Rattle.rounding.specs.declared.word.Logarithm.{Logarithm}
+use Rattle.rounding.specs.declared.word.Logarithm.the-variants.{Defined, Undefined}
+use Rattle.antilog.specs.Log.{logarithm}
+use Rattle.antilog.specs.Antilog.{antilog}
 use Rattle.elementary.specs.Power.{powerAt}
 use Rattle.elementary.specs.Exp.{exp}
 use Rattle.elementary.specs.Ln.{ln}
-use Rattle.elementary.specs.Sqrt.{sqrt}
+use Rattle.rounding.specs.Sqrt.{sqrt}
 use Rattle.lines.specs.Doubles.{doubleAt, isLast, liesLast}
 use Rattle.replay.specs.declared.words.Given.{Given}
 use Rattle.replay.specs.declared.words.Given.the-variants as given

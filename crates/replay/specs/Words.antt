@@ -2,8 +2,8 @@
 use Prim.Native.Nat.{ℕ, _-_, _^_}
 use mathlib.Core.Bool.{Bool, true, false, cond, not, _&&_, _||_}
 use lib.Dec.{ltb, leb, eqb}
-use Rattle.elementary.specs.Places.{places}
-use Rattle.elementary.specs.declared.word.Word.{Word}
+use Rattle.rounding.specs.Places.{places}
+use Rattle.rounding.specs.declared.word.Word.{Word}
 use Rattle.replay.specs.declared.words.Given.{Given}
 use Rattle.replay.specs.declared.words.Given.the-variants as given
 

@@ -1,6 +1,6 @@
 // A list: what its lines have, and which function compares them.
 ghost use mathlib.Core.Path.{_≡_};
-ghost use Rattle.replay.specs.Lists.{sourceWords, functionWords, kindWords, wordsIn, kindStrings, stringsIn, kindLengths, lengthsIn, sourceAgrees, functionAgrees, caseAgrees, agrees};
+ghost use Rattle.replay.specs.Lists.{sourceWords, functionWords, plain, mastShape, textShape, shapeIn, sourceAgrees, functionAgrees, mastAgrees, textAgrees, agrees};
 use crate::rules::answers;
 use crate::rules::antilog_agrees;
 use crate::rules::log_agrees;
@@ -17,10 +17,10 @@ use calls::source::humid_agrees;
 use calls::source::inverse_agrees;
 use calls::source::layers_agrees;
 use calls::source::station_agrees;
-use exports::functions::station_air_exp;
-use exports::functions::station_air_ln;
-use exports::functions::station_air_sqrt;
-use exports::rules::station_air_power;
+use exported_air::functions::station_air_exp;
+use exported_air::functions::station_air_ln;
+use exported_air::functions::station_air_sqrt;
+use exported_air::rules::station_air_power;
 use lines::doubles::double_at;
 use lines::line::word;
 use printed::printed_agrees;
@@ -34,7 +34,8 @@ pub enum List {
     Ends(Function),
     Source(Part),
     // with lines of bytes after a line of words
-    Case(Kind),
+    Mast(Mast),
+    Text(Text),
 }
 
 // A function of `elementary`, a figure that the line names, or both of `wide`'s roots.
@@ -58,20 +59,32 @@ pub enum Part {
     Inverse,
 }
 
-// Answers to mast records, the figures of one, by either reader, the vote of three and the next trim
-// class; records that are written, and converted; setting sheets; texts of figures; reports of records'
-// readings; and what is printed for words that are typed.
-pub enum Kind {
+// Answers to mast records: the figures of one, by either reader, the vote of three and the next trim
+// class.
+pub enum Mast {
     Records,
     Strict,
     Votes,
     Trims,
+}
+
+// Records that are written, and converted; setting sheets; texts of figures; reports of records'
+// readings; and what is printed for words that are typed.
+pub enum Text {
     Writes,
     Conversions,
     Sheets,
     Decimals,
     Reports,
     Words,
+}
+
+// How many words a line has, and how many lines of bytes in hex digits follow it; and the number of the
+// word that says how many bytes the first of those has. The words after it say it of the others.
+pub struct Shape {
+    pub words: usize,
+    pub strings: usize,
+    pub lengths: usize,
 }
 
 // The most words that a line has.
@@ -136,91 +149,90 @@ fn function_words(function: Function, exact: bool) -> usize
     }
 }
 
-fn kind_words(kind: Kind) -> usize
-    ensures { λ r. ⌜ r ≡ kindWords kind ⌝ }
+fn plain(words: usize) -> Shape
+    ensures { λ r. ⌜ r ≡ plain words ⌝ }
 {
-    match kind {
-        Kind::Records => 11,
-        Kind::Strict => 11,
-        Kind::Votes => 14,
-        Kind::Trims => 6,
-        Kind::Writes => 24,
-        Kind::Conversions => 5,
-        Kind::Sheets => 6,
-        Kind::Decimals => 3,
-        Kind::Reports => 2,
-        Kind::Words => 2,
+    Shape {
+        words,
+        strings: 0,
+        lengths: 0,
     }
 }
 
-// How many words a line has, whose first word is `number`: at least one, at most `WORDS`.
-pub fn words(list: List, number: u64) -> usize
-    ensures { λ r. ⌜ r ≡ wordsIn number list ⌝ }
+fn mast_shape(mast: Mast) -> Shape
+    ensures { λ r. ⌜ r ≡ mastShape mast ⌝ }
+{
+    match mast {
+        Mast::Records => Shape {
+            words: 11,
+            strings: 1,
+            lengths: 10,
+        },
+        Mast::Strict => Shape {
+            words: 11,
+            strings: 1,
+            lengths: 10,
+        },
+        Mast::Votes => Shape {
+            words: 14,
+            strings: 3,
+            lengths: 11,
+        },
+        Mast::Trims => Shape {
+            words: 6,
+            strings: 1,
+            lengths: 5,
+        },
+    }
+}
+
+fn text_shape(text: Text) -> Shape
+    ensures { λ r. ⌜ r ≡ textShape text ⌝ }
+{
+    match text {
+        Text::Writes => Shape {
+            words: 24,
+            strings: 1,
+            lengths: 0,
+        },
+        Text::Conversions => Shape {
+            words: 5,
+            strings: 2,
+            lengths: 1,
+        },
+        Text::Sheets => Shape {
+            words: 6,
+            strings: 1,
+            lengths: 3,
+        },
+        Text::Decimals => Shape {
+            words: 3,
+            strings: 1,
+            lengths: 2,
+        },
+        Text::Reports => Shape {
+            words: 2,
+            strings: 2,
+            lengths: 0,
+        },
+        Text::Words => Shape {
+            words: 2,
+            strings: 2,
+            lengths: 0,
+        },
+    }
+}
+
+// The shape of a line whose first word is `number`. It has at least one word, at most `WORDS`.
+pub fn shape_of(list: List, number: u64) -> Shape
+    ensures { λ r. ⌜ r ≡ shapeIn number list ⌝ }
 {
     match list {
-        List::Exact(function) => function_words(function, true),
-        List::Ends(function) => function_words(function, false),
-        List::Source(_) => source_words(number),
-        List::Case(kind) => kind_words(kind),
-    }
-}
-
-fn kind_strings(kind: Kind) -> usize
-    ensures { λ r. ⌜ r ≡ kindStrings kind ⌝ }
-{
-    match kind {
-        Kind::Records => 1,
-        Kind::Strict => 1,
-        Kind::Votes => 3,
-        Kind::Trims => 1,
-        Kind::Writes => 1,
-        Kind::Conversions => 2,
-        Kind::Sheets => 1,
-        Kind::Decimals => 1,
-        Kind::Reports => 2,
-        Kind::Words => 2,
-    }
-}
-
-// How many lines of bytes in hex digits follow a line of words.
-pub fn strings(list: List) -> usize
-    ensures { λ r. ⌜ r ≡ stringsIn list ⌝ }
-{
-    match list {
-        List::Exact(_) => 0,
-        List::Ends(_) => 0,
-        List::Source(_) => 0,
-        List::Case(kind) => kind_strings(kind),
-    }
-}
-
-fn kind_lengths(kind: Kind) -> usize
-    ensures { λ r. ⌜ r ≡ kindLengths kind ⌝ }
-{
-    match kind {
-        Kind::Records => 10,
-        Kind::Strict => 10,
-        Kind::Votes => 11,
-        Kind::Trims => 5,
-        Kind::Writes => 0,
-        Kind::Conversions => 1,
-        Kind::Sheets => 3,
-        Kind::Decimals => 2,
-        Kind::Reports => 0,
-        Kind::Words => 0,
-    }
-}
-
-// The number of the word that says how many bytes the first of those lines has; the words after it say
-// it of the others.
-pub fn lengths(list: List) -> usize
-    ensures { λ r. ⌜ r ≡ lengthsIn list ⌝ }
-{
-    match list {
-        List::Exact(_) => 0,
-        List::Ends(_) => 0,
-        List::Source(_) => 0,
-        List::Case(kind) => kind_lengths(kind),
+        List::Exact(function) => plain(function_words(function, true)),
+        List::Ends(function) => plain(function_words(function, false)),
+        List::Source(_) => plain(source_words(number)),
+        List::Mast(mast) => mast_shape(mast),
+        List::Text(text) => text_shape(text),
     }
 }
 
@@ -259,20 +271,27 @@ fn function_agrees(function: Function, exact: bool, words: &[u64]) -> bool
     }
 }
 
-fn case_agrees(kind: Kind, words: &[u64], bytes: &[u8]) -> bool
-    ensures { λ r. ⌜ r ≡ caseAgrees (now (words .entry)) (now (bytes .entry)) kind ⌝ }
+fn mast_agrees(mast: Mast, words: &[u64], bytes: &[u8]) -> bool
+    ensures { λ r. ⌜ r ≡ mastAgrees (now (words .entry)) (now (bytes .entry)) mast ⌝ }
 {
-    match kind {
-        Kind::Records => record_agrees(words, bytes),
-        Kind::Strict => strict_agrees(words, bytes),
-        Kind::Votes => vote_agrees(words, bytes),
-        Kind::Trims => trim_agrees(words, bytes),
-        Kind::Writes => write_agrees(words, bytes),
-        Kind::Conversions => conversion_agrees(words, bytes),
-        Kind::Sheets => sheet_agrees(words, bytes),
-        Kind::Decimals => decimal_agrees(words, bytes),
-        Kind::Reports => report_agrees(words, bytes),
-        Kind::Words => printed_agrees(words, bytes),
+    match mast {
+        Mast::Records => record_agrees(words, bytes),
+        Mast::Strict => strict_agrees(words, bytes),
+        Mast::Votes => vote_agrees(words, bytes),
+        Mast::Trims => trim_agrees(words, bytes),
+    }
+}
+
+fn text_agrees(text: Text, words: &[u64], bytes: &[u8]) -> bool
+    ensures { λ r. ⌜ r ≡ textAgrees (now (words .entry)) (now (bytes .entry)) text ⌝ }
+{
+    match text {
+        Text::Writes => write_agrees(words, bytes),
+        Text::Conversions => conversion_agrees(words, bytes),
+        Text::Sheets => sheet_agrees(words, bytes),
+        Text::Decimals => decimal_agrees(words, bytes),
+        Text::Reports => report_agrees(words, bytes),
+        Text::Words => printed_agrees(words, bytes),
     }
 }
 
@@ -284,6 +303,7 @@ pub fn agrees(list: List, words: &[u64], bytes: &[u8]) -> bool
         List::Exact(function) => function_agrees(function, true, words),
         List::Ends(function) => function_agrees(function, false, words),
         List::Source(part) => source_agrees(part, words),
-        List::Case(kind) => case_agrees(kind, words, bytes),
+        List::Mast(mast) => mast_agrees(mast, words, bytes),
+        List::Text(text) => text_agrees(text, words, bytes),
     }
 }

@@ -8,14 +8,14 @@ use crate::words::given_at;
 use crate::words::is_at_least;
 use crate::words::is_at_most;
 use crate::words::is_undefined;
-use elementary::word::Word;
-use exports::rules::station_air_antilog;
-use exports::rules::station_air_log_word;
+use exported_air::rules::station_air_antilog;
+use exported_air::rules::station_air_log_word;
 use lines::doubles::double_at;
 use lines::doubles::is_last;
 use lines::doubles::lies_last;
 use lines::line::word;
-use wide::quick::both_roots;
+use roots::quick::both_roots;
+use rounding::word::Word;
 use wide::words::Wide;
 
 // Whether the answer is the line's, or lies between its ends.

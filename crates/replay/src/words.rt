@@ -3,9 +3,9 @@ ghost use mathlib.Core.Path.{_≡_};
 ghost use Prim.Native.Nat.{_+_, _^_, _<_};
 ghost use lib.ListN.{getD};
 ghost use Rattle.replay.specs.Words.{wordOf, digitsAtMost, atMost, isAtMost, isAtLeast, isUndefined};
-use elementary::word::ONES;
-use elementary::word::Word;
 use lines::line::word;
+use rounding::word::ONES;
+use rounding::word::Word;
 
 pub enum Given {
     Word(Word),

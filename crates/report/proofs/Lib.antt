@@ -1,5 +1,4 @@
--- A figure's column, how long a report is, the text on its page, and the record.
-pub mod Columns
+-- How long a report is, the text on its page, and the record.
 pub mod Short
 pub mod Held
 pub mod Recorded

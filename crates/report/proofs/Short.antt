@@ -11,25 +11,28 @@ use lib.ListN.{length, replicate, length-append, length-replicate}
 use Rattle.decimals.specs.Decimal.{decimalText}
 use Rattle.refusal.specs.Outcomes.{Outcome, accepted, refused}
 use Rattle.record.specs.declared.readings.Readings.{Readings}
-use Rattle.record.specs.Fields.{meanings}
+use Rattle.fields.specs.Fields.{meanings}
 use Rattle.station.specs.declared.figures.Figures.{Figures}
 use Rattle.writer.specs.Records.{fieldsFrom, recordOf}
 use Rattle.writer.proofs.Fields.{few}
 use Rattle.mast.specs.Judge.{judged}
-use Rattle.trim.specs.declared.changes.Quantity.{Quantity}
-use Rattle.trim.specs.declared.changes.Quantity.the-variants.{Temperature, MeasuredPressure}
-use Rattle.trim.specs.declared.changes.Direction.{Direction}
-use Rattle.trim.specs.declared.changes.Direction.the-variants.{Up, Down}
-use Rattle.trim.specs.declared.changes.Turn.{Turn}
-use Rattle.trim.specs.declared.changes.Found.{Found}
-use Rattle.trim.specs.declared.changes.Found.the-variants as found
-use Rattle.trim.specs.Classes.{trimClass}
+use Rattle.trim_change.specs.declared.changes.Quantity.{Quantity}
+use Rattle.trim_change.specs.declared.changes.Quantity.the-variants.{Temperature, MeasuredPressure}
+use Rattle.trim_change.specs.declared.changes.Direction.{Direction}
+use Rattle.trim_change.specs.declared.changes.Direction.the-variants.{Up, Down}
+use Rattle.trim_change.specs.declared.changes.Turn.{Turn}
+use Rattle.trim_change.specs.declared.changes.Found.{Found}
+use Rattle.trim_change.specs.declared.changes.Found.the-variants as found
+use Rattle.trim_class.specs.Classes.{trimClass}
 use Rattle.trim.specs.Search.{Next, nextOf}
-use Rattle.text.specs.Samples.{ascii}
-use Rattle.text.specs.Text.{decimal}
+use Rattle.pieces.specs.Ascii.{ascii}
+use Rattle.pieces.specs.Characters.{decimal}
 use Rattle.pieces.specs.Pieces.{hex}
 use Rattle.advice.proofs.Short.{number-short, refused-short}
-use Rattle.report.specs.Report.{column, figureLine, stationLines, airLines, trimLine, tenthsText, changeWords, turnLine, foundLine, nextLine, markLine, acceptedLines, answerLines, recordLine, reportText}
+use Rattle.columns.specs.Columns.{column, figureLine}
+use Rattle.air_lines.specs.AirLines.{stationLines, airLines, markLine}
+use Rattle.trim_lines.specs.TrimLines.{trimLine, tenthsText, changeWords, turnLine, foundLine, nextLine}
+use Rattle.report.specs.Report.{acceptedLines, answerLines, recordLine, reportText}
 
 -- xs has at most n bytes
 record Within (xs : List ℕ) (n : ℕ) : Type 0 where

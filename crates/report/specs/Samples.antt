@@ -1,10 +1,10 @@
 -- Whole reports: of no readings, of an altitude that is no number, and of a station at sea level. Definitions only.
 use mathlib.Core.Path.{_≡_}
 use lib.Ieee.{nan}
-use Rattle.record.specs.Fields.{altitude, qnh}
+use Rattle.fields.specs.Fields.{altitude, qnh}
 use Rattle.record.specs.Readings.{noReadings, withEntry}
 use Rattle.elementary.specs.Decimals.{nought}
-use Rattle.text.specs.Samples.{ascii}
+use Rattle.pieces.specs.Ascii.{ascii}
 use Rattle.report.specs.Report.{reportText}
 
 pub record Samples : Type 0 where

@@ -10,7 +10,7 @@ use Rattle.decimals.specs.Decimal.{decimalText}
 use Rattle.refusal.specs.Outcomes.{Outcome, accepted, _⟫_, row, _then_}
 use Rattle.atmosphere.specs.declared.station.Reading.the-variants.{Given}
 use Rattle.station.specs.declared.figures.Figures.{Figures}
-use Rattle.station.specs.declared.resolved.Resolved.{Resolved}
+use Rattle.resolved.specs.declared.resolved.Resolved.{Resolved}
 use Rattle.mast.specs.Judge.{airOutcome}
 
 -- ---- a figure with k decimals in a column of w places, at the right, and what stands after the column

@@ -5,7 +5,7 @@ use mathlib.Core.List.{List, [], _∷_, _++_}
 use lib.Dec.{ltb}
 use lib.Ieee.{Float, binary64, ofInt, minus}
 use Rattle.refusal.specs.Outcomes.{Outcome, accepted, refusal, _⟫_, Row, row, _then_}
-use Rattle.mast.specs.Checks.{finiteRows, pressureRows, humidityRows}
+use Rattle.limits.specs.Checks.{finiteRows, pressureRows, humidityRows}
 use Rattle.sheet.specs.declared.page.Sheet.{Sheet}
 use Rattle.sheet.specs.declared.page.Sheet.the-variants as sheet
 use Rattle.sheet.specs.Row.{rowOutcome}

@@ -14,8 +14,8 @@ use mast::judge::Answer;
 use mast::judge::air;
 use refusal::Check;
 use refusal::Refusal;
+use resolved::resolved::Resolved;
 use station::figures::Figures;
-use station::resolved::Resolved;
 
 fn write_cell(page: &mut [u8], at: usize, text: DecimalText, width: usize, end: u8)
     requires { ⌜ (width ≤ 16) × (at + width < length (now page)) ⌝ }

@@ -2,79 +2,23 @@
 ghost use mathlib.Core.Path.{_≡_};
 ghost use Prim.Native.Nat.{_≤_};
 ghost use lib.ListN.{length};
-ghost use Rattle.refusal.specs.Refusals.{numberOf};
 ghost use Rattle.sheet.specs.Sheet.{settingSheet};
 ghost use Rattle.typed.specs.Typed.{typed};
-ghost use Rattle.pieces.specs.Pieces.{Appended};
-ghost use Rattle.sheet_text.specs.SheetText.{words, refusedText, sheetText, inputOf, argumentLine, inputsText, typedText, Holds};
-use mast::judge::Answer;
+ghost use Rattle.sheet_refusal.specs.SheetRefusal.{Holds};
+ghost use Rattle.sheet_text.specs.SheetText.{sheetText, inputOf, argumentLine, inputsText, typedText};
 use pieces::put;
-use refusal::Refusal;
-use refusal::number;
 use sheet::page::Sheet;
 use sheet::page::setting_sheet;
-use text::answer_text;
+use sheet_refusal::PageText;
+use sheet_refusal::refused_text;
 use thousandths::double_of;
 use typed::Typed;
 use typed::read_decimal;
-
-// The first `len` bytes are the text: at most a page's.
-pub struct PageText {
-    pub bytes: [u8; 1530],
-    pub len: usize,
-}
 
 // An argument: its double, or none where it is no decimal in range.
 pub enum Input {
     Value(f64),
     NotRead,
-}
-
-// The position after the words.
-fn put_words(page: &mut [u8], at: usize, number: u8) -> usize
-    ensures { λ r. ⌜ Appended (now (page .entry)) at (words number) (now (page .exit)) r ⌝ }
-{
-    if number == 11 {
-        return put(page, at, b"an input is not a finite number");
-    }
-    if number == 12 {
-        return put(page, at, b"the pressure is not above 0 hPa");
-    }
-    if number == 13 {
-        return put(page, at, b"the humidity is not from 0 to 100 percent");
-    }
-    if number == 14 {
-        return put(page, at, b"a row has more water vapour than air");
-    }
-    if number == 15 {
-        return put(
-            page,
-            at,
-            b"a row has a figure that is not finite, or a density or sound speed that is not above 0",
-        );
-    }
-    if number == 17 {
-        return put(
-            page,
-            at,
-            b"a row has a figure that is wider than its column",
-        );
-    }
-    put(page, at, b"the page is too short")
-}
-
-// The lines of a refused sheet: the number, and the words.
-pub fn refused_text(refusal: Refusal) -> PageText
-    ensures { λ r. ⌜ Holds r (refusedText (numberOf refusal)) ⌝ }
-{
-    let line = answer_text(Answer::Refused(refusal));
-    let first = line.bytes;
-    let len = line.len;
-    let mut page = [0u8; 1530];
-    let second = put(&mut page, 0, &first[..len]);
-    let end = put_words(&mut page, second, number(refusal));
-    let len = put(&mut page, end, b"\n");
-    PageText { bytes: page, len }
 }
 
 // The sheet of a station as the program prints it, or its refusal in words.

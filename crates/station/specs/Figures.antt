@@ -2,18 +2,18 @@
 -- in m, humidities in percent. Definitions only.
 use mathlib.Core.Bool.{Bool, _&&_}
 use lib.Ieee.{Float, le}
-use Rattle.elementary.specs.Places.{places}
+use Rattle.rounding.specs.Places.{places}
 use Rattle.elementary.specs.Decimals.{decimal, nought}
-use Rattle.humid_air.specs.Doubles.{isFinite}
+use Rattle.doubles.specs.Doubles.{isFinite}
 use Rattle.humid_air.specs.MoistAir.{moleFractionCelsius}
 use Rattle.atmosphere.specs.declared.station.Reading.{Reading}
-use Rattle.atmosphere.specs.Altitudes.{pressureAltitude}
+use Rattle.altitudes.specs.Altitudes.{pressureAltitude}
 use Rattle.air.specs.Station.{celsius, hectopascals, atmosphere}
 use Rattle.air.specs.Matched.{densityMatchedAltitude}
 use Rattle.density_altitude.specs.Inverse.{isFiniteAbove}
 use Rattle.station.specs.declared.figures.Figures.{Figures}
 use Rattle.station.specs.declared.figures.StationFigures.{StationFigures}
-use Rattle.station.specs.declared.resolved.Resolved.{Resolved}
+use Rattle.resolved.specs.declared.resolved.Resolved.{Resolved}
 
 -- ---- what is shown: what is absent or a default comes from the standard atmosphere
 abbrev pub shownCelsius : Reading → Float → Float

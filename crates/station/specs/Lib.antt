@@ -1,3 +1,2 @@
--- What the contracts of `station` cite: what is resolved, and the figures.
-pub mod Resolved
+-- What the contracts of `station` cite: the figures.
 pub mod Figures

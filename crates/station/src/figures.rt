@@ -1,13 +1,13 @@
 // The eight figures of a station and their mark: what is shown of what is resolved, and the figures.
 ghost use mathlib.Core.Path.{_≡_};
-ghost use Rattle.elementary.specs.Places.{places};
+ghost use Rattle.rounding.specs.Places.{places};
 ghost use Rattle.elementary.specs.Decimals.{nought};
 ghost use Rattle.density_altitude.specs.Inverse.{isFiniteAbove};
 ghost use Rattle.station.specs.Figures.{inCipmRange, stationFigures, isAir};
-use super::resolved::Resolved;
 use air::figures::air_figures;
-use atmosphere::altitudes::pressure_altitude_m;
-use humid_air::doubles::is_finite;
+use altitudes::altitudes::pressure_altitude_m;
+use doubles::doubles::is_finite;
+use resolved::resolved::Resolved;
 
 // The figures, and whether the shown temperature and pressure lie in the range of CIPM-2007.
 pub struct Figures {

@@ -1,3 +1,2 @@
-// A station: what the readings of a mast resolve to, what is shown of it, and its figures.
+// The figures of a station, and what is shown of it.
 pub mod figures;
-pub mod resolved;

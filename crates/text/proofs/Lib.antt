@@ -1,5 +1,4 @@
--- A text that grows, and document 01's samples.
-pub mod Appending
+-- Document 01's samples.
 pub mod Samples
 -- Texts of equal outcomes.
 pub mod Outcomes

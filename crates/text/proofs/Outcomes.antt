@@ -2,8 +2,9 @@
 use mathlib.Core.Path.{_≡_, subst}
 use Rattle.refusal.specs.Outcomes.{Outcome}
 use Rattle.station.specs.declared.figures.Figures.{Figures}
-use Rattle.text.specs.declared.Text.{Text}
-use Rattle.text.specs.Text.{Holds, answerText}
+use Rattle.answer_lines.specs.declared.Text.{Text}
+use Rattle.answer_lines.specs.Lines.{Holds}
+use Rattle.text.specs.Text.{answerText}
 
 pub of-outcome : (r : Text) {o p : Outcome Figures} → Holds r (answerText o) → o ≡ p → Holds r (answerText p)
 of-outcome r h e = subst (λ (o : Outcome Figures). Holds r (answerText o)) e h

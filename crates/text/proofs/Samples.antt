@@ -3,23 +3,24 @@ use mathlib.Core.Path.{refl}
 use lib.Ieee.{ofBits, toBits, le, isNan}
 use Rattle.elementary.specs.Power.{powerAt}
 use Rattle.elementary.specs.Exp.{exp}
-use Rattle.elementary.specs.Sqrt.{sqrt}
-use Rattle.humid_air.specs.Doubles.{absDouble, isFinite}
-use Rattle.humid_air.specs.Saturation.{saturationPressure}
+use Rattle.rounding.specs.Sqrt.{sqrt}
+use Rattle.doubles.specs.Doubles.{absDouble, isFinite}
+use Rattle.saturation.specs.Saturation.{saturationPressure}
 use Rattle.humid_air.specs.MoistAir.{moleFraction, compressibilityFactor, airDensityAt}
 use Rattle.humid_air.specs.Sound.{soundSpeed}
 use Rattle.atmosphere.specs.Layers.{standardAir}
-use Rattle.atmosphere.specs.Altitudes.{pressureAltitude}
+use Rattle.altitudes.specs.Altitudes.{pressureAltitude}
 use Rattle.air.specs.Moist.{densityOf}
 use Rattle.air.specs.Station.{atmosphere}
 use Rattle.air.specs.Matched.{heightOfDensity, densityMatchedAltitude, seaLevelDensity}
-use Rattle.record.specs.Bytes.{wordAt}
-use Rattle.record.specs.Fields.{field, headRows}
+use Rattle.fields.specs.Bytes.{wordAt}
+use Rattle.fields.specs.Fields.{field, headRows}
 use Rattle.record.specs.Readings.{rowsFrom, readingsFrom}
-use Rattle.station.specs.Resolved.{ordinary}
+use Rattle.resolved.specs.Resolved.{ordinary}
 use Rattle.station.specs.Figures.{figuresWith}
 use Rattle.mast.specs.Judge.{judged, judge}
-use Rattle.text.specs.Text.{hexDigits, stationLine, airLine, refusalLine}
+use Rattle.pieces.specs.Characters.{refusalLine}
+use Rattle.answer_lines.specs.Lines.{hexDigits, stationLine, airLine}
 use Rattle.text.specs.Samples.{Samples}
 
 pub samples : Samples

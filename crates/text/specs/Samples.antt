@@ -1,25 +1,19 @@
 -- Document 01's sample records and the text of each answer. Definitions only.
 use Prim.Native.Nat.{ℕ, zero, suc, _*_, _/_, _%_, _^_}
-use Prim.Native.Char.{code}
-use Prim.Native.String.{String, [], _∷_}
 use mathlib.Core.Path.{_≡_}
-use mathlib.Core.List.{List, _++_}
-use mathlib.Core.List as list
+use mathlib.Core.List.{List, [], _∷_, _++_}
 use lib.Ieee.{Float, binary64, toBits}
 use lib.ListN.{take, drop}
 use Rattle.elementary.specs.Decimals.{decimal}
 use Rattle.mast.specs.Judge.{judge}
+use Rattle.pieces.specs.Ascii.{ascii}
 use Rattle.text.specs.Text.{answerText}
 
 -- ---- bytes
-abbrev pub ascii : String → List ℕ
-ascii [] = list.[]
-ascii (c ∷ t) = list._∷_ (code c) (ascii t)
-
 -- the last k bytes of n, the highest first
 abbrev pub bytes : ℕ → ℕ → List ℕ
-bytes zero n = list.[]
-bytes (suc k) n = list._∷_ (n / 256 ^ k % 256) (bytes k n)
+bytes zero n = []
+bytes (suc k) n = (n / 256 ^ k % 256) ∷ bytes k n
 
 -- a field: tag, length, a double
 abbrev pub fieldWith : ℕ → Float → List ℕ
@@ -35,7 +29,7 @@ pub record Samples : Type 0 where
   -- document 02: a measured pressure that is cut
   pub cut : textOf (bytes 3 0x070008) ≡ ascii "refused 5\n"
   -- an empty record
-  pub empty : textOf list.[] ≡ ascii "refused 10\n"
+  pub empty : textOf [] ≡ ascii "refused 10\n"
   -- the altitude 0 m: the first line
   pub sea-level : take 59 (textOf (bytes 11 0x0100080000000000000000)) ≡ ascii "station 0000000000000000 402E000000000000 408FAA0000000000\n"
   -- and how the second line ends: dry air, in the range of CIPM-2007

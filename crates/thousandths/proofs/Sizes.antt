@@ -12,10 +12,10 @@ use lib.Ieee.{Float, nan, inf, fin, binary64, up, down, round}
 use lib.Ieee.Fits.{down-pos}
 use lib.Ieee.Nearest.{div-same}
 use lib.Ieee.Scale.{round-same}
-use Rattle.elementary.specs.Nearest.{unitsOf}
+use Rattle.rounding.specs.Nearest.{unitsOf}
 use Rattle.elementary.proofs.CommonDenominator.{above, beneath}
-use Rattle.elementary.proofs.Order.{unsigned, units-exact}
-use Rattle.elementary.proofs.Rounding.{round-unsigned}
+use Rattle.rounding.proofs.Order.{unsigned, units-exact}
+use Rattle.rounding.proofs.Rounding.{round-unsigned}
 use Rattle.elementary.proofs.Near.{Near, round-near}
 use Rattle.thousandths.specs.Thousandths.{nearestWhole}
 

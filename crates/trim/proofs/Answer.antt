@@ -10,16 +10,16 @@ use Rattle.refusal.specs.Outcomes.{Outcome, accepted, refused, _⟫_}
 use Rattle.record.specs.declared.readings.Entry.{Entry}
 use Rattle.record.specs.declared.readings.Entry.the-variants.{Absent, Present}
 use Rattle.record.specs.declared.readings.Readings.{Readings}
-use Rattle.record.specs.Fields.{temperature, measuredPressure}
+use Rattle.fields.specs.Fields.{temperature, measuredPressure}
 use Rattle.record.specs.Readings.{entryOf, readRecord}
 use Rattle.station.specs.declared.figures.Figures.{Figures}
 use Rattle.mast.specs.Judge.{judged, judge}
-use Rattle.trim.specs.declared.changes.Turn.{Turn}
-use Rattle.trim.specs.declared.changes.Found.{Found}
-use Rattle.trim.specs.declared.changes.Found.the-variants as found
-use Rattle.trim.specs.declared.changes.Start.{Start}
-use Rattle.trim.specs.Classes.{trimClass, classOf}
-use Rattle.trim.specs.Changes.{changes, firstOf}
+use Rattle.trim_change.specs.declared.changes.Turn.{Turn}
+use Rattle.trim_change.specs.declared.changes.Found.{Found}
+use Rattle.trim_change.specs.declared.changes.Found.the-variants as found
+use Rattle.trim_change.specs.declared.changes.Start.{Start}
+use Rattle.trim_class.specs.Classes.{trimClass, classOf}
+use Rattle.trim.specs.InOrder.{changes, firstOf}
 use Rattle.trim.specs.Search.{Next, nextFrom, startOf, nextWith, nextOf, nextTrimClass}
 use Rattle.trim.specs.Laws.{OneOfThe800, FirstToGive, Asks, Searched, SmallestChange, Answered, RefusalsFirst}
 use Rattle.trim.proofs.Found.{FromCount, gives-from, gives-not-from, from-count}

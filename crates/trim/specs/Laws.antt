@@ -9,20 +9,20 @@ use lib.Ieee.{Float}
 use Rattle.refusal.specs.Outcomes.{accepted, refused}
 use Rattle.record.specs.declared.readings.Entry.the-variants.{Absent, Present}
 use Rattle.record.specs.declared.readings.Readings.{Readings}
-use Rattle.record.specs.Fields.{temperature, measuredPressure}
+use Rattle.fields.specs.Fields.{temperature, measuredPressure}
 use Rattle.record.specs.Readings.{entryOf, readRecord}
 use Rattle.station.specs.declared.figures.Figures.{Figures}
 use Rattle.mast.specs.Judge.{judged, judge}
-use Rattle.trim.specs.declared.changes.Quantity.{Quantity}
-use Rattle.trim.specs.declared.changes.Quantity.the-variants.{Temperature, MeasuredPressure}
-use Rattle.trim.specs.declared.changes.Direction.{Direction}
-use Rattle.trim.specs.declared.changes.Direction.the-variants.{Up, Down}
-use Rattle.trim.specs.declared.changes.Change.{Change}
-use Rattle.trim.specs.declared.changes.Turn.{Turn}
-use Rattle.trim.specs.declared.changes.Found.the-variants as found
-use Rattle.trim.specs.declared.changes.Start.{Start}
-use Rattle.trim.specs.Classes.{classOf}
-use Rattle.trim.specs.Changes.{changed}
+use Rattle.trim_change.specs.declared.changes.Quantity.{Quantity}
+use Rattle.trim_change.specs.declared.changes.Quantity.the-variants.{Temperature, MeasuredPressure}
+use Rattle.trim_change.specs.declared.changes.Direction.{Direction}
+use Rattle.trim_change.specs.declared.changes.Direction.the-variants.{Up, Down}
+use Rattle.trim_change.specs.declared.changes.Change.{Change}
+use Rattle.trim_change.specs.declared.changes.Turn.{Turn}
+use Rattle.trim_change.specs.declared.changes.Found.the-variants as found
+use Rattle.trim_change.specs.declared.changes.Start.{Start}
+use Rattle.trim_class.specs.Classes.{classOf}
+use Rattle.trim_change.specs.Changes.{changed}
 use Rattle.trim.specs.Search.{Next, nextTrimClass}
 
 -- ---- the 800 changes, and which of two comes first: the smaller k, and at equal k temperature before pressure, up before down

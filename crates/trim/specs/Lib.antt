@@ -1,5 +1,4 @@
--- What the contracts of `trim` cite: the trim class, the changes of one reading, and the search for the smallest; and what may be relied on besides.
-pub mod Classes
-pub mod Changes
+-- What the contracts of `trim` cite: the 800 changes in their order, and the search for the smallest; and what may be relied on besides.
+pub mod InOrder
 pub mod Search
 pub mod Laws

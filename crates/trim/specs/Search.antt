@@ -6,15 +6,15 @@ use Rattle.refusal.specs.Outcomes.{Outcome, accepted, refused, refusal, _⟫_}
 use Rattle.record.specs.declared.readings.Entry.{Entry}
 use Rattle.record.specs.declared.readings.Entry.the-variants.{Absent, Present}
 use Rattle.record.specs.declared.readings.Readings.{Readings}
-use Rattle.record.specs.Fields.{temperature, measuredPressure}
+use Rattle.fields.specs.Fields.{temperature, measuredPressure}
 use Rattle.record.specs.Readings.{entryOf, readRecord}
-use Rattle.trim.specs.declared.changes.Found.{Found}
-use Rattle.trim.specs.declared.changes.Found.the-variants as found
-use Rattle.trim.specs.declared.changes.Start.{Start}
+use Rattle.trim_change.specs.declared.changes.Found.{Found}
+use Rattle.trim_change.specs.declared.changes.Found.the-variants as found
+use Rattle.trim_change.specs.declared.changes.Start.{Start}
 use Rattle.trim.specs.declared.search.Trim.{Trim}
 use Rattle.trim.specs.declared.search.Trim.the-variants.{Turns, NoChange, Refused}
-use Rattle.trim.specs.Classes.{classOf}
-use Rattle.trim.specs.Changes.{changes, firstOf}
+use Rattle.trim_class.specs.Classes.{classOf}
+use Rattle.trim.specs.InOrder.{changes, firstOf}
 
 -- the class, and the first change that gives another, if there is one
 pub record Next : Type 0 where

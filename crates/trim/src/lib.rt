@@ -1,4 +1,2 @@
-// The trim class of readings, and the smallest change of one reading that gives another class.
-pub mod changes;
-pub mod classes;
+// The smallest change of one reading that gives another trim class.
 pub mod search;

@@ -1,23 +1,23 @@
 // The smallest change of a record's temperature or measured pressure that gives another trim class.
 ghost use mathlib.Core.Path.{_≡_};
-ghost use Rattle.trim.specs.Changes.{changesOf, firstOf};
+ghost use Rattle.trim.specs.InOrder.{changesOf, firstOf};
 ghost use Rattle.trim.specs.Search.{outcome, nextFrom, nextWith, nextOf, nextTrimClass};
-use super::changes::Direction;
-use super::changes::Found;
-use super::changes::Quantity;
-use super::changes::Start;
-use super::changes::Turn;
-use super::changes::tried;
-use super::classes::Class;
-use super::classes::class_of;
-use record::fields::MEASURED_PRESSURE;
-use record::fields::TEMPERATURE;
+use fields::fields::MEASURED_PRESSURE;
+use fields::fields::TEMPERATURE;
 use record::readings::Entry;
 use record::readings::Readings;
 use record::readings::entry_of;
 use record::readings::read_record;
 use refusal::Check;
 use refusal::Refusal;
+use trim_change::changes::Direction;
+use trim_change::changes::Found;
+use trim_change::changes::Quantity;
+use trim_change::changes::Start;
+use trim_change::changes::Turn;
+use trim_change::changes::tried;
+use trim_class::classes::Class;
+use trim_class::classes::class_of;
 
 // the largest number of tenths that is tried
 const MOST_TENTHS: u8 = 200;

@@ -1,8 +1,6 @@
--- The laws of the definitions: names that are looked up, the words of a text one after the other, decimals in range, what a word says, what words leave in the
--- readings, and the tie between what is typed and what is judged.
-pub mod Names
+-- The laws of the definitions: the words of a text one after the other, decimals in range, what words leave in the readings, and the tie between what is
+-- typed and what is judged.
 pub mod Split
 pub mod Ranged
-pub mod OneWord
 pub mod Noted
 pub mod Tied

@@ -8,20 +8,20 @@ use native.Mathlib.Omega.{arith}
 use borrow.Author.Tests.{eqb-true, eqb-false}
 use lib.Dec.{eqb}
 use lib.ListN.{length, length-set}
-use Rattle.record.specs.declared.fields.Value.{Value}
-use Rattle.record.specs.declared.fields.Value.the-variants.{Count}
+use Rattle.fields.specs.declared.fields.Value.{Value}
+use Rattle.fields.specs.declared.fields.Value.the-variants.{Count}
 use Rattle.record.specs.declared.readings.Stored.{Stored}
 use Rattle.record.specs.declared.readings.Stored.the-variants.{Present}
 use Rattle.record.specs.declared.readings.Readings.{Readings}
-use Rattle.record.specs.Fields.{meanings}
+use Rattle.fields.specs.Fields.{meanings}
 use Rattle.record.specs.Readings.{slotOf, isPresent, entryFor, entryOf, storedOf, withValue}
 use Rattle.writer.proofs.Passed.{stored-same, stored-other}
-use Rattle.typed_readings.specs.declared.Problem.the-variants.{RepeatedWord}
-use Rattle.typed_readings.specs.declared.Word.{Word}
-use Rattle.typed_readings.specs.declared.Word.the-variants.{Reading, Wrong}
-use Rattle.typed_readings.specs.Words.{readWord}
+use Rattle.typed_word.specs.declared.Problem.the-variants.{RepeatedWord}
+use Rattle.typed_word.specs.declared.Word.{Word}
+use Rattle.typed_word.specs.declared.Word.the-variants.{Reading, Wrong}
+use Rattle.typed_word.specs.Word.{readWord}
 use Rattle.typed_readings.specs.Understood.{given, problem, _⟫_, noted, understandFrom}
-use Rattle.typed_readings.proofs.OneWord.{spoken}
+use Rattle.typed_word.proofs.OneWord.{spoken}
 
 -- the word w gave a reading that q has
 pub record Noted (w : List ℕ) (q : Readings) : Type 0 where

@@ -8,12 +8,8 @@ use lib.Dec.{T, eqb, leb, leb→le, nleb→lt}
 use lib.ListN.{length, take, drop, length-drop, drop-of-length-le}
 use lib.Seq.{take-length, drop-drop}
 use Rattle.bytes.specs.Bytes.{indexOf, indexAfter, slice}
+use Rattle.typed_word.proofs.OneWord.{found}
 use Rattle.typed_readings.specs.Words.{before, words}
-
--- where the code finds a byte that it looks for from a position on
-pub found : (d : ℕ) (s : List ℕ) (from : ℕ) {r : ℕ} → r ≡ from + indexOf d (slice from (length s) s) → r ≡ from + indexOf d (drop from s)
-unfolding slice
-found d s from e = e ∙ ap (λ (l : List ℕ). from + indexOf d (drop from l)) (take-length s)
 
 -- ---- the first word and the others
 abbrev byFirst : List ℕ → List (List ℕ)

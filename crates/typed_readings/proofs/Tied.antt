@@ -11,8 +11,8 @@ use Rattle.refusal.specs.Outcomes.{Outcome, accepted, _⟫_}
 use Rattle.thousandths.specs.Thousandths.{countOf, wordOf, thousandths}
 use Rattle.thousandths.proofs.Words.{twos-complement}
 use Rattle.typed.specs.Typed.{typed}
-use Rattle.record.specs.declared.fields.Value.{Value}
-use Rattle.record.specs.declared.fields.Value.the-variants.{Count}
+use Rattle.fields.specs.declared.fields.Value.{Value}
+use Rattle.fields.specs.declared.fields.Value.the-variants.{Count}
 use Rattle.record.specs.declared.readings.Entry.the-variants as entry
 use Rattle.record.specs.declared.readings.Stored.{Stored}
 use Rattle.record.specs.declared.readings.Stored.the-variants.{Absent, Present}
@@ -25,9 +25,10 @@ use Rattle.writer.proofs.Passed.{no-stored}
 use Rattle.writer.proofs.ReadBack.{read-back}
 use Rattle.mast.specs.Judge.{judged, judge}
 use Rattle.typed_readings.specs.Understood.{given, understand}
-use Rattle.typed_readings.specs.Laws.{Says, Said, Nearest, Typed, TypedIsJudged}
+use Rattle.typed_word.specs.Word.{Says}
+use Rattle.typed_readings.specs.Laws.{Said, Nearest, Typed, TypedIsJudged}
 use Rattle.typed_readings.proofs.Ranged.{typed-in-range}
-use Rattle.typed_readings.proofs.OneWord.{says-read, counted-value, spoken}
+use Rattle.typed_word.proofs.OneWord.{says-read, counted-value, spoken}
 use Rattle.typed_readings.proofs.Noted.{Source, From, from-words}
 
 module _ (ws : List (List ℕ)) (r : Readings) (e : understand ws ≡ given r) where

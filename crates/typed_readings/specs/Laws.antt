@@ -13,16 +13,12 @@ use Rattle.typed.specs.declared.Typed.the-variants.{Count}
 use Rattle.typed.specs.Typed.{typed}
 use Rattle.record.specs.declared.readings.Entry.the-variants.{Present}
 use Rattle.record.specs.declared.readings.Readings.{Readings}
-use Rattle.record.specs.Fields.{meanings}
+use Rattle.fields.specs.Fields.{meanings}
 use Rattle.record.specs.Readings.{entryOf, readRecord}
 use Rattle.writer.specs.Records.{recordOf}
 use Rattle.mast.specs.Judge.{judged, judge}
-use Rattle.typed_readings.specs.Words.{names}
+use Rattle.typed_word.specs.Word.{Says}
 use Rattle.typed_readings.specs.Understood.{given, understand}
-
--- the word w says the decimal d of the meaning m: its name, `=`, the decimal
-abbrev pub Says : List ℕ → ℕ → List ℕ → Type 0
-Says w m d = (m < meanings) × (w ≡ getD names m [] ++ 61 ∷ d)
 
 pub record Said (w : List ℕ) : Type 0 where
   pub meaning : ℕ

@@ -2,17 +2,17 @@
 use Prim.Native.Nat.{ℕ, _+_}
 use mathlib.Core.Bool.{cond}
 use mathlib.Core.List.{List, [], _∷_}
-use Rattle.record.specs.declared.fields.Value.the-variants.{Count}
+use Rattle.fields.specs.declared.fields.Value.the-variants.{Count}
 use Rattle.record.specs.declared.readings.Readings.{Readings}
 use Rattle.record.specs.Readings.{noReadings, isPresent, entryOf, withValue}
-use Rattle.typed_readings.specs.declared.Problem.{Problem}
-use Rattle.typed_readings.specs.declared.Problem.the-variants.{RepeatedWord}
-use Rattle.typed_readings.specs.declared.Word.{Word}
-use Rattle.typed_readings.specs.declared.Word.the-variants as word
+use Rattle.typed_word.specs.declared.Problem.{Problem}
+use Rattle.typed_word.specs.declared.Problem.the-variants.{RepeatedWord}
+use Rattle.typed_word.specs.declared.Word.{Word}
+use Rattle.typed_word.specs.declared.Word.the-variants as word
 use Rattle.typed_readings.specs.declared.WordCheck.{WordCheck}
 use Rattle.typed_readings.specs.declared.WordCheck.the-variants as check
 use Rattle.typed_readings.specs.declared.TypedReadings.{TypedReadings}
-use Rattle.typed_readings.specs.Words.{readWord}
+use Rattle.typed_word.specs.Word.{readWord}
 
 pub data Understood : Type 0 where
   given : Readings → Understood

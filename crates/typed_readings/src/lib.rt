@@ -5,43 +5,18 @@ ghost use mathlib.Core.Path.{_≡_};
 ghost use mathlib.Core.List.{[]};
 ghost use Prim.Native.Nat.{_+_, min};
 ghost use lib.ListN.{length, getD};
-ghost use Rattle.typed_readings.specs.Words.{words, Starts, meaningNamed, valueFor, readWord};
+ghost use Rattle.typed_readings.specs.Words.{words, Starts};
 ghost use Rattle.typed_readings.specs.Understood.{understood, noted, understand};
 use bytes::scan::find;
-use record::fields::ALTITUDE;
-use record::fields::DENSITY_ALTITUDE;
-use record::fields::HUMIDITY;
-use record::fields::MEANINGS;
-use record::fields::MEASURED_PRESSURE;
-use record::fields::QNH;
-use record::fields::STATION_PRESSURE;
-use record::fields::TEMPERATURE;
-use record::fields::Value;
+use fields::fields::Value;
 use record::readings::Readings;
 use record::readings::entry_of;
 use record::readings::is_present;
 use record::readings::no_readings;
 use record::readings::with_value;
-use thousandths::word_from;
-use typed::Typed;
-use typed::read_decimal;
-
-// What is wrong with a word, in the order of the checks of one word.
-pub enum Problem {
-    // no `=`, or a name before it that is none
-    UnknownWord,
-    NotANumber,
-    TooManyDecimals,
-    OutOfRange,
-    // a reading that an earlier word has given
-    RepeatedWord,
-}
-
-// A word: a meaning and its count, as the word of 32 bits that a field holds, or what is wrong.
-pub enum Word {
-    Reading(usize, u32),
-    Wrong(Problem),
-}
+use typed_word::Problem;
+use typed_word::Word;
+use typed_word::read_word;
 
 // Whether all words were understood, or what is wrong with the first that was not, and its number,
 // counted from 0.
@@ -54,61 +29,6 @@ pub enum WordCheck {
 pub struct TypedReadings {
     pub check: WordCheck,
     pub readings: Readings,
-}
-
-// The meaning that a name has, and MEANINGS where it has none.
-fn meaning_named(name: &[u8]) -> usize
-    ensures { λ r. ⌜ r ≡ meaningNamed (now (name .entry)) ⌝ }
-{
-    if check::same(name, b"altitude") {
-        return ALTITUDE;
-    }
-    if check::same(name, b"temperature") {
-        return TEMPERATURE;
-    }
-    if check::same(name, b"station-pressure") {
-        return STATION_PRESSURE;
-    }
-    if check::same(name, b"qnh") {
-        return QNH;
-    }
-    if check::same(name, b"humidity") {
-        return HUMIDITY;
-    }
-    if check::same(name, b"density-altitude") {
-        return DENSITY_ALTITUDE;
-    }
-    if check::same(name, b"pressure") {
-        return MEASURED_PRESSURE;
-    }
-    MEANINGS
-}
-
-fn value_for(meaning: usize, decimal: Typed) -> Word
-    ensures { λ r. ⌜ r ≡ valueFor meaning decimal ⌝ }
-{
-    match decimal {
-        Typed::Count(n) => Word::Reading(meaning, word_from(n)),
-        Typed::NotANumber => Word::Wrong(Problem::NotANumber),
-        Typed::TooManyDecimals => Word::Wrong(Problem::TooManyDecimals),
-        Typed::OutOfRange => Word::Wrong(Problem::OutOfRange),
-    }
-}
-
-// One word: a name, `=` and a decimal.
-fn read_word(word: &[u8]) -> Word
-    ensures { λ r. ⌜ r ≡ readWord (now (word .entry)) ⌝ }
-{
-    let at = find(word, 0, word.len(), b'=');
-    if at >= word.len() {
-        return Word::Wrong(Problem::UnknownWord);
-    }
-    let meaning = meaning_named(&word[..at]);
-    if meaning >= MEANINGS {
-        return Word::Wrong(Problem::UnknownWord);
-    }
-    let after = at + 1;
-    value_for(meaning, read_decimal(&word[after..]))
 }
 
 // The readings with those of one word more.

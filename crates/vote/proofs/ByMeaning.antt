@@ -7,11 +7,11 @@ use native.Mathlib.Omega.{arith}
 use Rattle.record.specs.declared.readings.Entry.{Entry}
 use Rattle.record.specs.declared.readings.Entry.the-variants.{Absent, Present}
 use Rattle.record.specs.declared.readings.Readings.{Readings}
-use Rattle.record.specs.Fields.{meanings}
+use Rattle.fields.specs.Fields.{meanings}
 use Rattle.record.specs.Readings.{entryOf}
 use Rattle.record.proofs.ByMeaning.{Whole, none-whole, with-whole, none-there, entry-set, entry-left}
-use Rattle.vote.specs.Middle.{middle}
-use Rattle.vote.specs.Fields.{withMiddle, votedOf}
+use Rattle.middle.specs.Middle.{middle}
+use Rattle.voted.specs.Fields.{withMiddle, votedOf}
 use Rattle.vote.specs.Laws.{middleEntry, VotedByMeaning}
 
 -- ---- one meaning more

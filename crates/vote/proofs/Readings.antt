@@ -9,19 +9,19 @@ use Rattle.refusal.specs.Outcomes.{Outcome, accepted, refused, _⟫_}
 use Rattle.record.specs.declared.readings.Entry.{Entry}
 use Rattle.record.specs.declared.readings.Entry.the-variants.{Absent, Present}
 use Rattle.record.specs.declared.readings.Readings.{Readings}
-use Rattle.record.specs.Fields.{meanings}
+use Rattle.fields.specs.Fields.{meanings}
 use Rattle.record.specs.Readings.{entryOf, withEntry, isPresent, readRecord}
 use Rattle.record.proofs.ByMeaning.{reads-doubles}
 use Rattle.station.specs.declared.figures.Figures.{Figures}
 use Rattle.mast.specs.Entries.{FiniteEntry}
 use Rattle.mast.specs.Judge.{judged, judge}
 use Rattle.mast.proofs.Entries.{judged-by-entries, accepted-is-finite}
-use Rattle.mast.proofs.Numbers.{is-number}
-use Rattle.vote.specs.Middle.{middle, IsNumber}
-use Rattle.vote.specs.Fields.{isNotInAll, notInAllOf, withMiddle, votedOf, voted, votedOutcome}
+use Rattle.doubles.proofs.NotANumber.{is-number}
+use Rattle.middle.specs.Middle.{middle, IsNumber}
+use Rattle.voted.specs.Fields.{isNotInAll, notInAllOf, withMiddle, votedOf, voted, votedOutcome}
 use Rattle.vote.specs.Vote.{acceptedReadings}
 use Rattle.vote.specs.Laws.{ByTheJudge, middleEntry, SameFields, TwoEqualValues}
-use Rattle.vote.proofs.OfThree.{middle-in-every-order, two-equal}
+use Rattle.middle.proofs.OfThree.{middle-in-every-order, two-equal}
 use Rattle.vote.proofs.ByMeaning.{voted-by-meaning}
 
 -- ---- an accepted record

@@ -7,12 +7,12 @@ use Rattle.refusal.specs.Outcomes.{accepted, refused, _⟫_}
 use Rattle.record.specs.declared.readings.Entry.{Entry}
 use Rattle.record.specs.declared.readings.Entry.the-variants.{Absent, Present}
 use Rattle.record.specs.declared.readings.Readings.{Readings}
-use Rattle.record.specs.Fields.{meanings}
+use Rattle.fields.specs.Fields.{meanings}
 use Rattle.record.specs.Readings.{entryOf, isPresent}
 use Rattle.station.specs.declared.figures.Figures.{Figures}
 use Rattle.mast.specs.Judge.{judged, judge}
-use Rattle.vote.specs.Middle.{middle}
-use Rattle.vote.specs.Fields.{voted}
+use Rattle.middle.specs.Middle.{middle}
+use Rattle.voted.specs.Fields.{voted}
 use Rattle.vote.specs.Vote.{byMast, byNoMast, acceptedReadings, afterMast, vote}
 
 -- ---- a mast's record is accepted and refused as the judge does it

@@ -10,7 +10,7 @@ use Rattle.station.specs.declared.figures.Figures.{Figures}
 use Rattle.mast.specs.Judge.{judged}
 use Rattle.vote.specs.declared.answer.Vote.{Vote}
 use Rattle.vote.specs.declared.answer.Vote.the-variants as answer
-use Rattle.vote.specs.Fields.{votedOutcome}
+use Rattle.voted.specs.Fields.{votedOutcome}
 
 -- ---- an outcome with the mast whose record is refused, 1 to 3, and 0 where there is none
 pub record VoteOutcome : Type 0 where

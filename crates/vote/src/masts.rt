@@ -4,12 +4,12 @@ ghost use mathlib.Core.Path.{_≡_};
 ghost use Rattle.record.specs.Readings.{readOutcome};
 ghost use Rattle.vote.specs.Vote.{acceptedReadings, voteOutcome, vote};
 use super::answer::Vote;
-use super::fields::vote_readings;
 use mast::judge::Answer;
 use mast::judge::judge_readings;
 use record::readings::Read;
 use record::readings::read_record;
 use refusal::Check;
+use voted::by_field::vote_readings;
 
 // The readings of a record that is accepted by itself, or its refusal.
 fn accepted_readings(bytes: &[u8]) -> Read

@@ -1,3 +1,2 @@
--- The laws of the definitions of `wide`.
+-- The laws of the floor of a square root.
 pub mod Root
-pub mod Entry

@@ -12,13 +12,13 @@ use lib.Ieee.Bits.{ofBits-toBits, toBits-lt}
 use lib.ListN.{length, length-append, drop-of-length-le}
 use Rattle.refusal.specs.Causes.{NoneHolds}
 use Rattle.refusal.proofs.Rows.{then-none, none-both}
-use Rattle.record.specs.declared.fields.Value.{Value}
-use Rattle.record.specs.declared.fields.Value.the-variants.{Double, Count}
+use Rattle.fields.specs.declared.fields.Value.{Value}
+use Rattle.fields.specs.declared.fields.Value.the-variants.{Double, Count}
 use Rattle.record.specs.declared.readings.Readings.{Readings}
-use Rattle.record.specs.Bytes.{wordAt, doubleAt}
-use Rattle.record.specs.Fields.{isCountTag, isTag, meaningOf, isCount, dataSize, tagOf, lengthOf, sizeOf, valueOf, field, headRows}
+use Rattle.fields.specs.Bytes.{wordAt, doubleAt}
+use Rattle.fields.specs.Fields.{isCountTag, isTag, meaningOf, isCount, dataSize, tagOf, lengthOf, sizeOf, valueOf, field, headRows}
 use Rattle.record.specs.Readings.{withValue, entryOf, isPresent, orderRows, noted}
-use Rattle.record.proofs.Forms.{size-by, at-most}
+use Rattle.fields.proofs.Forms.{size-by, at-most}
 use Rattle.record.proofs.Walk.{fieldRows, read}
 use Rattle.record.proofs.Followed.{read-whole}
 use Rattle.writer.specs.Records.{bytes, dataOf, fieldWith, hasForm}

@@ -12,10 +12,10 @@ use lib.Ieee.Bits.{toBits-ofBits}
 use lib.ListN.{length, take, drop}
 use lib.Seq.{take-add}
 use Rattle.refusal.specs.Causes.{NoneHolds}
-use Rattle.record.specs.declared.fields.Value.the-variants.{Double, Count}
-use Rattle.record.specs.Bytes.{wordAt, doubleAt}
-use Rattle.record.specs.Fields.{isCountTag, isCount, dataSize, tagOf, lengthOf, sizeOf, valueOf, headRows}
-use Rattle.record.proofs.Forms.{Tagged, tagged}
+use Rattle.fields.specs.declared.fields.Value.the-variants.{Double, Count}
+use Rattle.fields.specs.Bytes.{wordAt, doubleAt}
+use Rattle.fields.specs.Fields.{isCountTag, isCount, dataSize, tagOf, lengthOf, sizeOf, valueOf, headRows}
+use Rattle.fields.proofs.Forms.{Tagged, tagged}
 use Rattle.writer.specs.Records.{bytes, dataOf, fieldWith, hasForm}
 use Rattle.writer.specs.Laws.{AreBytes, NotNan}
 use Rattle.writer.proofs.Spelled.{word-lt, spells}

@@ -6,13 +6,13 @@ use Prim.Native.Nat.{ℕ, zero, suc, _+_, _-_, _*_, _≤_, _<_}
 use native.Mathlib.Omega.{arith}
 use native.Mathlib.Numerals.{add-one}
 use lib.ListN.{length, length-append}
-use Rattle.record.specs.declared.fields.Value.{Value}
+use Rattle.fields.specs.declared.fields.Value.{Value}
 use Rattle.record.specs.declared.readings.Stored.{Stored}
 use Rattle.record.specs.declared.readings.Stored.the-variants.{Absent, Present}
 use Rattle.record.specs.declared.readings.Readings.{Readings}
-use Rattle.record.specs.Fields.{meanings, meaningOf, dataSize}
+use Rattle.fields.specs.Fields.{meanings, meaningOf, dataSize}
 use Rattle.record.specs.Readings.{storedOf}
-use Rattle.record.proofs.Forms.{at-most}
+use Rattle.fields.proofs.Forms.{at-most}
 use Rattle.writer.specs.Records.{bytes, dataOf, fieldWith, hasForm, storedField, fieldsFrom}
 use Rattle.writer.proofs.Bytes.{length-bytes}
 

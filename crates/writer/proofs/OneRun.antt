@@ -9,7 +9,7 @@ use lib.ListN.{length}
 use Rattle.record.specs.declared.readings.Stored.{Stored}
 use Rattle.record.specs.declared.readings.Stored.the-variants.{Absent, Present}
 use Rattle.record.specs.declared.readings.Readings.{Readings}
-use Rattle.record.specs.Fields.{meanings, meaningOf, isCount, tagIn}
+use Rattle.fields.specs.Fields.{meanings, meaningOf, isCount, tagIn}
 use Rattle.record.specs.Readings.{storedOf}
 use Rattle.writer.specs.Records.{fieldWith, hasForm, storedField, fieldsFrom, recordOf}
 use Rattle.writer.proofs.Fields.{rest, next-field}

@@ -6,13 +6,13 @@ use Prim.Native.Nat.{ℕ, zero, suc, _+_, _≤_, _<_}
 use native.Mathlib.Omega.{arith}
 use borrow.Author.Tests.{le-ltb}
 use Rattle.refusal.specs.Outcomes.{accepted}
-use Rattle.record.specs.declared.fields.Value.{Value}
+use Rattle.fields.specs.declared.fields.Value.{Value}
 use Rattle.record.specs.declared.readings.Stored.{Stored}
 use Rattle.record.specs.declared.readings.Stored.the-variants.{Absent, Present}
 use Rattle.record.specs.declared.readings.Readings.{Readings}
-use Rattle.record.specs.Fields.{meanings, isTag, meaningOf, isCount}
+use Rattle.fields.specs.Fields.{meanings, isTag, meaningOf, isCount}
 use Rattle.record.specs.Readings.{noReadings, storedOf, withValue, entryFor, entryOf, isPresent, readRecord}
-use Rattle.record.proofs.Forms.{tag-known}
+use Rattle.fields.proofs.Forms.{tag-known}
 use Rattle.record.proofs.Walk.{no-bytes, read}
 use Rattle.writer.specs.Records.{fieldWith, hasForm, storedField, fieldsFrom}
 use Rattle.writer.specs.Laws.{AreHeld, ReadBack}

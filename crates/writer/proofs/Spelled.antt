@@ -8,7 +8,7 @@ use lib.Arith.{mod-mul, digits-lt, digits-div, digits-mod}
 use lib.Dec.{lit<}
 use lib.ListN.{length, take, drop, getD, length-drop}
 use lib.Seq.{getD-append-add, getD-at, getD-drop, take-suc}
-use Rattle.record.specs.Bytes.{wordAt}
+use Rattle.fields.specs.Bytes.{wordAt}
 use Rattle.writer.specs.Records.{bytes}
 use Rattle.writer.specs.Laws.{AreBytes}
 use Rattle.writer.proofs.Bytes.{length-bytes}

@@ -7,11 +7,11 @@ use lib.Dec.{T}
 use lib.Ieee.{binary64, fits, isNan}
 use lib.ListN.{length, getD}
 use Rattle.refusal.specs.Outcomes.{accepted}
-use Rattle.record.specs.declared.fields.Value.{Value}
-use Rattle.record.specs.declared.fields.Value.the-variants.{Double, Count}
+use Rattle.fields.specs.declared.fields.Value.{Value}
+use Rattle.fields.specs.declared.fields.Value.the-variants.{Double, Count}
 use Rattle.record.specs.declared.readings.Stored.the-variants.{Present}
 use Rattle.record.specs.declared.readings.Readings.{Readings}
-use Rattle.record.specs.Fields.{meanings}
+use Rattle.fields.specs.Fields.{meanings}
 use Rattle.record.specs.Readings.{storedOf, readRecord}
 use Rattle.writer.specs.Records.{recordOf}
 

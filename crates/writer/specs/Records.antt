@@ -3,12 +3,12 @@ use Prim.Native.Nat.{ℕ, zero, suc, _+_, _/_, _%_, _^_}
 use mathlib.Core.Bool.{Bool, not, cond}
 use mathlib.Core.List.{List, [], _∷_, _++_}
 use lib.Ieee.{binary64, toBits}
-use Rattle.record.specs.declared.fields.Value.{Value}
-use Rattle.record.specs.declared.fields.Value.the-variants.{Double, Count}
+use Rattle.fields.specs.declared.fields.Value.{Value}
+use Rattle.fields.specs.declared.fields.Value.the-variants.{Double, Count}
 use Rattle.record.specs.declared.readings.Stored.{Stored}
 use Rattle.record.specs.declared.readings.Stored.the-variants.{Absent, Present}
 use Rattle.record.specs.declared.readings.Readings.{Readings}
-use Rattle.record.specs.Fields.{meanings, isCountTag, meaningOf, dataSize}
+use Rattle.fields.specs.Fields.{meanings, isCountTag, meaningOf, dataSize}
 use Rattle.record.specs.Readings.{storedOf}
 
 -- the last k bytes of n, the highest first

@@ -5,8 +5,7 @@ use mathlib.Core.List.{List}
 use lib.Dec.{eqb}
 use lib.ListN.{getD}
 use Rattle.refusal.specs.Outcomes.{Outcome}
-use Rattle.exports.specs.Lent.{statusOf}
-use Rattle.exports.specs.Records.{lengthOr}
+use Rattle.lent.specs.Lent.{statusOf, lengthOr}
 use Rattle.lines.specs.Text.{isText}
 
 -- word number k is the status, the next one the length, and the bytes are the whole buffer

@@ -4,8 +4,8 @@ use mathlib.Core.Bool.{Bool, _&&_}
 use mathlib.Core.List.{List}
 use lib.Dec.{leb}
 use lib.ListN.{length}
-use Rattle.record.specs.Fields.{meanings}
-use Rattle.exports.specs.Records.{recordIn, lengthIn, outAfter}
+use Rattle.fields.specs.Fields.{meanings}
+use Rattle.exported_records.specs.Records.{recordIn, lengthIn, outAfter}
 use Rattle.lines.specs.Buffer.{freshBuffer}
 use Rattle.written.specs.Answer.{outcomeStands}
 use Rattle.written.specs.Arrays.{areBelow, formsOf, valuesOf, countsOf}

@@ -2,11 +2,11 @@
 ghost use mathlib.Core.Path.{_≡_};
 ghost use Prim.Native.Nat.{_^_, _%_, _<_};
 ghost use lib.ListN.{getD};
-ghost use Rattle.record.specs.Fields.{meanings};
+ghost use Rattle.fields.specs.Fields.{meanings};
 ghost use Rattle.written.specs.Arrays.{areBelow, formsOf, valuesOf, countsOf};
+use fields::fields::MEANINGS;
 use lines::doubles::double_at;
 use lines::line::word;
-use record::fields::MEANINGS;
 
 // Whether the seven words from number `first` on are below a limit.
 pub(crate) fn are_below(words: &[u64], first: usize, limit: u64) -> bool

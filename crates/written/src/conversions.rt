@@ -6,8 +6,8 @@ ghost use lib.ListN.{length};
 ghost use Rattle.written.specs.Conversions.{conversionStands, partsAgree, conversionAgrees};
 use super::answer::BUFFER;
 use super::answer::answer_stands;
-use exports::records::station_air_to_counts;
-use exports::records::station_air_to_doubles;
+use exported_records::records::station_air_to_counts;
+use exported_records::records::station_air_to_doubles;
 use lines::buffer::refresh;
 use lines::line::word;
 

@@ -8,7 +8,7 @@ use super::arrays::are_below;
 use super::arrays::counts_of;
 use super::arrays::forms_of;
 use super::arrays::values_of;
-use exports::records::station_air_write;
+use exported_records::records::station_air_write;
 use lines::buffer::refresh;
 
 fn write_stands(words: &[u64], expected: &[u8], out: &mut [u8]) -> bool

@@ -1,6 +1,6 @@
 -- `advice::put_refusal_line` meets its contract. Assumes nothing.
 use borrow.Author.Needs.{needs}
-use Rattle.text.specs.Text.{refusalLine}
+use Rattle.pieces.specs.Characters.{refusalLine}
 use Rattle.pieces.proofs.Growing.{and-then}
 use Rattle.advice.proofs.put_refusal_line.Statement.{statement}
 use Rattle.advice.proofs.put_refusal_line.Tie as tie

@@ -6,7 +6,7 @@ use mir.Syntax.{w32}
 use mir.Val.{SFits}
 use mir.ValLaws.{toZ-ofZ}
 use Rattle.thousandths.specs.Thousandths.{wordOf}
-use Rattle.record.specs.declared.fields.Value.the-variants.{Count}
+use Rattle.fields.specs.declared.fields.Value.the-variants.{Count}
 use Rattle.conversion.specs.declared.Turned.the-variants.{Other}
 use Rattle.conversion.specs.Conversion.{counted}
 use Rattle.conversion.proofs.counted.Statement.{statement}

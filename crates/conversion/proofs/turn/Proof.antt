@@ -4,8 +4,8 @@ use mathlib.Core.Bool.{Bool}
 use Prim.Native.Nat.{_+_}
 use borrow.Author.Needs.{needs}
 use lib.Ieee.{Float}
-use Rattle.record.specs.declared.fields.Value.{Value}
-use Rattle.record.specs.declared.fields.Value.the-variants.{Double}
+use Rattle.fields.specs.declared.fields.Value.{Value}
+use Rattle.fields.specs.declared.fields.Value.the-variants.{Double}
 use Rattle.conversion.specs.declared.Turned.the-variants.{Other}
 use Rattle.conversion.specs.Conversion.{counted, turned}
 use Rattle.conversion.proofs.turn.Statement.{statement}

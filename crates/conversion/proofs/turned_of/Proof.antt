@@ -8,11 +8,11 @@ use borrow.Author.Tests.{not-false}
 use Rattle.refusal.specs.Outcomes.{accepted}
 use Rattle.refusal.specs.Causes.{NoneHolds}
 use Rattle.refusal.proofs.Rows.{then-none}
-use Rattle.record.specs.declared.fields.Field.{Field}
-use Rattle.record.specs.declared.fields.Found.{Found}
-use Rattle.record.specs.declared.fields.Found.the-variants as found-as
-use Rattle.record.specs.Fields.{meanings, tagOf, field, headRows, found, fieldOf}
-use Rattle.record.proofs.Forms.{tagged}
+use Rattle.fields.specs.declared.fields.Field.{Field}
+use Rattle.fields.specs.declared.fields.Found.{Found}
+use Rattle.fields.specs.declared.fields.Found.the-variants as found-as
+use Rattle.fields.specs.Fields.{meanings, tagOf, field, headRows, found, fieldOf}
+use Rattle.fields.proofs.Forms.{tagged}
 use Rattle.conversion.specs.Conversion.{turned}
 use Rattle.conversion.proofs.turned_of.Statement.{statement}
 use Rattle.conversion.proofs.turned_of.Tie as tie

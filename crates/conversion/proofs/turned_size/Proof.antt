@@ -3,7 +3,7 @@ use mathlib.Core.Path.{sym, ap, _∙_}
 use Prim.Native.Nat.{ℕ, _+_}
 use native.Mathlib.Omega.{arith}
 use borrow.Author.Needs.{needs}
-use Rattle.record.proofs.Forms.{at-most}
+use Rattle.fields.proofs.Forms.{at-most}
 use Rattle.conversion.specs.Conversion.{sizeAs}
 use Rattle.conversion.proofs.turned_size.Statement.{statement}
 use Rattle.conversion.proofs.turned_size.Tie as tie

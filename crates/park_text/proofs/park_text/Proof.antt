@@ -5,9 +5,9 @@ use Prim.Native.Nat.{ℕ, _-_}
 use native.Mathlib.Omega.{arith}
 use lib.ListN.{length, getD, take, drop, length-drop}
 use lib.Seq.{take-all}
-use Rattle.text.specs.Samples.{ascii}
+use Rattle.pieces.specs.Ascii.{ascii}
 use Rattle.typed_readings.specs.Words.{words}
-use Rattle.typed_readings.proofs.Names.{Compared}
+use Rattle.typed_word.proofs.Names.{Compared}
 use Rattle.park_text.specs.ParkText.{sheetWords}
 use Rattle.park_text.proofs.Held.{same-text}
 use Rattle.park_text.proofs.Said.{no-word, for-a-sheet, for-readings}

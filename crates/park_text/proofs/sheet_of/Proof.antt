@@ -2,7 +2,7 @@
 use mathlib.Core.Path.{_≡_, sym, ap, _∙_}
 use mathlib.Core.Bool.{Bool, cond}
 use Rattle.record.specs.declared.readings.Readings.{Readings}
-use Rattle.record.specs.Fields.{altitude, humidity, measuredPressure}
+use Rattle.fields.specs.Fields.{altitude, humidity, measuredPressure}
 use Rattle.record.specs.Readings.{entryOf}
 use Rattle.park_text.specs.ParkText.{sheetOnly, hasOther, sheetFor, sheetOf}
 use Rattle.park_text.proofs.Held.{same-text}

@@ -15,14 +15,15 @@ use Rattle.sheet.specs.Sheet.{settingSheet, outcome, bare}
 use Rattle.sheet.proofs.OnAPage.{over-length, over-front}
 use Rattle.sheet.proofs.Outcomes.{bare-accepted, bare-refused}
 use Rattle.sheet.proofs.GoodSheet.{good-sheet}
-use Rattle.sheet_text.specs.SheetText.{refusedText}
+use Rattle.sheet_refusal.specs.SheetRefusal.{refusedText}
 use Rattle.pieces.specs.Pieces.{Appended}
 use Rattle.pieces.proofs.Growing.{and-then, same-more}
 use Rattle.report.specs.declared.ReportText.{ReportText}
 use Rattle.report.specs.Report.{Holds}
-use Rattle.park_text.specs.ParkText.{heading, under, sheetPage}
+use Rattle.park_lines.specs.ParkLines.{heading}
+use Rattle.park_lines.proofs.Short.{heading-short}
+use Rattle.park_text.specs.ParkText.{under, sheetPage}
 use Rattle.park_text.proofs.Held.{held, same-text}
-use Rattle.park_text.proofs.Short.{heading-short}
 use borrow.Author.Needs.{needs}
 use Rattle.park_text.proofs.sheet_page.Statement.{statement}
 use Rattle.park_text.proofs.sheet_page.Tie as tie

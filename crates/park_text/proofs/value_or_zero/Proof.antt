@@ -1,6 +1,6 @@
 -- `park_text::value_or_zero` meets its contract. Assumes nothing.
 use mathlib.Core.Path.{sym, ap}
-use Rattle.station.specs.Resolved.{valueOrZero}
+use Rattle.resolved.specs.Resolved.{valueOrZero}
 use borrow.Author.Needs.{needs}
 use Rattle.park_text.proofs.value_or_zero.Statement.{statement}
 use Rattle.park_text.proofs.value_or_zero.Tie as tie

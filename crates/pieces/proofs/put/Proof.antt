@@ -1,12 +1,10 @@
 -- `pieces::put` meets its contract. Assumes nothing.
-use mathlib.Core.Path.{_≡_, refl, ap}
-use mathlib.Core.List.{List}
-use Prim.Native.Nat.{ℕ, _+_, _-_}
+use mathlib.Core.Path.{refl, ap}
+use Prim.Native.Nat.{ℕ, _-_}
 use native.Mathlib.Omega.{arith}
 use borrow.Author.Needs.{needs}
 use lib.ListN.{length, take, drop, length-take, length-drop}
 use lib.Seq.{take-all}
-use Rattle.sheet.proofs.OnAPage.{copied}
 use Rattle.pieces.proofs.Growing.{full, put-part}
 use Rattle.pieces.proofs.put.Statement.{statement}
 use Rattle.pieces.proofs.put.Tie as tie
@@ -34,10 +32,7 @@ returns-2 c =
     let page = a .page .now in
     let at : ℕ = a .at in
     let room : ℕ = length page - at in
-    let part : List ℕ = take room (a .piece .now) in
-    let is : fit .fitting .result .now ≡ part = fit .fitting .ensures in
-    let over-it = copied page at part (omega (arith, length-take room (a .piece .now))) is (take-all room (drop at page) (omega (arith, length-drop at page))) (copied-part .copy .ensures .1) in
-    (put-part page at (a .piece .now) (omega arith) over-it (ap (λ (l : List ℕ). at + length l) is), refl)
+    (put-part page at (a .piece .now) (omega arith) (fit .fitting .ensures) (take-all room (drop at page) (omega (arith, length-drop at page))) (copied-part .copy .ensures .1), refl)
 
 pub put-spec : {M : Type 1} → statement M
 put-spec =

@@ -7,7 +7,7 @@ use native.Mathlib.Omega.{arith}
 use borrow.Author.Needs.{needs}
 use lib.ListN.{length, take, getD}
 use lib.Seq.{take-suc, take-all}
-use Rattle.text.specs.Text.{hexDigit}
+use Rattle.pieces.specs.Characters.{hexDigit}
 use Rattle.pieces.specs.Pieces.{Appended, hex}
 use Rattle.pieces.proofs.Growing.{no-more, and-then, same-more}
 use Rattle.pieces.proofs.put_hex.Statement.{statement}

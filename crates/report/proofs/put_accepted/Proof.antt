@@ -2,7 +2,8 @@
 use mathlib.Core.Path.{ap}
 use borrow.Author.Needs.{needs}
 use Rattle.pieces.proofs.Growing.{and-then, same-more}
-use Rattle.report.specs.Report.{trimLine, nextLine, acceptedLines}
+use Rattle.trim_lines.specs.TrimLines.{trimLine, nextLine}
+use Rattle.report.specs.Report.{acceptedLines}
 use Rattle.report.proofs.put_accepted.Statement.{statement}
 use Rattle.report.proofs.put_accepted.Tie as tie
 

@@ -5,7 +5,7 @@ use borrow.Author.Needs.{needs}
 use lib.ListN.{replicate, length-append}
 use Rattle.pieces.proofs.Growing.{and-then}
 use Rattle.sheet_text.specs.SheetText.{expected, argumentLine}
-use Rattle.sheet_text.proofs.Held.{grown-held}
+use Rattle.sheet_refusal.proofs.Held.{grown-held}
 use Rattle.sheet_text.proofs.argument_text.Statement.{statement}
 use Rattle.sheet_text.proofs.argument_text.Tie as tie
 

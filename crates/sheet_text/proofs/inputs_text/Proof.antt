@@ -3,7 +3,7 @@ use mathlib.Core.Path.{sym, ap, ap₂}
 use borrow.Author.Needs.{needs}
 use Rattle.sheet_text.specs.declared.Input.{Input}
 use Rattle.sheet_text.specs.SheetText.{inputsText}
-use Rattle.sheet_text.proofs.Held.{same-text}
+use Rattle.sheet_refusal.proofs.Held.{same-text}
 use Rattle.sheet_text.proofs.inputs_text.Statement.{statement}
 use Rattle.sheet_text.proofs.inputs_text.Tie as tie
 

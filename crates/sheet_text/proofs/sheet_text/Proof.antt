@@ -14,9 +14,11 @@ use Rattle.sheet.specs.Over.{after}
 use Rattle.sheet.specs.Sheet.{settingSheet, outcome, bare}
 use Rattle.sheet.proofs.Outcomes.{bare-accepted, bare-refused}
 use Rattle.sheet.proofs.GoodSheet.{good-sheet}
-use Rattle.sheet_text.specs.declared.PageText.{PageText}
-use Rattle.sheet_text.specs.SheetText.{refusedText, sheetText, Holds}
-use Rattle.sheet_text.proofs.Held.{held, same-text}
+use Rattle.sheet_refusal.specs.declared.PageText.{PageText}
+use Rattle.sheet_refusal.specs.SheetRefusal.{refusedText, Holds}
+use Rattle.sheet_text.specs.SheetText.{sheetText}
+use Rattle.sheet_refusal.proofs.Held.{same-text}
+use Rattle.sheet_text.proofs.Held.{held}
 use Rattle.sheet_text.proofs.sheet_text.Statement.{statement}
 use Rattle.sheet_text.proofs.sheet_text.Tie as tie
 

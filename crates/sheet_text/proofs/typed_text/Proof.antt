@@ -2,7 +2,7 @@
 use mathlib.Core.Path.{refl}
 use borrow.Author.Needs.{needs}
 use Rattle.sheet_text.specs.SheetText.{inputsText}
-use Rattle.sheet_text.proofs.Held.{same-text}
+use Rattle.sheet_refusal.proofs.Held.{same-text}
 use Rattle.sheet_text.proofs.typed_text.Statement.{statement}
 use Rattle.sheet_text.proofs.typed_text.Tie as tie
 

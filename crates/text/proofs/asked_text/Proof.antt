@@ -3,9 +3,9 @@ use mathlib.Core.Path.{_≡_, refl, sym, subst}
 use mathlib.Core.List.{List}
 use Prim.Native.Nat.{ℕ}
 use borrow.Author.Needs.{needs}
+use Rattle.answer_lines.specs.declared.Text.{Text}
+use Rattle.answer_lines.specs.Lines.{Holds}
 use Rattle.text.specs.declared.Asked.{Asked}
-use Rattle.text.specs.declared.Text.{Text}
-use Rattle.text.specs.Text.{Holds}
 use Rattle.text.specs.Asked.{askedText}
 use Rattle.text.proofs.asked_text.Statement.{statement}
 use Rattle.text.proofs.asked_text.Tie as tie

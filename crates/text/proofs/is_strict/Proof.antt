@@ -8,7 +8,8 @@ use native.Mathlib.Omega.{arith}
 use borrow.Author.Needs.{needs}
 use lib.Dec.{eqb}
 use lib.ListN.{length, getD}
-use Rattle.text.specs.Asked.{same, strictWord}
+use Rattle.pieces.specs.Characters.{same}
+use Rattle.text.specs.Asked.{strictWord}
 use Rattle.text.proofs.is_strict.Statement.{statement}
 use Rattle.text.proofs.is_strict.Tie as tie
 

@@ -3,12 +3,12 @@ use mathlib.Core.Path.{_≡_, sym, ap, _∙_}
 use mathlib.Core.Bool.{Bool, cond}
 use Prim.Native.Nat.{ℕ}
 use borrow.Author.Needs.{needs}
-use Rattle.record.specs.declared.fields.Value.the-variants.{Count}
+use Rattle.fields.specs.declared.fields.Value.the-variants.{Count}
 use Rattle.record.specs.declared.readings.Readings.{Readings}
 use Rattle.record.specs.Readings.{isPresent, entryOf, withValue}
-use Rattle.typed_readings.specs.declared.Problem.the-variants.{RepeatedWord}
-use Rattle.typed_readings.specs.declared.Word.{Word}
-use Rattle.typed_readings.specs.declared.Word.the-variants.{Reading}
+use Rattle.typed_word.specs.declared.Problem.the-variants.{RepeatedWord}
+use Rattle.typed_word.specs.declared.Word.{Word}
+use Rattle.typed_word.specs.declared.Word.the-variants.{Reading}
 use Rattle.typed_readings.specs.Understood.{given, problem, noted}
 use Rattle.typed_readings.proofs.with_word.Statement.{statement}
 use Rattle.typed_readings.proofs.with_word.Tie as tie

@@ -6,7 +6,7 @@ use native.Mathlib.Omega.{arith}
 use borrow.Author.Needs.{needs}
 use lib.ListN.{length, length-append}
 use Rattle.record.specs.declared.readings.Stored.{Stored}
-use Rattle.record.specs.Fields.{meanings, meaningOf}
+use Rattle.fields.specs.Fields.{meanings, meaningOf}
 use Rattle.record.specs.Readings.{storedOf}
 use Rattle.writer.specs.Records.{storedField, fieldsFrom}
 use Rattle.writer.proofs.Fields.{rest, all-fields, next-field, no-field, few}

@@ -6,9 +6,9 @@ use native.Mathlib.Omega.{arith}
 use borrow.Author.Needs.{needs}
 use lib.ListN.{length}
 use lib.Seq.{sets}
-use Rattle.record.specs.declared.fields.Value.{Value}
-use Rattle.record.specs.Fields.{dataSize}
-use Rattle.record.proofs.Forms.{at-most}
+use Rattle.fields.specs.declared.fields.Value.{Value}
+use Rattle.fields.specs.Fields.{dataSize}
+use Rattle.fields.proofs.Forms.{at-most}
 use Rattle.writer.specs.Records.{bytes, dataOf, fieldWith}
 use Rattle.writer.proofs.Bytes.{sets-append}
 use Rattle.writer.proofs.Fields.{length-field}

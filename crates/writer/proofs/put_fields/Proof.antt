@@ -8,7 +8,7 @@ use borrow.Author.Needs.{needs}
 use lib.ListN.{length, length-append}
 use lib.Seq.{sets}
 use Rattle.record.specs.declared.readings.Stored.{Stored}
-use Rattle.record.specs.Fields.{meanings}
+use Rattle.fields.specs.Fields.{meanings}
 use Rattle.record.specs.Readings.{storedOf}
 use Rattle.writer.specs.Records.{storedField, fieldsFrom}
 use Rattle.writer.proofs.Bytes.{sets-append}

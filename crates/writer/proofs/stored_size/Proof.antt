@@ -4,7 +4,7 @@ use Prim.Native.Nat.{ℕ, _+_}
 use native.Mathlib.Omega.{arith}
 use borrow.Author.Needs.{needs}
 use lib.ListN.{length}
-use Rattle.record.proofs.Forms.{at-most}
+use Rattle.fields.proofs.Forms.{at-most}
 use Rattle.writer.proofs.Fields.{length-field, by-form}
 use Rattle.writer.proofs.stored_size.Statement.{statement}
 use Rattle.writer.proofs.stored_size.Tie as tie

@@ -4,7 +4,7 @@ use native.Mathlib.Nat.{zero-add}
 use native.Mathlib.Omega.{arith}
 use borrow.Author.Needs.{needs}
 use Rattle.refusal.specs.Outcomes.{accepted}
-use Rattle.record.proofs.Forms.{at-most}
+use Rattle.fields.proofs.Forms.{at-most}
 use Rattle.writer.specs.Records.{fieldWith}
 use Rattle.writer.proofs.Fields.{length-field}
 use Rattle.writer.proofs.Room.{no-room, room}

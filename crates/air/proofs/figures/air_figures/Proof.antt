@@ -4,7 +4,7 @@ use borrow.Author.Needs.{needs}
 use lib.Ieee.{Float}
 use Rattle.elementary.specs.Decimals.{hundred}
 use Rattle.elementary.specs.Operators.{_⊕_, _⊗_}
-use Rattle.elementary.specs.Places.{places}
+use Rattle.rounding.specs.Places.{places}
 use Rattle.humid_air.specs.MoistAir.{icePoint, moleFractionCelsius}
 use Rattle.air.specs.declared.station.Air.{Air}
 use Rattle.air.specs.declared.station.Conditions.{Conditions}

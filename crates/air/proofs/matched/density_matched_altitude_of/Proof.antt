@@ -9,15 +9,15 @@ use Rattle.elementary.specs.Operators.{_⊖_, _⊗_, _⊘_}
 use Rattle.elementary.specs.Exponents.{lapse}
 use Rattle.elementary.specs.Power.{powerAt}
 use Rattle.humid_air.specs.MoistAir.{moleFraction, compressibilityFactor, airDensityAt}
-use Rattle.humid_air.proofs.NotANumber.{ne-self}
+use Rattle.doubles.proofs.NotANumber.{ne-self}
 use Rattle.atmosphere.specs.Layers.{layers, baseTemperature}
 use Rattle.air.specs.Moist.{densityOf}
 use Rattle.air.specs.Station.{atmosphere}
-use Rattle.atmosphere.specs.Altitudes.{tropopause, heightOfRatio, troposphereHeight}
+use Rattle.altitudes.specs.Altitudes.{tropopause, heightOfRatio, troposphereHeight}
 use Rattle.air.specs.Matched.{seaLevelDensity, heightOfDensity}
 use Rattle.air.proofs.matched.density_matched_altitude_of.Statement.{statement}
 use Rattle.air.proofs.matched.density_matched_altitude_of.Tie as tie
-use Rattle.elementary.specs.Places.{places}
+use Rattle.rounding.specs.Places.{places}
 
 -- the code's constant
 abbrev reference : Float

@@ -2,7 +2,7 @@
 use mathlib.Core.Path.{ap, sym, _∙_}
 use borrow.Author.Needs.{needs}
 use lib.Ieee.{Float}
-use Rattle.elementary.specs.Places.{places}
+use Rattle.rounding.specs.Places.{places}
 use Rattle.humid_air.specs.MoistAir.{neededPressure}
 use Rattle.air.proofs.moist.saturation_pressure.Statement.{statement}
 use Rattle.air.proofs.moist.saturation_pressure.Tie as tie

@@ -5,7 +5,7 @@ use Prim.Native.Nat.{ℕ, _<_}
 use borrow.Author.Needs.{needs}
 use lib.Ieee.{Float}
 use Rattle.elementary.specs.Operators.{_⊖_}
-use Rattle.elementary.specs.Places.{places}
+use Rattle.rounding.specs.Places.{places}
 use Rattle.atmosphere.specs.Layers.{layers, baseHeight, standardHeight, layerAt, layerTemperature, layerAir, standardAir}
 use Rattle.atmosphere.proofs.LayerNumber.{layer-lt}
 use Rattle.atmosphere.proofs.layers.calculate_icao_standard_atmosphere.Statement.{statement}

@@ -4,9 +4,8 @@ use mathlib.Core.Bool.{Bool, true, false, cond}
 use Prim.Native.Nat.{ℕ}
 use lib.Dec.{T}
 use lib.Ieee.{Float, binary64, fits, lt, ne, isNan}
-use Rattle.humid_air.proofs.NotANumber.{ne-self}
-use Rattle.atmosphere.specs.Layers.{layers, baseHeight, layerAt, OnlyRange}
-use Rattle.atmosphere.specs.Altitudes.{firstFrom}
+use Rattle.doubles.proofs.NotANumber.{ne-self}
+use Rattle.atmosphere.specs.Layers.{firstFrom, layers, baseHeight, layerAt, OnlyRange}
 use Rattle.atmosphere.proofs.LayerNumber.{first-below, one-range}
 use Rattle.atmosphere.proofs.layers.layer_number.Statement.{statement}
 use Rattle.atmosphere.proofs.layers.layer_number.Tie as tie

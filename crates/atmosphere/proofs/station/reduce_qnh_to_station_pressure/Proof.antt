@@ -8,7 +8,7 @@ use Rattle.elementary.specs.Power.{powerAt}
 use Rattle.atmosphere.specs.Layers.{layers, baseTemperature, gradient}
 use Rattle.atmosphere.proofs.station.reduce_qnh_to_station_pressure.Statement.{statement}
 use Rattle.atmosphere.proofs.station.reduce_qnh_to_station_pressure.Tie as tie
-use Rattle.elementary.specs.Places.{places}
+use Rattle.rounding.specs.Places.{places}
 
 returns : tie.Need-returns
 unfolding layers ofBits powerAt

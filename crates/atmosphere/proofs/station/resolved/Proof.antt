@@ -4,7 +4,7 @@ use mathlib.Core.Bool.{Bool, _&&_, cond}
 use borrow.Author.Needs.{needs}
 use lib.Ieee.{Float, lt}
 use Rattle.elementary.specs.Decimals.{one}
-use Rattle.humid_air.specs.Doubles.{absDouble}
+use Rattle.doubles.specs.Doubles.{absDouble}
 use Rattle.atmosphere.specs.declared.station.Reading.the-variants.{Given, FromLayer}
 use Rattle.atmosphere.specs.Station.{resolved}
 use Rattle.atmosphere.proofs.station.resolved.Statement.{statement}

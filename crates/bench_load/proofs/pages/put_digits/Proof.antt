@@ -9,7 +9,8 @@ use native.Mathlib.Omega.{arith}
 use borrow.Author.Needs.{needs}
 use lib.ListN.{length, drop, set, getD, length-set, drop-of-length-le}
 use lib.Seq.{sets, drop-cons}
-use Rattle.text.specs.Text.{hexDigit, hexDigits}
+use Rattle.pieces.specs.Characters.{hexDigit}
+use Rattle.answer_lines.specs.Lines.{hexDigits}
 use Rattle.bench_load.specs.Text.{digits}
 use Rattle.bench_load.proofs.pages.put_digits.Statement.{statement}
 use Rattle.bench_load.proofs.pages.put_digits.Tie as tie

@@ -9,7 +9,7 @@ use mir.Val.{SFits, ofZ, toZ}
 use mir.ValLaws.{toZ-ofZ}
 use Rattle.record.specs.declared.readings.Readings.{Readings}
 use Rattle.record.specs.Readings.{noReadings}
-use Rattle.record.specs.Fields.{altitude, temperature, humidity, measuredPressure}
+use Rattle.fields.specs.Fields.{altitude, temperature, humidity, measuredPressure}
 use Rattle.bench_load.specs.Records.{withCount, readingsOf}
 use Rattle.bench_load.proofs.records.readings_of.Statement.{statement}
 use Rattle.bench_load.proofs.records.readings_of.Tie as tie

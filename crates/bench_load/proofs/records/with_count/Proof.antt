@@ -5,7 +5,7 @@ use borrow.Author.Needs.{needs}
 use mir.Syntax.{w32}
 use mir.ValLaws.{toZ-ofZ}
 use Rattle.thousandths.specs.Thousandths.{wordOf}
-use Rattle.record.specs.declared.fields.Value.the-variants.{Count}
+use Rattle.fields.specs.declared.fields.Value.the-variants.{Count}
 use Rattle.record.specs.Readings.{withValue}
 use Rattle.bench_load.proofs.records.with_count.Statement.{statement}
 use Rattle.bench_load.proofs.records.with_count.Tie as tie

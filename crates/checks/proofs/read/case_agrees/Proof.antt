@@ -14,11 +14,8 @@ Inv-loop fd list words bytes₀ digits₀ all₀ at₀ i₀ left₀ bytes digits
 abbrev μ-loop : tie.MeasureT-loop
 μ-loop fd list words bytes₀ digits₀ all₀ at₀ i₀ left₀ bytes digits all at i left = left
 
-slice-aggregate-read-full : tie.Need-slice-aggregate-read-full Inv-loop μ-loop
-slice-aggregate-read-full c = simp length-take (omega arith)
-
-slice-aggregate-read-bytes : tie.Need-slice-aggregate-read-bytes Inv-loop μ-loop
-slice-aggregate-read-bytes c = simp length-take (omega arith)
+slice-aggregate-string-read : tie.Need-slice-aggregate-string-read Inv-loop μ-loop
+slice-aggregate-string-read c = simp length-take (omega arith)
 
 slice-aggregate-agrees : tie.Need-slice-aggregate-agrees Inv-loop μ-loop
 slice-aggregate-agrees c = simp length-take (omega arith)
@@ -29,8 +26,6 @@ case-agrees-spec =
     (tie.spec
     Inv-loop
     μ-loop
-    (λ c κs. search needs)
-    (λ c κs. search needs)
     (λ c. search needs)
     (λ c. search needs)
     (λ c. search needs)
@@ -45,13 +40,7 @@ case-agrees-spec =
     (λ c. search needs)
     (λ c. search needs)
     (λ c. search needs)
-    slice-aggregate-read-full
-    (λ c κs. search needs)
-    (λ c. search needs)
-    (λ c. search needs)
-    (λ c. search needs)
-    (λ c. search needs)
-    slice-aggregate-read-bytes
+    slice-aggregate-string-read
     (λ c. search needs)
     (λ c. search needs)
     (λ c. search needs)

@@ -4,7 +4,7 @@ use mathlib.Core.Bool.{Bool, not}
 use mathlib.Core.List.{[], _∷_}
 use borrow.Author.Needs.{needs}
 use lib.Ieee.{le}
-use Rattle.humid_air.specs.Doubles.{isFinite}
+use Rattle.doubles.specs.Doubles.{isFinite}
 use Rattle.density_altitude.specs.Inverse.{absoluteZero}
 use Rattle.refusal.specs.Outcomes.{row, passed}
 use Rattle.refusal.proofs.Rows.{first-passed}

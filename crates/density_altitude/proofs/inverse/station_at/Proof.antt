@@ -5,7 +5,7 @@ use lib.Ieee.{Float, ofBits, div}
 use Rattle.elementary.specs.Operators.{_⊗_}
 use Rattle.elementary.specs.Power.{powerAt}
 use Rattle.atmosphere.specs.Station.{standardPressure}
-use Rattle.atmosphere.specs.Altitudes.{foot}
+use Rattle.altitudes.specs.Altitudes.{foot}
 use Rattle.density_altitude.proofs.inverse.station_at.Statement.{statement}
 use Rattle.density_altitude.proofs.inverse.station_at.Tie as tie
 

@@ -5,7 +5,7 @@ use mathlib.Core.List.{[], _∷_}
 use borrow.Author.Needs.{needs}
 use lib.Ieee.{Float}
 use Rattle.atmosphere.specs.declared.station.Reading.{Reading}
-use Rattle.humid_air.specs.Doubles.{isFinite}
+use Rattle.doubles.specs.Doubles.{isFinite}
 use Rattle.refusal.specs.declared.Check.{Check}
 use Rattle.refusal.specs.Outcomes.{Outcome, accepted, row, _⟫_, _then_, checked, passed}
 use Rattle.refusal.proofs.Rows.{then-append, first-passed, after-check}
@@ -13,7 +13,7 @@ use Rattle.density_altitude.specs.declared.inverse.Station.{Station}
 use Rattle.density_altitude.specs.Inverse.{resolve, givenRows, inputRows, airRows, station}
 use Rattle.density_altitude.proofs.inverse.station_for_density_altitude.Statement.{statement}
 use Rattle.density_altitude.proofs.inverse.station_for_density_altitude.Tie as tie
-use Rattle.elementary.specs.Places.{places}
+use Rattle.rounding.specs.Places.{places}
 
 abbrev last : Float → Reading → Outcome Station
 last d t = airRows d (resolve places d t) then accepted (resolve places d t)

@@ -11,13 +11,13 @@ use lib.Dec.{lit≤}
 use lib.IntN.{ℤ}
 use Rattle.wide.specs.declared.words.Wide.{Wide}
 use Rattle.wide.specs.Value.{value}
-use Rattle.elementary.specs.declared.word.Word.{Word}
-use Rattle.elementary.specs.Whole.{signed, floorDiv, asWord}
-use Rattle.elementary.specs.Parts.{Digits}
-use Rattle.elementary.specs.Places.{places}
-use Rattle.elementary.proofs.Carried.{low-word, low-remainder}
-use Rattle.elementary.proofs.Times.{same-word}
-use Rattle.elementary.proofs.Floor.{moved-by, floor-is, floor-below, opposite-is, quotient-lt, one-less}
+use Rattle.rounding.specs.declared.word.Word.{Word}
+use Rattle.rounding.specs.Whole.{signed, floorDiv, asWord}
+use Rattle.rounding.specs.Parts.{Digits}
+use Rattle.rounding.specs.Places.{places}
+use Rattle.rounding.proofs.Carried.{low-word, low-remainder}
+use Rattle.rounding.proofs.Times.{same-word}
+use Rattle.rounding.proofs.Floor.{moved-by, floor-is, floor-below, opposite-is, quotient-lt, one-less}
 use Rattle.elementary.proofs.exp.floor_word.Statement.{statement}
 use Rattle.elementary.proofs.exp.floor_word.Tie as tie
 

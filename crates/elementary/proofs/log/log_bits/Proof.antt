@@ -5,9 +5,9 @@ use Prim.Native.Nat.{ℕ, zero, suc, _+_, _-_, _*_, _/_, _^_, _≤_, _<_}
 use native.Mathlib.Nat.{le-refl, le-trans, le-of-eq, zero-add, add-zero, mul-one, add-mul, add-assoc, mul-assoc, mul-le-mul-right, div-one, le-mul-of-pos-right, pow-succ', not-suc-le-zero}
 use native.Mathlib.Omega.{arith}
 use lib.Pow.{pow-pos}
-use Rattle.elementary.specs.Log.{squared, bitOf, nextOf, logBits}
-use Rattle.elementary.specs.Places.{places}
-use Rattle.elementary.proofs.Range.{Mantissa, bit-cases, bit-le, squared-lt, next-mantissa}
+use Rattle.antilog.specs.Log.{squared, bitOf, nextOf, logBits}
+use Rattle.rounding.specs.Places.{places}
+use Rattle.antilog.proofs.Range.{Mantissa, bit-cases, bit-le, squared-lt, next-mantissa}
 use Rattle.elementary.proofs.log.log_bits.Statement.{statement}
 use Rattle.elementary.proofs.log.log_bits.Tie as tie
 

@@ -6,11 +6,11 @@ use native.Mathlib.Omega.{arith}
 use borrow.Author.Needs.{needs}
 use lib.Count.{leadingZeros}
 use mathlib.Core.Bool.{true, false}
-use Rattle.elementary.specs.Log.{logBits, mantissaOf}
-use Rattle.elementary.specs.Places.{places}
-use Rattle.elementary.proofs.Range.{logBits-lt}
-use Rattle.elementary.proofs.Times.{same-word}
-use Rattle.elementary.proofs.LogDigits.{Leading, leading, moved-up, moved-mantissa, units-mantissa, units-above, units-below}
+use Rattle.antilog.specs.Log.{logBits, mantissaOf}
+use Rattle.rounding.specs.Places.{places}
+use Rattle.antilog.proofs.Range.{logBits-lt}
+use Rattle.rounding.proofs.Times.{same-word}
+use Rattle.antilog.proofs.LogDigits.{Leading, leading, moved-up, moved-mantissa, units-mantissa, units-above, units-below}
 use Rattle.elementary.proofs.log.log_of_digits.Statement.{statement}
 use Rattle.elementary.proofs.log.log_of_digits.Tie as tie
 

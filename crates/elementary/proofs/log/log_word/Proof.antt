@@ -4,14 +4,14 @@ use mathlib.Core.Bool.{Bool, true, false}
 use Prim.Native.Nat.{ℕ, _*_, _^_}
 use lib.Ieee.{Float}
 use borrow.Author.Needs.{needs}
-use Rattle.elementary.specs.declared.nearest.Parts.the-variants.{Finite}
-use Rattle.elementary.specs.declared.log.Logarithm.the-variants.{Defined, Undefined}
-use Rattle.elementary.specs.Whole.{asWord}
-use Rattle.elementary.specs.Nearest.{unitsOf}
-use Rattle.elementary.specs.Parts.{TakenApart}
-use Rattle.elementary.specs.Log.{wordOfUnits, logarithm}
-use Rattle.elementary.specs.Places.{places}
-use Rattle.elementary.proofs.Parts.{told, signed-parts, finite-of-parts, units-of-parts}
+use Rattle.rounding.specs.declared.nearest.Parts.the-variants.{Finite}
+use Rattle.rounding.specs.declared.word.Logarithm.the-variants.{Defined, Undefined}
+use Rattle.rounding.specs.Whole.{asWord}
+use Rattle.rounding.specs.Nearest.{unitsOf}
+use Rattle.rounding.specs.Parts.{TakenApart}
+use Rattle.antilog.specs.Log.{wordOfUnits, logarithm}
+use Rattle.rounding.specs.Places.{places}
+use Rattle.rounding.proofs.Parts.{told, signed-parts, finite-of-parts, units-of-parts}
 use Rattle.elementary.proofs.log.log_word.Statement.{statement}
 use Rattle.elementary.proofs.log.log_word.Tie as tie
 

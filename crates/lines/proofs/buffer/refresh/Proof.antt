@@ -3,7 +3,7 @@ use Prim.Native.Nat.{_-_}
 use native.Mathlib.Omega.{arith}
 use lib.ListN.{length}
 use Rattle.lines.specs.Buffer.{freshByte}
-use Rattle.lines.proofs.Filled.{Filled, none, again, all-of}
+use Rattle.line_reader.proofs.Filled.{Filled, none, again, all-of}
 use Rattle.lines.proofs.buffer.refresh.Statement.{statement}
 use Rattle.lines.proofs.buffer.refresh.Tie as tie
 

@@ -6,7 +6,7 @@ use native.Mathlib.Omega.{arith}
 use lib.Dec.{lit<}
 use lib.ListN.{replicate}
 use Rattle.lines.specs.Text.{upperDigit}
-use Rattle.lines.proofs.Filled.{Filled, none, again, all-of}
+use Rattle.line_reader.proofs.Filled.{Filled, none, again, all-of}
 use Rattle.lines.proofs.text.digits_of.Statement.{statement}
 use Rattle.lines.proofs.text.digits_of.Tie as tie
 

@@ -6,7 +6,7 @@ use borrow.Author.Needs.{needs}
 use lib.Dec.{eqb}
 use lib.ListN.{drop}
 use Rattle.lines.specs.Matches.{matches}
-use Rattle.lines.specs.Line.{upTo}
+use Rattle.line_reader.specs.Line.{upTo}
 use Rattle.lines.specs.Text.{upperDigit}
 use Rattle.lines.proofs.Matched.{byte-then}
 use Rattle.lines.proofs.text.is_cell_at.Statement.{statement}

@@ -1,7 +1,7 @@
 -- `lines::text::is_figures_text` meets its contract: the pieces stand one after the other. Assumes nothing.
 use native.Mathlib.Omega.{arith}
 use borrow.Author.Needs.{needs}
-use Rattle.lines.specs.Line.{upTo}
+use Rattle.line_reader.specs.Line.{upTo}
 use Rattle.lines.specs.Text.{figuresText}
 use Rattle.lines.proofs.Matched.{and-then, is-text, other-text}
 use Rattle.lines.proofs.text.is_figures_text.Statement.{statement}

@@ -7,7 +7,7 @@ use Rattle.elementary.specs.Decimals.{one}
 use Rattle.refusal.specs.Outcomes.{Outcome, accepted, refused}
 use Rattle.station.specs.declared.figures.Figures.{Figures}
 use Rattle.station.specs.declared.figures.StationFigures.{StationFigures}
-use Rattle.station.specs.declared.resolved.Resolved.{Resolved}
+use Rattle.resolved.specs.declared.resolved.Resolved.{Resolved}
 use Rattle.station.specs.Figures.{stationFigures, isAir}
 use Rattle.mast.specs.Judge.{airOutcome}
 use borrow.Author.Needs.{needs}

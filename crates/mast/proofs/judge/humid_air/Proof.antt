@@ -6,10 +6,10 @@ use Rattle.refusal.specs.Outcomes.{_⟫_, checked, passed}
 use Rattle.refusal.proofs.Rows.{after-check}
 use Rattle.density_altitude.specs.declared.inverse.Station.{Station}
 use Rattle.record.specs.declared.readings.Readings.{Readings}
-use Rattle.record.specs.Fields.{humidity}
+use Rattle.fields.specs.Fields.{humidity}
 use Rattle.record.specs.Readings.{entryOf}
-use Rattle.mast.specs.Checks.{humidityRows, present}
-use Rattle.station.specs.Resolved.{atStation}
+use Rattle.limits.specs.Checks.{humidityRows, present}
+use Rattle.resolved.specs.Resolved.{atStation}
 use Rattle.mast.specs.Judge.{airOutcome, humidOutcome}
 use borrow.Author.Needs.{needs}
 use Rattle.mast.proofs.judge.humid_air.Statement.{statement}

@@ -4,8 +4,8 @@ use Rattle.refusal.specs.declared.Check.{Check}
 use Rattle.refusal.specs.Outcomes.{_⟫_, checked, passed}
 use Rattle.refusal.proofs.Rows.{after-check}
 use Rattle.record.specs.declared.readings.Readings.{Readings}
-use Rattle.mast.specs.Checks.{ordinaryRows}
-use Rattle.station.specs.Resolved.{ordinary}
+use Rattle.limits.specs.Checks.{ordinaryRows}
+use Rattle.resolved.specs.Resolved.{ordinary}
 use Rattle.mast.specs.Judge.{airOutcome, ordinaryOutcome}
 use borrow.Author.Needs.{needs}
 use Rattle.mast.proofs.judge.ordinary_air.Statement.{statement}

@@ -1,7 +1,7 @@
 -- `mast::judge::station_air` meets its contract. Assumes nothing.
 use mathlib.Core.Path.{_≡_, sym, ap, _∙_}
 use lib.Ieee.{Float}
-use Rattle.elementary.specs.Places.{places}
+use Rattle.rounding.specs.Places.{places}
 use Rattle.atmosphere.specs.declared.station.Reading.{Reading}
 use Rattle.refusal.specs.Outcomes.{Outcome, accepted, _⟫_, _then_}
 use Rattle.refusal.proofs.Rows.{then-append, then-next}
@@ -10,10 +10,10 @@ use Rattle.density_altitude.specs.declared.inverse.Answer.{Answer}
 use Rattle.density_altitude.specs.Inverse.{resolve, stationRows, station}
 use Rattle.density_altitude.specs.Inverse as inverse
 use Rattle.record.specs.declared.readings.Readings.{Readings}
-use Rattle.record.specs.Fields.{temperature, humidity}
+use Rattle.fields.specs.Fields.{temperature, humidity}
 use Rattle.record.specs.Readings.{entryOf}
-use Rattle.mast.specs.Checks.{humidityRows, present}
-use Rattle.station.specs.Resolved.{givenTemperature, atStation}
+use Rattle.limits.specs.Checks.{humidityRows, present}
+use Rattle.resolved.specs.Resolved.{givenTemperature, atStation}
 use Rattle.mast.specs.Judge.{airOutcome, humidOutcome, stationOutcome}
 use borrow.Author.Needs.{needs}
 use Rattle.mast.proofs.judge.station_air.Statement.{statement}

@@ -12,8 +12,8 @@ use lib.Seq.{getD-drop}
 use Rattle.refusal.specs.declared.Check.{Check}
 use Rattle.refusal.specs.Outcomes.{Outcome, accepted, _⟫_, checked}
 use Rattle.record.specs.declared.readings.Readings.{Readings}
-use Rattle.record.specs.declared.fields.Field.{Field}
-use Rattle.record.specs.Fields.{tagOf, fieldOf}
+use Rattle.fields.specs.declared.fields.Field.{Field}
+use Rattle.fields.specs.Fields.{tagOf, fieldOf}
 use Rattle.record.specs.Readings.{withField, readRecord, readOutcome}
 use Rattle.record.proofs.Walk.{no-bytes, read}
 use Rattle.record.proofs.Turn.{refuses, further, moves-on}

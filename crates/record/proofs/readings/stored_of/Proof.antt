@@ -6,7 +6,7 @@ use borrow.Author.Needs.{needs}
 use lib.ListN.{length-map, length, List·getD-eq-default}
 use Rattle.record.specs.declared.readings.Slot.{Slot}
 use Rattle.record.specs.declared.readings.Stored.the-variants.{Absent}
-use Rattle.record.specs.Fields.{meanings}
+use Rattle.fields.specs.Fields.{meanings}
 use Rattle.record.specs.Readings.{slotOf}
 use Rattle.record.proofs.readings.stored_of.Statement.{statement}
 use Rattle.record.proofs.readings.stored_of.Tie as tie

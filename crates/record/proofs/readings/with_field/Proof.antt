@@ -6,7 +6,7 @@ use Prim.Native.Nat.{ℕ}
 use borrow.Author.Needs.{needs}
 use lib.Dec.{ltb}
 use Rattle.refusal.specs.Outcomes.{accepted, refused}
-use Rattle.record.specs.declared.fields.Field.{Field}
+use Rattle.fields.specs.declared.fields.Field.{Field}
 use Rattle.record.specs.declared.readings.Readings.{Readings}
 use Rattle.record.specs.Readings.{isPresent, entryOf, noted, withField}
 use Rattle.record.proofs.readings.with_field.Statement.{statement}

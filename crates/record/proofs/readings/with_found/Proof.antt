@@ -2,8 +2,8 @@
 use mathlib.Core.Path.{sym, ap, _∙_}
 use borrow.Author.Needs.{needs}
 use Rattle.refusal.specs.Outcomes.{_⟫_}
-use Rattle.record.specs.declared.fields.Found.{Found}
-use Rattle.record.specs.Fields.{found}
+use Rattle.fields.specs.declared.fields.Found.{Found}
+use Rattle.fields.specs.Fields.{found}
 use Rattle.record.specs.Readings.{withField}
 use Rattle.record.proofs.readings.with_found.Statement.{statement}
 use Rattle.record.proofs.readings.with_found.Tie as tie

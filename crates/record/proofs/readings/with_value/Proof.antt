@@ -9,7 +9,7 @@ use lib.Seq.{set-out}
 use Rattle.record.specs.declared.readings.Slot.{Slot}
 use Rattle.record.specs.declared.readings.Stored.the-variants.{Present}
 use Rattle.record.specs.declared.readings.Readings.{Readings}
-use Rattle.record.specs.Fields.{meanings}
+use Rattle.fields.specs.Fields.{meanings}
 use Rattle.record.specs.Readings.{slotOf}
 use Rattle.record.proofs.readings.with_value.Statement.{statement}
 use Rattle.record.proofs.readings.with_value.Tie as tie

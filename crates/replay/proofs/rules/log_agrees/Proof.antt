@@ -2,12 +2,12 @@
 use mathlib.Core.Path.{_≡_, refl, sym, _∙_}
 use mathlib.Core.Bool.{true, false, true≢false, false≢true, _&&_}
 use borrow.Author.Needs.{needs}
-use Rattle.elementary.specs.declared.word.Word.{Word}
-use Rattle.elementary.specs.declared.log.Logarithm.{Logarithm}
-use Rattle.elementary.specs.declared.log.Logarithm.the-variants.{Defined, Undefined}
-use Rattle.elementary.specs.Places.{places}
-use Rattle.elementary.specs.Log.{logarithm}
-use Rattle.exports.specs.Words.{word, isDefined, wordOr}
+use Rattle.rounding.specs.declared.word.Word.{Word}
+use Rattle.rounding.specs.declared.word.Logarithm.{Logarithm}
+use Rattle.rounding.specs.declared.word.Logarithm.the-variants.{Defined, Undefined}
+use Rattle.rounding.specs.Places.{places}
+use Rattle.antilog.specs.Log.{logarithm}
+use Rattle.exported_air.specs.Words.{word, isDefined, wordOr}
 use Rattle.replay.specs.declared.words.Given.{Given}
 use Rattle.replay.specs.Words.{isAtMost, isAtLeast, isUndefined}
 use Rattle.replay.specs.Rules.{givenAt, logBetween}

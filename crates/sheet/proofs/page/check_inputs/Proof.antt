@@ -2,7 +2,7 @@
 use mathlib.Core.List.{_++_}
 use borrow.Author.Needs.{needs}
 use Rattle.refusal.proofs.Rows.{first-passed}
-use Rattle.mast.specs.Checks.{finiteRows, pressureRows, humidityRows}
+use Rattle.limits.specs.Checks.{finiteRows, pressureRows, humidityRows}
 use Rattle.sheet.proofs.page.check_inputs.Statement.{statement}
 use Rattle.sheet.proofs.page.check_inputs.Tie as tie
 

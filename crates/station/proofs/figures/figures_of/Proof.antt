@@ -1,8 +1,8 @@
 -- `station::figures::figures_of` meets its contract, figure by figure. Assumes nothing.
 use mathlib.Core.Path.{ap, ap₂, _∙_}
 use borrow.Author.Needs.{needs}
-use Rattle.elementary.specs.Places.{places}
-use Rattle.atmosphere.specs.Altitudes.{pressureAltitude}
+use Rattle.rounding.specs.Places.{places}
+use Rattle.altitudes.specs.Altitudes.{pressureAltitude}
 use Rattle.air.specs.declared.figures.AirFigures.{AirFigures}
 use Rattle.station.specs.Figures.{inCipmRange, figuresWith}
 use Rattle.station.proofs.figures.figures_of.Statement.{statement}

@@ -2,7 +2,7 @@
 use mathlib.Core.Path.{_≡_, _∙_}
 use borrow.Author.Needs.{needs}
 use lib.ListN.{drop}
-use Rattle.trim.specs.Changes.{changesOf, firstOf}
+use Rattle.trim.specs.InOrder.{changesOf, firstOf}
 use Rattle.trim.proofs.First.{turns-here, turns-later, only-one}
 use Rattle.trim.proofs.search.first_by.Statement.{statement}
 use Rattle.trim.proofs.search.first_by.Tie as tie

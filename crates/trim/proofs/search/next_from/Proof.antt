@@ -5,9 +5,9 @@ use Prim.Native.Nat.{ℕ, suc, _+_, _-_, _≤_}
 use native.Mathlib.Omega.{arith}
 use borrow.Author.Needs.{needs}
 use Rattle.refusal.specs.Outcomes.{accepted}
-use Rattle.trim.specs.declared.changes.Found.{Found}
-use Rattle.trim.specs.declared.changes.Start.{Start}
-use Rattle.trim.specs.Changes.{changesOf, changesFrom, changes, orElse, firstOf}
+use Rattle.trim_change.specs.declared.changes.Found.{Found}
+use Rattle.trim_change.specs.declared.changes.Start.{Start}
+use Rattle.trim.specs.InOrder.{changesOf, changesFrom, changes, orElse, firstOf}
 use Rattle.trim.specs.Search.{nextFrom}
 use Rattle.trim.proofs.First.{first-append}
 use Rattle.trim.proofs.search.next_from.Statement.{statement}

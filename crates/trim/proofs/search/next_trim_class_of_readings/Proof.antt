@@ -4,8 +4,8 @@ use Prim.Native.Nat.{ℕ}
 use borrow.Author.Needs.{needs}
 use Rattle.refusal.specs.Outcomes.{Outcome, _⟫_}
 use Rattle.record.specs.declared.readings.Readings.{Readings}
-use Rattle.trim.specs.declared.classes.Class.{Class}
-use Rattle.trim.specs.Classes.{classified, classOf}
+use Rattle.trim_class.specs.declared.classes.Class.{Class}
+use Rattle.trim_class.specs.Classes.{classified, classOf}
 use Rattle.trim.specs.Search.{nextWith, nextOf}
 use Rattle.trim.proofs.search.next_trim_class_of_readings.Statement.{statement}
 use Rattle.trim.proofs.search.next_trim_class_of_readings.Tie as tie

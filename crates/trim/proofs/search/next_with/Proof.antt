@@ -5,7 +5,7 @@ use borrow.Author.Needs.{needs}
 use Rattle.refusal.specs.Outcomes.{_⟫_}
 use Rattle.record.specs.declared.readings.Entry.{Entry}
 use Rattle.record.specs.declared.readings.Readings.{Readings}
-use Rattle.record.specs.Fields.{temperature, measuredPressure}
+use Rattle.fields.specs.Fields.{temperature, measuredPressure}
 use Rattle.record.specs.Readings.{entryOf}
 use Rattle.trim.specs.Search.{nextFrom, startOf, nextWith}
 use Rattle.trim.proofs.search.next_with.Statement.{statement}

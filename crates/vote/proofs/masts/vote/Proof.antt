@@ -10,7 +10,7 @@ use Rattle.record.specs.declared.readings.Read.{Read}
 use Rattle.record.specs.Readings.{readOutcome}
 use Rattle.mast.specs.declared.judge.Answer.{Answer}
 use Rattle.mast.specs.Judge.{outcome}
-use Rattle.vote.specs.Fields.{votedOutcome}
+use Rattle.voted.specs.Fields.{votedOutcome}
 use Rattle.vote.specs.Vote.{VoteOutcome, byNoMast, acceptedReadings, afterMast, vote}
 use Rattle.vote.proofs.masts.vote.Statement.{statement}
 use Rattle.vote.proofs.masts.vote.Tie as tie

@@ -7,7 +7,7 @@ use native.Mathlib.Numerals.{add-one}
 use native.Mathlib.Omega.{arith}
 use lib.Dec.{ltb}
 use lib.ListN.{getD}
-use Rattle.record.specs.Fields.{meanings}
+use Rattle.fields.specs.Fields.{meanings}
 use Rattle.written.specs.Arrays.{areBelow}
 use borrow.Author.Needs.{needs}
 use Rattle.written.proofs.arrays.are_below.Statement.{statement}

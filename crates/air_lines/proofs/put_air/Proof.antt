@@ -1,0 +1,38 @@
+-- `air_lines::put_air` meets its contract. Assumes nothing.
+use borrow.Author.Needs.{needs}
+use Rattle.pieces.proofs.Growing.{and-then}
+use Rattle.air_lines.specs.AirLines.{airLines}
+use Rattle.air_lines.proofs.put_air.Statement.{statement}
+use Rattle.air_lines.proofs.put_air.Tie as tie
+
+returns : tie.Need-returns
+unfolding airLines
+returns c =
+    let fraction = c .before .before in
+    let matched-altitude = fraction .before .before .before .before .before .before in
+    let pressure-altitude = matched-altitude .before .before .before .before .before .before in
+    let sound = pressure-altitude .before .before .before .before .before .before in
+    let density = sound .before .before .before .before .before .before in
+    and-then (and-then (and-then (and-then (density .put-figure .ensures) (sound .put-figure2 .ensures)) (pressure-altitude .put-figure3 .ensures)) (matched-altitude .put-figure4 .ensures)) (fraction .put-figure5 .ensures)
+
+pub put-air-spec : {M : Type 1} → statement M
+put-air-spec =
+    tie.close
+    (tie.spec
+    (λ c. search needs)
+    (λ c. search needs)
+    (λ c κs. search needs)
+    (λ c. search needs)
+    (λ c. search needs)
+    (λ c κs. search needs)
+    (λ c. search needs)
+    (λ c. search needs)
+    (λ c κs. search needs)
+    (λ c. search needs)
+    (λ c. search needs)
+    (λ c κs. search needs)
+    (λ c. search needs)
+    (λ c. search needs)
+    (λ c κs. search needs)
+    (λ c. search needs)
+    returns)

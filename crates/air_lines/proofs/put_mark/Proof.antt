@@ -1,0 +1,26 @@
+-- `air_lines::put_mark` meets its contract. Assumes nothing.
+use mathlib.Core.Path.{sym, ap}
+use borrow.Author.Needs.{needs}
+use Rattle.pieces.proofs.Growing.{same-more}
+use Rattle.air_lines.specs.AirLines.{markLine}
+use Rattle.air_lines.proofs.put_mark.Statement.{statement}
+use Rattle.air_lines.proofs.put_mark.Tie as tie
+
+returns : tie.Need-returns
+returns c = same-more (ap markLine (sym (c .before .before .before .before .before .if1 .taken))) (c .before .before .put .ensures .0)
+
+returns-2 : tie.Need-returns-2
+returns-2 c = same-more (ap markLine (sym (c .before .before .before .before .before .if1 .left))) (c .before .before .put2 .ensures .0)
+
+pub put-mark-spec : {M : Type 1} → statement M
+put-mark-spec =
+    tie.close
+    (tie.spec
+    (λ c. search needs)
+    (λ c κs. search needs)
+    (λ c. search needs)
+    returns
+    (λ c. search needs)
+    (λ c κs. search needs)
+    (λ c. search needs)
+    returns-2)

@@ -1,0 +1,4 @@
+-- The laws of the definitions, a file for each idea.
+pub mod HeightFrom
+pub mod Chained
+pub mod AltitudeOrder

@@ -1,0 +1,3 @@
+// Pressure altitude and density altitude: figures of src/atmosphere.rs, each formula as double
+// operations in the source's order.
+pub mod altitudes;

@@ -1,0 +1,2 @@
+-- A text that grows.
+pub mod Appending

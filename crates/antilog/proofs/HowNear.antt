@@ -1,0 +1,101 @@
+-- Document 02, "How near is near", for any number of places from 1 to 60, and so for 52 and 60; and where fewer units would be too few.
+-- proofs/Distance has the inequalities in units of 2 ^ -1074. Assumes nothing.
+use mathlib.Core.Path.{_≡_, sym, ap, ap₂, _∙_, subst, subst₂}
+use Prim.Native.Nat.{ℕ, zero, suc, _+_, _-_, _*_, _^_, _≤_, _<_}
+use native.Mathlib.Nat.{le-of-mul-le-mul-right, lt-of-mul-lt-mul-right, mul-comm, mul-mul-mul-comm, one-mul, mul-pos, mul-le-mul-right, mul-lt-mul-of-pos-right, one-le-pow, not-le-of-lt}
+use native.Mathlib.Omega.{arith}
+use mathlib.Core.Bool.{true, false}
+use lib.IntN.{ℤ, pos, _+ℤ_}
+use lib.Dec.{T, lit≤}
+use lib.Pow.{pow-pos, pow-add}
+use lib.Ieee.{Float, nan, inf, fin, binary64, up, down, minus, fits}
+use lib.Ieee.Digits.{minus-val}
+use lib.Ieee.Fits.{down-pos}
+use lib.Ieee.Positive.{positive}
+use Rattle.rounding.specs.Nearest.{unitsOf}
+use Rattle.antilog.specs.Log.{logWord, wordOfUnits}
+use Rattle.antilog.specs.Antilog.{antilogRoot}
+use Rattle.antilog.specs.HowNear.{twoToThe, value, _toThe_, _isAtMost_, _isBelow_, LogNear, HowNear, HowNearIsNear}
+use Rattle.estimate.proofs.Powers.{pow-product, pow-scaled}
+use Rattle.rounding.proofs.Order.{units-exact}
+use Rattle.rounding.proofs.Differences.{minus-same, minus-plus}
+use Rattle.antilog.proofs.Distance.{antilogRoot-below, antilogRoot-above, NearLog, near-log}
+
+-- The numbers n / d = X / 2 ^ t and 2 ^ (u - w): the one to the power k compares with the other as X ^ k does with 2 ^ (u + t * k - w).
+module _ (n d X t k u w : ℕ) (some : 0 < d) (exact : n * 2 ^ t ≡ X * d) where
+  abbrev z : ℤ
+  z = minus u w
+
+  abbrev common : ℕ
+  common = 2 ^ w * 2 ^ (t * k)
+
+  power-of-two : up z * d ^ k * common ≡ 2 ^ (u + t * k) * (down z * d ^ k)
+  power-of-two =
+      let two : up z * 2 ^ w ≡ 2 ^ u * down z = ap (λ (x : ℕ). x * 2 ^ w) (sym (one-mul (up z))) ∙ minus-val 1 u w ∙ ap (λ (x : ℕ). x * down z) (one-mul (2 ^ u)) in
+      mul-mul-mul-comm (up z) (d ^ k) (2 ^ w) (2 ^ (t * k)) ∙ ap (λ (x : ℕ). x * (d ^ k * 2 ^ (t * k))) two
+      ∙ mul-mul-mul-comm (2 ^ u) (down z) (d ^ k) (2 ^ (t * k)) ∙ ap (λ (x : ℕ). 2 ^ u * d ^ k * x) (mul-comm (down z) (2 ^ (t * k)))
+      ∙ mul-mul-mul-comm (2 ^ u) (d ^ k) (2 ^ (t * k)) (down z) ∙ ap₂ (λ (x y : ℕ). x * y) (sym (pow-add 2 u (t * k))) (mul-comm (d ^ k) (down z))
+
+  power-of-fraction : n ^ k * down z * common ≡ X ^ k * 2 ^ w * (down z * d ^ k)
+  power-of-fraction =
+      let scaled : n ^ k * 2 ^ (t * k) ≡ X ^ k * d ^ k = sym (pow-scaled n t k) ∙ ap (λ (x : ℕ). x ^ k) exact ∙ pow-product X d k in
+      ap (λ (x : ℕ). n ^ k * down z * x) (mul-comm (2 ^ w) (2 ^ (t * k)))
+      ∙ mul-mul-mul-comm (n ^ k) (down z) (2 ^ (t * k)) (2 ^ w) ∙ ap (λ (x : ℕ). x * (down z * 2 ^ w)) scaled
+      ∙ ap (λ (x : ℕ). X ^ k * d ^ k * x) (mul-comm (down z) (2 ^ w)) ∙ mul-mul-mul-comm (X ^ k) (d ^ k) (2 ^ w) (down z)
+      ∙ ap (λ (x : ℕ). X ^ k * 2 ^ w * x) (mul-comm (d ^ k) (down z))
+
+  both : 0 < down z * d ^ k
+  both = mul-pos (down-pos z) (one-le-pow k d some)
+
+  pub two-at-most : 2 ^ (u + t * k) ≤ X ^ k * 2 ^ w → up z * d ^ k ≤ n ^ k * down z
+  two-at-most h = le-of-mul-le-mul-right (subst₂ (λ (x y : ℕ). x ≤ y) (sym power-of-two) (sym power-of-fraction) (mul-le-mul-right (down z * d ^ k) h)) (mul-pos (pow-pos w) (pow-pos (t * k)))
+
+  pub below-two : X ^ k * 2 ^ w < 2 ^ (u + t * k) → n ^ k * down z < up z * d ^ k
+  below-two h = lt-of-mul-lt-mul-right common (subst₂ (λ (x y : ℕ). x < y) (sym power-of-fraction) (sym power-of-two) (mul-lt-mul-of-pos-right h both))
+
+near-of-units : (p X : ℕ) (x : Float) → value x .over * 2 ^ 1074 ≡ X * value x .under → 0 < value x .under → (L : ℤ) → NearLog p X L → LogNear p x L
+near-of-units p X x exact some L near =
+    let k : ℕ = 2 ^ p in
+    let b : ℕ = near .biased in
+    let w : ℕ = 1074 * k in
+    record {
+      neverTooGreat =
+          subst (λ (z : ℤ). twoToThe z isAtMost (value x toThe k)) (sym (near .word))
+          (two-at-most (value x .over) (value x .under) X 1074 k b w some exact (rw (pow-add 2 b w) (mul-le-mul-right (2 ^ w) (near .below))));
+      lessThanTwoTooSmall =
+          subst (λ (z : ℤ). (value x toThe k) isBelow twoToThe z) (sym (ap (λ (z : ℤ). z +ℤ pos 2) (near .word) ∙ minus-plus b w 2))
+          (below-two (value x .over) (value x .under) X 1074 k (b + 2) w some exact (rw (pow-add 2 (b + 2) w) (mul-lt-mul-of-pos-right (near .above) (pow-pos w))));
+    }
+
+log-near : (p : ℕ) → p ≤ 60 → (x : Float) → T (fits binary64 x) → T (positive x) → LogNear p x (logWord p x)
+log-near p h nan t s = absurd s
+log-near p h (inf b) t s = absurd s
+log-near p h (fin true m e) t s = absurd s
+log-near p h (fin false zero e) t s = absurd s
+log-near p h (fin false (suc m) e) t s =
+    near-of-units p (unitsOf (fin false (suc m) e)) (fin false (suc m) e) (units-exact false (suc m) e t) (down-pos e) (logWord p (fin false (suc m) e)) (near-log p m e h t)
+
+pub how-near : HowNearIsNear
+how-near p least most =
+    record {
+      logarithm = log-near p most;
+      antilogarithm = λ f h. record { neverTooGreat = antilogRoot-below p f h; lessThanFourTooSmall = antilogRoot-above p f h };
+    }
+
+pub how-near-52 : HowNear 52
+how-near-52 = how-near 52 (lit≤ tt) (lit≤ tt)
+
+pub how-near-60 : HowNear 60
+how-near-60 = how-near 60 (lit≤ tt) (lit≤ tt)
+
+-- ---- fewer units would be too few
+-- x = 3614860327554031 * 2 is the one case at 12 places, up to a power of two, and there is none at fewer. Of whole numbers the least is 15443 at 52 places and
+-- 43 at 60.
+log-needs-more-than-one : let x : Float = fin false 3614860327554031 (pos 1) in T (fits binary64 x) × ((value x toThe (2 ^ 12) isBelow twoToThe (logWord 12 x +ℤ pos 1)) → ⊥)
+unfolding wordOfUnits fits
+log-needs-more-than-one = (tt, λ h. not-le-of-lt h (lit≤ tt))
+
+-- f = 7 is the first case at 4 places, and there is none at fewer; f = 1 is one at 52 places and at 60. Y + 2 first fails at 14 places, for f = 8973.
+antilog-needs-more-than-one : 2 ^ (62 * 2 ^ 4 + 7) < (antilogRoot 4 7 + 1) ^ 2 ^ 4 → ⊥
+unfolding antilogRoot
+antilog-needs-more-than-one h = not-le-of-lt h (lit≤ tt)

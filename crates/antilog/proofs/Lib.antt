@@ -1,0 +1,9 @@
+-- The laws of the definitions, a file for each idea.
+pub mod Range
+pub mod Monotone
+pub mod Distance
+pub mod HowNear
+pub mod LogDigits
+pub mod Ordered
+pub mod OneFraction
+mod Window

@@ -1,0 +1,53 @@
+-- `antilog::antilog::antilog` meets its contract: the digits above the point scale the root of those below it. Assumes nothing.
+use mathlib.Core.Path.{_≡_, refl, sym, ap, ap₂, _∙_}
+use mathlib.Core.Bool.{Bool, cond}
+use Prim.Native.Nat.{ℕ, _+_, _-_, _*_, _/_, _%_, _^_}
+use native.Mathlib.Omega.{arith}
+use borrow.Author.Needs.{needs}
+use lib.IntN.{ℤ, pos, negsuc, _-ℤ_}
+use Rattle.rounding.specs.Whole.{floorDiv, floorMod, digits}
+use Rattle.rounding.specs.Nearest.{nearestScaled}
+use Rattle.antilog.specs.Antilog.{antilogRoot, antilog}
+use Rattle.rounding.specs.Places.{places}
+use Rattle.antilog.proofs.antilog.antilog.Statement.{statement}
+use Rattle.antilog.proofs.antilog.antilog.Tie as tie
+
+-- the digits of whole * 2^places + part, above and below the point
+above : (whole part : ℕ) → whole + part / 2 ^ places ≡ (whole * 2 ^ places + part) / 2 ^ places
+above whole part = omega arith
+
+below : (whole part : ℕ) → part % 2 ^ places ≡ (whole * 2 ^ places + part) % 2 ^ places
+below whole part = omega arith
+
+antilog-is : (p : ℕ) (P : ℤ) → nearestScaled (antilogRoot p (floorMod P (2 ^ p))) (floorDiv P (2 ^ p) -ℤ pos 62) ≡ antilog p P
+unfolding antilog
+antilog-is p P = refl
+
+negative-word : (whole part : ℕ) → nearestScaled (antilogRoot places ((2 ^ places - 1) - part % 2 ^ places)) (negsuc (whole + part / 2 ^ places) -ℤ pos 62) ≡ antilog places (negsuc (whole * 2 ^ places + part))
+negative-word whole part =
+    ap₂ (λ (f k : ℕ). nearestScaled (antilogRoot places f) (negsuc k -ℤ pos 62)) (omega arith) (above whole part) ∙ antilog-is places (negsuc (whole * 2 ^ places + part))
+
+positive-word : (whole part : ℕ) → nearestScaled (antilogRoot places (part % 2 ^ places)) (pos (whole + part / 2 ^ places) -ℤ pos 62) ≡ antilog places (pos (whole * 2 ^ places + part))
+positive-word whole part =
+    ap₂ (λ (f k : ℕ). nearestScaled (antilogRoot places f) (pos k -ℤ pos 62)) (below whole part) (above whole part) ∙ antilog-is places (pos (whole * 2 ^ places + part))
+
+of-sign : (a : ℕ) {s b : Bool} → s ≡ b → antilog places (cond b (negsuc a) (pos a)) ≡ antilog places (cond s (negsuc a) (pos a))
+of-sign a e = ap (λ (t : Bool). antilog places (cond t (negsuc a) (pos a))) (sym e)
+
+returns : tie.Need-returns
+returns c = c .scaled-root .ensures ∙ negative-word _ _ ∙ of-sign _ (c .before .if1 .taken)
+
+returns-2 : tie.Need-returns-2
+returns-2 c = c .scaled-root2 .ensures ∙ positive-word _ _ ∙ of-sign _ (c .before .if1 .left)
+
+pub antilog-spec : {M : Type 1} → statement M
+antilog-spec =
+    tie.close
+    (tie.spec
+    (λ c. search needs)
+    (λ c. search needs)
+    (λ c. search needs)
+    (λ c κs. search needs)
+    returns
+    (λ c κs. search needs)
+    returns-2)

@@ -1,0 +1,54 @@
+-- `antilog::antilog::scaled_root` meets its contract: the root lies between the two ends, and rounds as they do where they round alike. Assumes nothing.
+use mathlib.Core.Path.{_≡_, sym, ap, _∙_, subst, subst₂}
+use mathlib.Core.Bool.{Bool, true, cond}
+use Prim.Native.Nat.{ℕ, _+_, _-_}
+use native.Mathlib.Omega.{arith}
+use borrow.Author.Needs.{needs}
+use lib.IntN.{ℤ, pos, negsuc, _-ℤ_}
+use lib.Dec.{T}
+use lib.Ieee.{Float, le}
+use Rattle.rounding.specs.Nearest.{nearestScaled}
+use Rattle.antilog.specs.Antilog.{antilogRoot}
+use Rattle.rounding.specs.Places.{places}
+use Rattle.antilog.proofs.Range.{antilogRoot-mantissa}
+use Rattle.antilog.proofs.Window.{Window, window, rounds-alike}
+use Rattle.antilog.proofs.antilog.scaled_root.Statement.{statement}
+use Rattle.antilog.proofs.antilog.scaled_root.Tie as tie
+
+sub-scaled : tie.Need-sub-scaled
+sub-scaled c =
+    let f : ℕ = c .before .args .f in
+    omega (arith, window f (c .estimate .result) (c .before .pre .0) (c .estimate .ensures) .high, antilogRoot-mantissa places f (c .before .pre .0) .low)
+
+-- what is answered where the ends round alike
+alike : (e : ℤ) (half Y : ℕ) {low high : Float} → Window half Y → low ≡ nearestScaled (half - 3) e → high ≡ nearestScaled (half + 10) e → le high low ≡ true → low ≡ nearestScaled Y e
+alike e half Y w is-low is-high test =
+    let ends : T (le (nearestScaled (half + 10) e) (nearestScaled (half - 3) e)) = subst₂ (λ (x y : Float). T (le x y)) is-high is-low (subst T (sym test) tt) in
+    is-low ∙ rounds-alike e (half - 3) Y (half + 10) (w .low) (w .high) ends
+
+abbrev exponent : Bool → ℕ → ℤ
+exponent negative whole = cond negative (negsuc whole) (pos whole) -ℤ pos 62
+
+returns : tie.Need-returns
+returns c =
+    let start = c .before .before .before .before in
+    alike (exponent (start .args .negative) (start .args .whole)) _ _ (window (start .args .f) _ (start .pre .0) (c .before .before .before .estimate .ensures)) (c .before .before .scaled .ensures) (c .before .scaled2 .ensures) (c .if1 .taken)
+
+returns-2 : tie.Need-returns-2
+returns-2 c =
+    let args = c .before .before .before .before .before .before .args in
+    c .scaled3 .ensures ∙ ap (λ (y : ℕ). nearestScaled y (exponent (args .negative) (args .whole))) (c .before .antilog-root .ensures)
+
+pub scaled-root-spec : {M : Type 1} → statement M
+scaled-root-spec =
+    tie.close
+    (tie.spec
+    (λ c κs. search needs)
+    sub-scaled
+    (λ c κs. search needs)
+    (λ c. search needs)
+    (λ c κs. search needs)
+    returns
+    (λ c κs. search needs)
+    (λ c κs. search needs)
+    returns-2)

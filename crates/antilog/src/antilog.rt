@@ -1,0 +1,89 @@
+// The antilog: 2 to the power of a word, by repeated square roots, as the nearest double.
+ghost use mathlib.Core.Path.{_≡_};
+ghost use mathlib.Core.Bool.{cond};
+ghost use Prim.Native.Nat.{_^_, _<_};
+ghost use lib.IntN.{pos, negsuc, _-ℤ_};
+ghost use Rattle.rounding.specs.Whole.{wordValue};
+ghost use Rattle.rounding.specs.Nearest.{nearestScaled};
+ghost use Rattle.antilog.specs.Antilog.{antilogRoot, antilog};
+ghost use Rattle.rounding.specs.Places.{places};
+use estimate::estimate;
+use root_tables::reciprocal_table::reciprocal_table;
+use root_tables::root_table::root_table;
+use roots::quick::quick_root;
+use rounding::nearest::nearest_product;
+use rounding::nearest::nearest_quotient;
+use rounding::word::ONES;
+use rounding::word::PLACES;
+use rounding::word::WHOLE;
+use rounding::word::Word;
+use wide::words::Wide;
+
+// 2^62 times 2 to the power f / 2^60, from f's lowest bit to its highest. The radicand, y * 2^62 or
+// y * 2^63, has its upper word from y's upper bits, and from 125 to 126 bits.
+fn antilog_root(f: u64) -> u64
+    requires { ⌜ f < 2 ^ places ⌝ }
+    ensures { λ r. ⌜ r ≡ antilogRoot places f ⌝ }
+{
+    let roots = root_table();
+    let reciprocals = reciprocal_table();
+    let mut y = 0x4000_0000_0000_0000u64;
+    let mut rest = f;
+    let mut place = 0u32;
+    while place < PLACES {
+        let bit = rest % 2;
+        y = quick_root(
+            Wide {
+                hi: y >> (2 - bit),
+                lo: y << (62 + bit),
+            },
+            &roots,
+            &reciprocals,
+        );
+        rest = rest / 2;
+        place += 1;
+    }
+    y
+}
+
+// The double nearest to y * 2^(k - 62), k being `whole`, or -(whole + 1) where negative.
+fn scaled(y: u64, negative: bool, whole: u64) -> f64
+    requires { ⌜ whole < 2 ^ 62 ⌝ }
+    ensures { λ r. ⌜ r ≡ nearestScaled y (cond negative (negsuc whole) (pos whole) -ℤ pos 62) ⌝ }
+{
+    if negative {
+        return nearest_quotient(y, whole + 63);
+    }
+    if whole < 62 {
+        return nearest_quotient(y, 62 - whole);
+    }
+    nearest_product(y, whole - 62)
+}
+
+// The same of the root for f. Half its estimate is at most 3 above it and at most 10 below it, and of
+// these bits the double keeps all but ten: where both ends round alike, as they mostly do, so does the
+// root, and only else is it taken.
+fn scaled_root(f: u64, negative: bool, whole: u64) -> f64
+    requires { ⌜ (f < 2 ^ places) × (whole < 2 ^ 62) ⌝ }
+    ensures { λ r. ⌜ r ≡ nearestScaled (antilogRoot places f) (cond negative (negsuc whole) (pos whole) -ℤ pos 62) ⌝ }
+{
+    let half = estimate(f) / 2;
+    let low = scaled(half - 3, negative, whole);
+    let high = scaled(half + 10, negative, whole);
+    if high <= low {
+        return low;
+    }
+    scaled(antilog_root(f), negative, whole)
+}
+
+// 2 to the power w, w being in units of 2^-60.
+pub fn antilog(w: Word) -> f64
+    ensures { λ r. ⌜ r ≡ antilog places (wordValue places w) ⌝ }
+{
+    let whole = w.whole as u64 + w.part / WHOLE;
+    let part = w.part % WHOLE;
+    if w.negative {
+        return scaled_root(ONES - part, true, whole);
+    }
+    scaled_root(part, false, whole)
+}

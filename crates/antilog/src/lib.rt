@@ -1,0 +1,2 @@
+// 2 to the power of a word, by whole-number rules.
+pub mod antilog;

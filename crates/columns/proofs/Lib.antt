@@ -1,0 +1,2 @@
+-- A figure's column.
+pub mod Columns

@@ -1,0 +1,10 @@
+-- The laws of the definitions, a file for each idea.
+pub mod Accepted
+pub mod Heights
+pub mod Between
+pub mod Warmer
+pub mod PressuresApart
+pub mod Spread
+pub mod Demand
+pub mod Owned
+pub mod Rejected

@@ -1,0 +1,71 @@
+-- What lies between two accepted temperatures at one density altitude is accepted, and the figures are in order: the pressure altitudes turn the order of the
+-- temperatures. Assumes nothing.
+use mathlib.Core.Path.{sym, subst, subst₂}
+use mathlib.Core.Bool.{not}
+use Prim.Native.Nat.{ℕ}
+use lib.Dec.{T, not-T}
+use lib.Ieee.{Float, binary64, fits, lt, le}
+use lib.Ieee.Bits.{ofBits-fits}
+use lib.Ieee.Fits.{and-i, and-l, and-r}
+use Rattle.elementary.specs.Operators.{_⊘_}
+use Rattle.rounding.proofs.Strict.{not-le-of-less}
+use Rattle.atmosphere.specs.declared.station.Reading.the-variants.{Given}
+use Rattle.doubles.specs.Doubles.{isFinite}
+use Rattle.altitudes.specs.Altitudes.{foot}
+use Rattle.density_altitude.specs.Inverse.{pressureAltitudeFeet, resolve, absoluteZero, isFiniteAbove, station}
+use Rattle.density_order.specs.Order.{Accepted}
+use Rattle.density_order.specs.Warmer.{Lower, InBetween}
+use Rattle.density_altitude.proofs.Figures.{corrected-finite, pressure-altitude-falls, pressure-altitude-fits}
+use Rattle.density_order.proofs.Accepted.{Exists, exists, has-air, Granted, granted, is-station}
+use Rattle.density_order.proofs.Heights.{Climbs, above-between, to-middle, from-middle, middle-exists}
+
+module _ (p : ℕ) (d t₁ t t₂ : Float) (f₁ : T (fits binary64 t₁)) (f : T (fits binary64 t)) (f₂ : T (fits binary64 t₂)) (l₁ : T (le t₁ t)) (l₂ : T (le t t₂))
+    (a₁ : Accepted (station p d (Given t₁))) (a₂ : Accepted (station p d (Given t₂))) where
+  v : Granted p d (Given t₁)
+  v = granted p d (Given t₁) a₁
+
+  w : Granted p d (Given t₂)
+  w = granted p d (Given t₂) a₂
+
+  abbrev feet : Float → Float
+  feet x = pressureAltitudeFeet (Given x) d
+
+  fit : (x : Float) → T (fits binary64 (feet x))
+  fit x = pressure-altitude-fits (Given x) d
+
+  high : Exists (resolve p d (Given t₁))
+  high = exists (resolve p d (Given t₁)) (v .air)
+
+  low : Exists (resolve p d (Given t₂))
+  low = exists (resolve p d (Given t₂)) (w .air)
+
+  u : T (isFinite (d ⊘ foot))
+  u = corrected-finite t₁ d (high .altitude) .0
+
+  lower : T (le (feet t₂) (feet t))
+  lower = pressure-altitude-falls d u t t₂ f f₂ l₂
+
+  upper : T (le (feet t) (feet t₁))
+  upper = pressure-altitude-falls d u t₁ t f₁ f l₁
+
+  warm : T (isFiniteAbove absoluteZero t)
+  warm = above-between absoluteZero t₁ t t₂ (ofBits-fits binary64 _) f₁ f (high .temperature) (low .temperature) l₁ l₂
+
+  middle : Granted p d (Given t)
+  middle =
+      record {
+        finite = v .finite;
+        read = and-i (isFinite t) (not (le t absoluteZero)) (and-l (isFinite t) (lt absoluteZero t) warm) (not-T (le t absoluteZero) (not-le-of-less absoluteZero t (and-r (isFinite t) (lt absoluteZero t) warm)));
+        air = has-air (resolve p d (Given t)) (middle-exists p (feet t₂) (feet t) (feet t₁) t₂ t₁ (fit t₂) (fit t) (fit t₁) lower upper low high t warm);
+      }
+
+  lowers : (x y : Float) → Climbs p (feet y) (feet x) → Granted p d (Given x) → Granted p d (Given y) → Lower (station p d (Given x)) (station p d (Given y))
+  lowers x y climbs g h = subst₂ Lower (sym (is-station p d (Given x) g)) (sym (is-station p d (Given y) h)) (record { altitudes = climbs .altitudes; pressures = climbs .pressures })
+
+  pub warmer-means-lower : InBetween (station p d (Given t₁)) (station p d (Given t)) (station p d (Given t₂))
+  warmer-means-lower =
+      record {
+        accepted = subst Accepted (sym (is-station p d (Given t) middle)) tt;
+        colder = lowers t₁ t (from-middle p (feet t₂) (feet t) (feet t₁) t₂ t₁ (fit t₂) (fit t) (fit t₁) lower upper low high) v middle;
+        warmer = lowers t t₂ (to-middle p (feet t₂) (feet t) (feet t₁) t₂ t₁ (fit t₂) (fit t) (fit t₁) lower upper low high) middle w;
+      }

@@ -1,0 +1,2 @@
+// Rust's helpers on doubles, as src/atmosphere.rs uses them.
+pub mod doubles;

@@ -1,0 +1,3 @@
+-- What the contracts of `exported_air` cite besides the definitions of the crates below.
+pub mod Words
+pub mod Readings

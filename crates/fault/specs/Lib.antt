@@ -1,0 +1,2 @@
+-- What the contract of `reading_of` cites.
+pub mod Fault

@@ -1,0 +1,14 @@
+-- A field by the outcomes of its checks. Assumes nothing.
+use mathlib.Core.Path.{_≡_, refl}
+use mathlib.Core.Bool.{Bool, not, cond}
+use mathlib.Core.List.{List, []}
+use Prim.Native.Nat.{ℕ}
+use lib.Dec.{ltb, eqb}
+use lib.ListN.{length}
+use Rattle.refusal.specs.Outcomes.{accepted, refused}
+use Rattle.fields.specs.Fields.{isTag, dataSize, tagOf, lengthOf, sizeOf, field, headRows, fieldOf}
+
+pub by-checks : (s : List ℕ) {a b c d : Bool} → ltb (length s) 3 ≡ a → not (isTag (tagOf s)) ≡ b → not (eqb (lengthOf s) (dataSize (tagOf s))) ≡ c → ltb (length s) (sizeOf s) ≡ d
+    → cond a (refused 5 []) (cond b (refused 6 []) (cond c (refused 7 []) (cond d (refused 5 []) (accepted (field s))))) ≡ fieldOf s
+unfolding headRows
+by-checks s e f g h = simp (e, f, g, h)

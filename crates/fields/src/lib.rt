@@ -1,0 +1,3 @@
+// Bytes, and the fields of a mast record in them.
+pub mod bits;
+pub mod fields;

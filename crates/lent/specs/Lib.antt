@@ -1,0 +1,2 @@
+-- What the contracts of `lent`, and of the exported functions that lend, cite.
+pub mod Lent

@@ -1,0 +1,165 @@
+// What is written to lent arrays, marks and lengths, and the statuses that are no number of a refusal.
+// Where an array has fewer places than may be needed, the status is 255, and nothing is written.
+ghost use mathlib.Core.Path.{_≡_};
+ghost use Prim.Native.Nat.{_≤_};
+ghost use mathlib.Core.List.{[], _∷_};
+ghost use lib.ListN.{length};
+ghost use Rattle.refusal.specs.Refusals.{numberOf, valuesOf, listed};
+ghost use Rattle.density_altitude.specs.Inverse as Inverse;
+ghost use Rattle.mast.specs.Judge.{outcome};
+ghost use Rattle.writer.specs.Written.{written};
+ghost use Rattle.lent.specs.Lent.{handedOut, told, pair, cause, statusIn, leftIn, statusOf, stationValues, figureValues, markIn, lengthOr};
+use density_altitude::inverse;
+use density_altitude::inverse::Station;
+use mast::judge::Answer;
+use refusal::Refusal;
+use refusal::Values;
+use refusal::handed_out;
+use refusal::number;
+use station::figures::Figures;
+use writer::Written;
+
+// The status of figures.
+pub const FIGURES: u32 = 0;
+
+// The status of a lent array that is too short.
+pub const TOO_SHORT: u32 = 255;
+
+fn put_one(lent: &mut [f64], a: f64)
+    requires { ⌜ 1 ≤ length (now lent) ⌝ }
+    ensures { λ _. ⌜ now (lent .exit) ≡ handedOut (a ∷ []) (now (lent .entry)) ⌝ }
+{
+    lent[0] = a;
+}
+
+fn put_two(lent: &mut [f64], a: f64, b: f64)
+    requires { ⌜ 2 ≤ length (now lent) ⌝ }
+    ensures { λ _. ⌜ now (lent .exit) ≡ handedOut (a ∷ b ∷ []) (now (lent .entry)) ⌝ }
+{
+    lent[0] = a;
+    lent[1] = b;
+}
+
+fn put_station(lent: &mut [f64], station: Station)
+    requires { ⌜ 3 ≤ length (now lent) ⌝ }
+    ensures { λ _. ⌜ now (lent .exit) ≡ handedOut (stationValues station) (now (lent .entry)) ⌝ }
+{
+    lent[0] = station.altitude_m;
+    lent[1] = station.temperature_c;
+    lent[2] = station.pressure_hpa;
+}
+
+fn put_figures(lent: &mut [f64], figures: Figures)
+    requires { ⌜ 8 ≤ length (now lent) ⌝ }
+    ensures { λ _. ⌜ now (lent .exit) ≡ handedOut (figureValues figures) (now (lent .entry)) ⌝ }
+{
+    lent[0] = figures.altitude_m;
+    lent[1] = figures.temperature_c;
+    lent[2] = figures.pressure_hpa;
+    lent[3] = figures.density_kg_m3;
+    lent[4] = figures.speed_of_sound_mps;
+    lent[5] = figures.pressure_altitude_m;
+    lent[6] = figures.density_matched_altitude_m;
+    lent[7] = figures.vapor_mole_fraction;
+}
+
+fn put_values(lent: &mut [f64], values: Values)
+    requires { ⌜ 2 ≤ length (now lent) ⌝ }
+    ensures { λ _. ⌜ now (lent .exit) ≡ handedOut (listed values) (now (lent .entry)) ⌝ }
+{
+    match values {
+        Values::None => {}
+        Values::One(a) => put_one(lent, a),
+        Values::Two(a, b) => put_two(lent, a, b),
+    }
+}
+
+// The same number.
+pub fn wide(n: u8) -> u32
+    ensures { λ r. ⌜ r ≡ n ⌝ }
+{
+    n as u32
+}
+
+// The refusal's number, with its values in the first places.
+fn put_refusal(lent: &mut [f64], refusal: Refusal) -> u32
+    requires { ⌜ 2 ≤ length (now lent) ⌝ }
+    ensures { λ r. ⌜ r ≡ numberOf refusal ⌝ }
+    ensures { λ _. ⌜ now (lent .exit) ≡ handedOut (valuesOf refusal) (now (lent .entry)) ⌝ }
+{
+    put_values(lent, handed_out(refusal));
+    wide(number(refusal))
+}
+
+// The status of two figures, which it writes.
+pub fn put_pair(lent: &mut [f64], a: f64, b: f64) -> u32
+    ensures { λ r. ⌜ r ≡ statusIn 2 (now (lent .entry)) (pair a b) ⌝ }
+    ensures { λ _. ⌜ now (lent .exit) ≡ leftIn 2 (now (lent .entry)) (pair a b) ⌝ }
+{
+    if lent.len() < 2 {
+        return TOO_SHORT;
+    }
+    put_two(lent, a, b);
+    FIGURES
+}
+
+// The status of a refusal, with its values.
+pub fn put_refused(lent: &mut [f64], refusal: Refusal) -> u32
+    ensures { λ r. ⌜ r ≡ statusIn 2 (now (lent .entry)) (cause refusal) ⌝ }
+    ensures { λ _. ⌜ now (lent .exit) ≡ leftIn 2 (now (lent .entry)) (cause refusal) ⌝ }
+{
+    if lent.len() < 2 {
+        return TOO_SHORT;
+    }
+    put_refusal(lent, refusal)
+}
+
+// The status of what the inverse answers, with its station or its refusal's values.
+pub fn put_inverse(lent: &mut [f64], answer: inverse::Answer) -> u32
+    ensures { λ r. ⌜ r ≡ statusIn 3 (now (lent .entry)) (told stationValues (Inverse.outcome answer)) ⌝ }
+    ensures { λ _. ⌜ now (lent .exit) ≡ leftIn 3 (now (lent .entry)) (told stationValues (Inverse.outcome answer)) ⌝ }
+{
+    if lent.len() < 3 {
+        return TOO_SHORT;
+    }
+    match answer {
+        inverse::Answer::Station(station) => {
+            put_station(lent, station);
+            FIGURES
+        }
+        inverse::Answer::Refused(refusal) => put_refusal(lent, refusal),
+    }
+}
+
+// The status of what the judge answers, with its figures and their mark or its refusal's values.
+pub fn put_answer(lent: &mut [f64], in_range: &mut bool, answer: Answer) -> u32
+    ensures { λ r. ⌜ r ≡ statusIn 8 (now (lent .entry)) (told figureValues (outcome answer)) ⌝ }
+    ensures { λ _. ⌜ now (lent .exit) ≡ leftIn 8 (now (lent .entry)) (told figureValues (outcome answer)) ⌝ }
+    ensures { λ _. ⌜ now («in_range» .exit) ≡ markIn 8 (now (lent .entry)) (now («in_range» .entry)) (outcome answer) ⌝ }
+{
+    if lent.len() < 8 {
+        return TOO_SHORT;
+    }
+    match answer {
+        Answer::Figures(figures) => {
+            put_figures(lent, figures);
+            *in_range = figures.in_cipm_range;
+            FIGURES
+        }
+        Answer::Refused(refusal) => put_refusal(lent, refusal),
+    }
+}
+
+// The status of what a writer answers, with the length that it wrote.
+pub fn put_length(length: &mut usize, answer: Written) -> u32
+    ensures { λ r. ⌜ r ≡ statusOf (written answer) ⌝ }
+    ensures { λ _. ⌜ now (length .exit) ≡ lengthOr (now (length .entry)) (written answer) ⌝ }
+{
+    match answer {
+        Written::Length(n) => {
+            *length = n;
+            FIGURES
+        }
+        Written::Refused(refusal) => wide(number(refusal)),
+    }
+}

@@ -1,0 +1,2 @@
+-- What the contracts of `limits` cite: the checks on readings.
+pub mod Checks

@@ -1,0 +1,2 @@
+-- What the contracts of `line_reader` cite: the form of a line.
+pub mod Line

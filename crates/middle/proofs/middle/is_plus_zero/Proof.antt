@@ -1,0 +1,18 @@
+-- `middle::middle::is_plus_zero` meets its contract. Assumes nothing.
+use mathlib.Core.Path.{sym, ap, _∙_}
+use mathlib.Core.Bool.{Bool, _&&_}
+use lib.Ieee.{lt}
+use Rattle.elementary.specs.Decimals.{nought, one}
+use Rattle.elementary.specs.Operators.{_⊘_}
+use Rattle.middle.proofs.Zeros.{plus-zero}
+use Rattle.middle.proofs.middle.is_plus_zero.Statement.{statement}
+use Rattle.middle.proofs.middle.is_plus_zero.Tie as tie
+
+returns : tie.Need-returns
+returns c = let x = c .before .args .x in sym (ap (λ (t : Bool). t && lt nought (one ⊘ x)) (c .if1 .taken)) ∙ plus-zero x
+
+returns-2 : tie.Need-returns-2
+returns-2 c = let x = c .before .args .x in c .if1 .left ∙ sym (ap (λ (t : Bool). t && lt nought (one ⊘ x)) (c .if1 .left)) ∙ plus-zero x
+
+pub is-plus-zero-spec : {M : Type 1} → statement M
+is-plus-zero-spec = tie.close (tie.spec returns returns-2)

@@ -1,0 +1,17 @@
+-- `middle::middle::precedes` meets its contract. Assumes nothing.
+use mathlib.Core.Path.{ap₂}
+use mathlib.Core.Bool.{Bool, _&&_, _||_}
+use lib.Ieee.{lt}
+use borrow.Author.Needs.{needs}
+use Rattle.middle.specs.Middle.{precedes}
+use Rattle.middle.proofs.middle.precedes.Statement.{statement}
+use Rattle.middle.proofs.middle.precedes.Tie as tie
+
+returns : tie.Need-returns
+unfolding precedes
+returns c =
+    let a = c .before .before .args in
+    ap₂ (λ (p q : Bool). lt (a .x) (a .y) || (p && q)) (c .before .is-minus-zero .ensures) (c .is-plus-zero .ensures)
+
+pub precedes-spec : {M : Type 1} → statement M
+precedes-spec = tie.close (tie.spec (λ c κs. search needs) (λ c κs. search needs) returns)

@@ -1,0 +1,2 @@
+// The middle of three doubles.
+pub mod middle;

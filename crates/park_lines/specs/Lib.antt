@@ -1,0 +1,2 @@
+-- What the contracts of `park_lines` cite: the lines.
+pub mod ParkLines

@@ -1,0 +1,2 @@
+// The reader of a record, field by field.
+pub mod reader;

@@ -1,0 +1,19 @@
+-- `resolved::resolved::value_or_zero` meets its contract. Assumes nothing.
+use mathlib.Core.Path.{sym, ap}
+use Rattle.record.specs.declared.readings.Entry.{Entry}
+use Rattle.resolved.specs.Resolved.{valueOrZero}
+use borrow.Author.Needs.{needs}
+use Rattle.resolved.proofs.resolved.value_or_zero.Statement.{statement}
+use Rattle.resolved.proofs.resolved.value_or_zero.Tie as tie
+
+returns-2 : tie.Need-returns-2
+returns-2 c = ap valueOrZero (sym (c .enum-told .given .1))
+
+pub value-or-zero-spec : {M : Type 1} → statement M
+value-or-zero-spec =
+    tie.close
+    (tie.spec
+    (λ c. search needs)
+    (λ c. search needs)
+    (λ c. search needs)
+    returns-2)

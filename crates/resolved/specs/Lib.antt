@@ -1,0 +1,2 @@
+-- What the contracts of `resolved` cite: what is resolved.
+pub mod Resolved

@@ -1,0 +1,2 @@
+-- What the contracts of `root_tables` cite.
+pub mod Tables

@@ -1,0 +1,2 @@
+-- The entry of the tables that a root starts from.
+pub mod Entry

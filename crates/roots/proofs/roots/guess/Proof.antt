@@ -1,0 +1,45 @@
+-- `roots::roots::guess` meets its contract: a step of Newton's iteration leads to no less than the root. Assumes nothing.
+use Prim.Native.Nat.{ℕ, _+_, _-_, _*_, _/_, _^_, _≤_, _<_}
+use native.Mathlib.Nat.{mul-le-mul}
+use native.Mathlib.Omega.{arith}
+use borrow.Author.Needs.{needs}
+use Rattle.roots.proofs.roots.Newton.{step-above, quotient-lt}
+use Rattle.roots.proofs.roots.guess.Statement.{statement}
+use Rattle.roots.proofs.roots.guess.Tie as tie
+
+-- what the program starts from
+abbrev near : ℕ → ℕ
+near n = 1113600000 + n / 2 ^ 48 * (17650000 - 81 * (n / 2 ^ 48)) / 256
+
+parabola-le : (x : ℕ) → x < 2 ^ 16 → x * (17650000 - 81 * x) ≤ 2 ^ 41
+parabola-le x h = omega (arith, mul-le-mul {n₁ = x} {m₁ = 17650000 - 81 * x} {n₂ = 2 ^ 16} {m₂ = 17650000} (omega arith) (omega arith))
+
+near-le : (c : tie.Start) → c .args .n / 2 ^ 48 * (17650000 - 81 * (c .args .n / 2 ^ 48)) ≤ 2 ^ 41
+near-le c = parabola-le (c .args .n / 2 ^ 48) (omega arith)
+
+mul-near : tie.Need-mul-near
+mul-near c = search needs
+
+sub-near : tie.Need-sub-near
+sub-near c = search needs
+
+mul-near-2 : tie.Need-mul-near-2
+mul-near-2 c = omega (arith, near-le c)
+
+add-near : tie.Need-add-near
+add-near c = omega (arith, near-le c)
+
+div-next : tie.Need-div-next
+div-next c = search needs
+
+add-next : tie.Need-add-next
+add-next c = omega (arith, near-le c, quotient-lt (c .args .n) (near (c .args .n)) (c .fits .n .fits) (omega arith))
+
+returns : tie.Need-returns
+returns c = (step-above (c .before .args .n) _ (omega arith), search needs)
+
+returns-2 : tie.Need-returns-2
+returns-2 c = search needs
+
+pub guess-spec : {M : Type 1} → statement M
+guess-spec = tie.close (tie.spec mul-near sub-near mul-near-2 add-near div-next add-next returns returns-2)

@@ -1,0 +1,32 @@
+-- `saturation::saturation::enhanced_saturation_vapor_pressure` meets its contract: the five powers are those of the exponents with their numbers in the
+-- table. Assumes nothing.
+use borrow.Author.Needs.{needs}
+use Rattle.elementary.specs.Exponents.{exponents}
+use Rattle.elementary.specs.Power.{powerAt}
+use Rattle.saturation.specs.Saturation.{saturationPressure}
+use Rattle.saturation.proofs.saturation.enhanced_saturation_vapor_pressure.Statement.{statement}
+use Rattle.saturation.proofs.saturation.enhanced_saturation_vapor_pressure.Tie as tie
+
+returns : tie.Need-returns
+unfolding saturationPressure powerAt exponents
+returns c = simp (c .exp .ensures, c .before .five-powers .ensures, c .before .before .max .ensures)
+
+pub enhanced-saturation-vapor-pressure-spec : {M : Type 1} → statement M
+enhanced-saturation-vapor-pressure-spec =
+    tie.close
+    (tie.spec
+    (λ c κs. search needs)
+    (λ c κs. search needs)
+    (λ c. search needs)
+    (λ c. search needs)
+    (λ c. search needs)
+    (λ c. search needs)
+    (λ c. search needs)
+    (λ c. search needs)
+    (λ c. search needs)
+    (λ c. search needs)
+    (λ c. search needs)
+    (λ c. search needs)
+    (λ c. search needs)
+    (λ c κs. search needs)
+    returns)

@@ -1,0 +1,2 @@
+-- Texts that fill a page from its first byte on.
+pub mod Held

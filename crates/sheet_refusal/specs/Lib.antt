@@ -1,0 +1,2 @@
+-- What the contracts of `sheet_refusal` cite.
+pub mod SheetRefusal

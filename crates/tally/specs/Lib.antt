@@ -1,0 +1,2 @@
+-- What the contract of `counted` cites.
+pub mod Tally

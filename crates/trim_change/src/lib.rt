@@ -1,0 +1,2 @@
+// A change of one reading, and the trim class that it gives.
+pub mod changes;

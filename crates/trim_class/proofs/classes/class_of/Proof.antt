@@ -1,0 +1,30 @@
+-- `trim_class::classes::class_of` meets its contract: a refusal of the readings is the last word. Assumes nothing.
+use mathlib.Core.Path.{_≡_, sym, ap, _∙_}
+use borrow.Author.Needs.{needs}
+use Rattle.refusal.specs.Outcomes.{Outcome, accepted, _⟫_}
+use Rattle.record.specs.declared.readings.Readings.{Readings}
+use Rattle.station.specs.declared.figures.Figures.{Figures}
+use Rattle.mast.specs.declared.judge.Answer.{Answer}
+use Rattle.mast.specs.Judge.{outcome, judged}
+use Rattle.trim_class.specs.Classes.{trimClass, classOf}
+use Rattle.trim_class.proofs.classes.class_of.Statement.{statement}
+use Rattle.trim_class.proofs.classes.class_of.Tie as tie
+
+by-answer : (r : Readings) {a a′ : Answer} → a ≡ a′ → outcome a ≡ judged r → (outcome a′ ⟫ (λ f. accepted (trimClass (f .«density_kg_m3»)))) ≡ classOf r
+unfolding classOf
+by-answer r told e = ap (λ (o : Outcome Figures). o ⟫ (λ f. accepted (trimClass (f .«density_kg_m3»)))) (sym (ap outcome told) ∙ e)
+
+returns : tie.Need-returns
+returns c =
+    let told = c .before .before in
+    let judged = told .before .before in
+    ap accepted (c .trim-class .ensures) ∙ by-answer (judged .before .args .readings) (told .figures .given .1) (judged .judge-readings .ensures)
+
+returns-2 : tie.Need-returns-2
+returns-2 c =
+    let told = c .before in
+    let judged = told .before .before in
+    by-answer (judged .before .args .readings) (told .refusal .given .1) (judged .judge-readings .ensures)
+
+pub class-of-spec : {M : Type 1} → statement M
+class-of-spec = tie.close (tie.spec (λ c κs. search needs) (λ c. search needs) (λ c κs. search needs) (λ c. search needs) returns returns-2)

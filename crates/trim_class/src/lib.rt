@@ -1,0 +1,2 @@
+// The trim class of readings.
+pub mod classes;

@@ -1,0 +1,61 @@
+-- `typed_word::read_word` meets its contract, by where the first `=` stands and the name before it. Assumes nothing.
+use mathlib.Core.Path.{_≡_, sym, ap, _∙_}
+use Prim.Native.Nat.{ℕ, _+_, _-_}
+use native.Mathlib.Nat.{zero-add}
+use native.Mathlib.Omega.{arith}
+use borrow.Author.Needs.{needs}
+use lib.ListN.{length, take, drop, length-drop}
+use lib.Seq.{length-take-le, take-all}
+use Rattle.bytes.specs.Bytes.{indexOf}
+use Rattle.typed.specs.Typed.{typed}
+use Rattle.typed_word.specs.Word.{valueFor}
+use Rattle.typed_word.proofs.OneWord.{found, no-mark, no-name, known}
+use Rattle.typed_word.proofs.read_word.Statement.{statement}
+use Rattle.typed_word.proofs.read_word.Tie as tie
+
+-- where the first `=` stands
+mark : (c : tie.After-find) → c .find .result ≡ indexOf 61 (c .before .before .args .word .now)
+mark c = found 61 (c .before .before .args .word .now) 0 (c .find .ensures .0) ∙ zero-add _
+
+returns : tie.Need-returns
+returns c = no-mark (c .before .before .before .args .word .now) (c .before .find .result) (mark (c .before)) (c .if1 .taken)
+
+slice-aggregate-meaning-named : tie.Need-slice-aggregate-meaning-named
+slice-aggregate-meaning-named c =
+    let found = c .before .before in
+    sym (length-take-le (found .find .result) (found .before .before .args .word .now) (found .find .ensures .1))
+
+returns-2 : tie.Need-returns-2
+returns-2 c =
+    let found = c .before .before .before .before in
+    no-name (found .before .before .args .word .now) (found .find .result) (mark found) (c .before .meaning-named .result) (c .before .meaning-named .ensures)
+    (c .before .before .before .if1 .left) (c .if2 .taken)
+
+returns-3 : tie.Need-returns-3
+returns-3 c =
+    let named = c .before .before .before .before in
+    let found = named .before .before .before in
+    let w = found .before .before .args .word .now in
+    let at : ℕ = found .find .result in
+    let m : ℕ = named .meaning-named .result in
+    let rest : take (length w - (at + 1)) (drop (at + 1) w) ≡ drop (at + 1) w = take-all (length w - (at + 1)) (drop (at + 1) w) (rw length-drop (omega arith)) in
+    c .value-for .ensures
+    ∙ ap (valueFor m) (c .before .read-decimal .ensures .0 ∙ ap typed rest)
+    ∙ known w at (mark found) m (named .meaning-named .ensures) (named .before .before .if1 .left) (c .before .before .before .if2 .left)
+
+pub read-word-spec : {M : Type 1} → statement M
+read-word-spec =
+    tie.close
+    (tie.spec
+    (λ c κs. search needs)
+    returns
+    slice-aggregate-meaning-named
+    (λ c κs. search needs)
+    returns-2
+    (λ c. search needs)
+    (λ c. search needs)
+    (λ c. search needs)
+    (λ c. search needs)
+    (λ c κs. search needs)
+    (λ c κs. search needs)
+    returns-3)

@@ -1,0 +1,2 @@
+-- What the contract of `read_word` cites: what a word says.
+pub mod Word

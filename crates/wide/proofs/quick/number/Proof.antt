@@ -1,8 +1,0 @@
--- `wide::quick::number` meets its contract: the upper word alone has the quotient. Assumes nothing.
-use native.Mathlib.Omega.{arith}
-use Rattle.wide.proofs.Entry.{number-of}
-use Rattle.wide.proofs.quick.number.Statement.{statement}
-use Rattle.wide.proofs.quick.number.Tie as tie
-
-pub number-spec : {M : Type 1} → statement M
-number-spec = tie.close (tie.spec (λ c. number-of _ _ (omega arith)))
