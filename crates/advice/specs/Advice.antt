@@ -4,7 +4,7 @@ use Prim.Native.Nat.{ℕ}
 use mathlib.Core.Bool.{cond}
 use mathlib.Core.List.{List, [], _++_}
 use lib.Dec.{eqb}
-use Rattle.record.specs.declared.readings.Readings.{Readings}
+use Rattle.entries.specs.declared.Readings.{Readings}
 use Rattle.fields.specs.Fields.{altitude, temperature, stationPressure, qnh, humidity, densityAltitude, measuredPressure}
 use Rattle.pieces.specs.Ascii.{ascii}
 use Rattle.pieces.specs.Characters.{refusalLine}

@@ -4,6 +4,7 @@ ghost use Rattle.refusal.specs.Refusals.{numberOf};
 ghost use Rattle.pieces.specs.Characters.{refusalLine};
 ghost use Rattle.pieces.specs.Pieces.{Appended};
 ghost use Rattle.advice.specs.Advice.{readingLine, causeLines, refusedLines};
+use entries::Readings;
 use fault::reading_of;
 use fields::fields::ALTITUDE;
 use fields::fields::DENSITY_ALTITUDE;
@@ -14,7 +15,6 @@ use fields::fields::STATION_PRESSURE;
 use fields::fields::TEMPERATURE;
 use pieces::put;
 use pieces::put_number;
-use record::readings::Readings;
 use refusal::Refusal;
 use refusal::number;
 

@@ -2,7 +2,7 @@
 -- and the density-matched altitude. The altitude is in m, the humidity h in percent; `places` is the number of places of exp, ln and power. Definitions only.
 use Prim.Native.Nat.{ℕ}
 use lib.Ieee.{Float}
-use Rattle.humid_air.specs.MoistAir.{moleFractionCelsius}
+use Rattle.humid_air.specs.Humidity.{moleFractionCelsius}
 use Rattle.atmosphere.specs.declared.station.Reading.{Reading}
 use Rattle.air.specs.declared.figures.AirFigures.{AirFigures}
 use Rattle.air.specs.Station.{celsius, hectopascals, atmosphere}

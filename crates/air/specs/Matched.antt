@@ -3,8 +3,8 @@
 use Prim.Native.Nat.{ℕ}
 use mathlib.Core.Bool.{_||_, cond}
 use lib.Ieee.{Float, le, isNan}
-use Rattle.elementary.specs.Decimals.{nought}
-use Rattle.elementary.specs.Operators.{_⊘_}
+use Rattle.arithmetic.specs.Decimals.{nought}
+use Rattle.arithmetic.specs.Operators.{_⊘_}
 use Rattle.atmosphere.specs.declared.station.Reading.the-variants.{Given}
 use Rattle.atmosphere.specs.Station.{standardPressure, standardTemperature}
 use Rattle.altitudes.specs.Altitudes.{tropopause, heightOfRatio, troposphereHeight}

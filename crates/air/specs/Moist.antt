@@ -2,11 +2,12 @@
 use Prim.Native.Nat.{ℕ}
 use mathlib.Core.Path.{_≡_}
 use lib.Ieee.{Float}
-use Rattle.rounding.specs.Places.{places}
-use Rattle.elementary.specs.Decimals.{nought, hundred}
-use Rattle.elementary.specs.Operators.{_⊖_, _⊘_}
+use Rattle.arithmetic.specs.Places.{places}
+use Rattle.arithmetic.specs.Decimals.{nought, hundred}
+use Rattle.arithmetic.specs.Operators.{_⊖_, _⊘_}
 use Rattle.doubles.specs.Doubles.{clampDouble}
-use Rattle.humid_air.specs.MoistAir.{icePoint, neededPressure, densityMoleFraction, airDensity}
+use Rattle.moist_air.specs.MoistAir.{icePoint}
+use Rattle.humid_air.specs.Humidity.{neededPressure, densityMoleFraction, airDensity}
 use Rattle.air.specs.declared.moist.Saturation.{Saturation}
 use Rattle.air.specs.declared.moist.MoistDensity.{MoistDensity}
 

@@ -2,10 +2,10 @@
 -- humidities h in percent; `places` is the number of places of exp and power. Definitions only.
 use Prim.Native.Nat.{ℕ}
 use lib.Ieee.{Float}
-use Rattle.elementary.specs.Decimals.{nought, hundred}
-use Rattle.elementary.specs.Operators.{_⊕_, _⊖_, _⊗_, _⊘_}
+use Rattle.arithmetic.specs.Decimals.{nought, hundred}
+use Rattle.arithmetic.specs.Operators.{_⊕_, _⊖_, _⊗_, _⊘_}
 use Rattle.doubles.specs.Doubles.{clampDouble}
-use Rattle.humid_air.specs.MoistAir.{icePoint}
+use Rattle.moist_air.specs.MoistAir.{icePoint}
 use Rattle.humid_air.specs.Sound.{soundSpeed}
 use Rattle.atmosphere.specs.declared.station.Reading.{Reading}
 use Rattle.atmosphere.specs.declared.station.Reading.the-variants.{Given, FromLayer}

@@ -1,7 +1,7 @@
 // The figures of a station's air, with one saturation pressure for all of them where their temperatures
 // are one double.
 ghost use mathlib.Core.Path.{_≡_};
-ghost use Rattle.rounding.specs.Places.{places};
+ghost use Rattle.arithmetic.specs.Places.{places};
 ghost use Rattle.air.specs.Moist.{densityOf, Serves};
 ghost use Rattle.air.specs.Figures.{airFigures};
 use super::matched::density_matched_altitude_of;

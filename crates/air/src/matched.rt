@@ -1,6 +1,6 @@
 // The density-matched altitude: the height in the standard atmosphere of a density, and of moist air's.
 ghost use mathlib.Core.Path.{_≡_};
-ghost use Rattle.rounding.specs.Places.{places};
+ghost use Rattle.arithmetic.specs.Places.{places};
 ghost use Rattle.air.specs.Matched.{heightOfDensity, densityMatchedAltitude};
 use super::moist::density_of;
 use super::moist::saturation_at;

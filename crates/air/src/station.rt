@@ -1,6 +1,6 @@
 // The air at a station: density, speed of sound and the mole fraction of vapour.
 ghost use mathlib.Core.Path.{_≡_};
-ghost use Rattle.rounding.specs.Places.{places};
+ghost use Rattle.arithmetic.specs.Places.{places};
 ghost use Rattle.air.specs.Moist.{Serves};
 ghost use Rattle.air.specs.Station.{airOf, conditionsAt, atmosphere};
 use super::moist::Saturation;

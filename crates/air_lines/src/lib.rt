@@ -1,9 +1,9 @@
 // The lines of a report with the figures of the station and of its air, and the mark in words.
 ghost use Rattle.pieces.specs.Pieces.{Appended};
 ghost use Rattle.air_lines.specs.AirLines.{stationLines, airLines, markLine};
+use answered::judge::Figures;
 use columns::put_figure;
 use pieces::put;
-use station::figures::Figures;
 
 // Each puts a piece on the page from `at` on, and answers the position after it.
 pub fn put_station(page: &mut [u8], at: usize, figures: Figures) -> usize

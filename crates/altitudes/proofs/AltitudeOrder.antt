@@ -9,14 +9,14 @@ use lib.Signed.{≤ℤ-refl}
 use lib.Ieee.{Float, nan, inf, fin, binary64, up, down, ofBits, add, sub, mul, div, neg, fits, le}
 use lib.Ieee.Bits.{ofBits-fits}
 use lib.Ieee.Fits.{neg-fits, sub-fits, mul-fits, div-fits}
-use Rattle.elementary.specs.Decimals.{nought, one}
-use Rattle.elementary.specs.Operators.{_⊕_, _⊖_, _⊗_, _⊘_}
+use Rattle.arithmetic.specs.Decimals.{nought, one}
+use Rattle.arithmetic.specs.Operators.{_⊕_, _⊖_, _⊗_, _⊘_}
 use Rattle.elementary.specs.Exponents.{ofDouble, nwsExponent}
 use Rattle.elementary.specs.Power.{power}
-use Rattle.rounding.proofs.Order.{number, le-of-signed, numbers-of-le}
-use Rattle.elementary.proofs.Rises.{Rises, FallsFromZero, power-rises, power-fits}
-use Rattle.elementary.proofs.Sums.{add-comm-double, add-to-rises, sum-keeps, sub-falls}
-use Rattle.elementary.proofs.Products.{mul-rises, mul-by-rises, div-rises}
+use Rattle.arithmetic.proofs.Order.{Rises, FallsFromZero, number, le-of-signed, numbers-of-le}
+use Rattle.elementary.proofs.Rises.{power-rises, power-fits}
+use Rattle.arithmetic.proofs.Sums.{add-comm-double, add-to-rises, sum-keeps, sub-falls}
+use Rattle.arithmetic.proofs.Products.{mul-rises, mul-by-rises, div-rises}
 use Rattle.doubles.specs.Doubles.{isFinite}
 use Rattle.atmosphere.specs.Station.{standardPressure}
 use Rattle.altitudes.specs.Altitudes.{nwsAltitude, thousand, fahrenheitPerThousandFeet, standardFahrenheit, feetPerDegree, faaDensityAltitude}

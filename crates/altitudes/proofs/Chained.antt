@@ -6,15 +6,15 @@ use Prim.Native.Nat.{ℕ, zero, suc, _≤_, _<_}
 use native.Mathlib.Omega.{arith}
 use lib.ListN.{getD}
 use lib.Ieee.{Float, nan, ofBits, add, lt}
-use Rattle.elementary.specs.Operators.{_⊗_, _⊘_}
-use Rattle.elementary.specs.Decimals.{decimal, one}
+use Rattle.arithmetic.specs.Operators.{_⊗_, _⊘_}
+use Rattle.arithmetic.specs.Decimals.{decimal, one}
 use Rattle.elementary.specs.Exponents.{ofDouble, pressureExponent, temperatureExponent, densityExponent}
 use Rattle.elementary.specs.Power.{power, powerAt}
 use Rattle.elementary.specs.Exp.{exp}
 use Rattle.doubles.specs.Doubles.{absDouble}
 use Rattle.atmosphere.specs.Layers.{layers, gradient}
 use Rattle.altitudes.specs.Altitudes.{across, heightIn, chainedPressure, chainedRatio}
-use Rattle.rounding.specs.Places.{places}
+use Rattle.arithmetic.specs.Places.{places}
 
 -- ---- the pressures
 -- the code's tables: the values at the bases, and the numbers of the exponents

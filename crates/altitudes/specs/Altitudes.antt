@@ -3,10 +3,10 @@
 -- sections, which were not at hand. Constants and rounding order are those of src/atmosphere.rs; places is the number of places of exp, ln and power.
 -- Definitions only.
 use Prim.Native.Nat.{ℕ, zero, suc}
-use mathlib.Core.Bool.{Bool, _&&_, _||_, cond}
+use mathlib.Core.Bool.{_&&_, _||_, cond}
 use lib.Ieee.{Float, neg, le, isNan}
-use Rattle.elementary.specs.Decimals.{decimal, one, hundred}
-use Rattle.elementary.specs.Operators.{_⊕_, _⊖_, _⊗_, _⊘_}
+use Rattle.arithmetic.specs.Decimals.{decimal, one, hundred}
+use Rattle.arithmetic.specs.Operators.{_⊕_, _⊖_, _⊗_, _⊘_}
 use Rattle.elementary.specs.Exponents.{ofDouble, g₀, Rd, lapse, pressureExponent, temperatureExponent, densityExponent, troposphereExponent, nwsExponent}
 use Rattle.elementary.specs.Power.{power}
 use Rattle.elementary.specs.Exp.{exp}

@@ -6,13 +6,13 @@ ghost use lib.ListN.{getD};
 ghost use lib.Ieee.{nan};
 ghost use Rattle.elementary.specs.Power.{powerAt};
 ghost use Rattle.altitudes.specs.Altitudes.{nwsAltitude, faaDensityAltitude, layerFrom, heightIn, heightOfPressure, pressureAltitude, heightOfRatio};
-ghost use Rattle.rounding.specs.Places.{places};
+ghost use Rattle.arithmetic.specs.Places.{places};
 use atmosphere::layers::G_ACCEL_MPS2;
 use atmosphere::layers::ICAO_LAYERS;
 use doubles::doubles::abs;
 use elementary::ln::ln;
 use elementary::power::power;
-use humid_air::humid::R_AIR;
+use moist_air::mixture::R_AIR;
 
 pub const DA_NWS_SEA_LEVEL_HPA: f64 = 1013.25;
 

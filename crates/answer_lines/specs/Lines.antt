@@ -6,7 +6,7 @@ use mathlib.Core.Bool.{Bool, cond}
 use mathlib.Core.List.{List, [], _∷_, _++_}
 use lib.Ieee.{Float, binary64, toBits}
 use lib.ListN.{length, take}
-use Rattle.station.specs.declared.figures.Figures.{Figures}
+use Rattle.answered.specs.declared.judge.Figures.{Figures}
 use Rattle.pieces.specs.Characters.{hexDigit}
 use Rattle.answer_lines.specs.declared.Text.{Text}
 

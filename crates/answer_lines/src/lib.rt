@@ -7,11 +7,11 @@ ghost use lib.ListN.{length};
 ghost use Rattle.refusal.specs.Refusals.{numberOf};
 ghost use Rattle.pieces.specs.Characters.{decimal, refusalLine};
 ghost use Rattle.answer_lines.specs.Lines.{Appended, Holds, written, hexDigits, cell, markCell, stationLine, airLine, usageLine};
+use answered::judge::Figures;
 use fields::bits::pattern;
 use pieces::hex_digit;
 use refusal::Refusal;
 use refusal::number;
-use station::figures::Figures;
 
 // The first `len` bytes are the text: at most 150, the two lines'.
 pub struct Text {

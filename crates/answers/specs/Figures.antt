@@ -5,9 +5,9 @@ use mathlib.Core.List.{List}
 use lib.Dec.{eqb}
 use lib.ListN.{getD, drop, replicate}
 use lib.Ieee.{Float}
-use Rattle.elementary.specs.Decimals.{nought}
+use Rattle.arithmetic.specs.Decimals.{nought}
 use Rattle.refusal.specs.Outcomes.{Outcome}
-use Rattle.station.specs.declared.figures.Figures.{Figures}
+use Rattle.answered.specs.declared.judge.Figures.{Figures}
 use Rattle.lent.specs.Lent.{told, handedOut, figureValues, markOr}
 use Rattle.lines.specs.Doubles.{stand}
 use Rattle.calls.specs.Source.{truthAgrees}

@@ -4,7 +4,7 @@ use mathlib.Core.Bool.{Bool, _&&_}
 use mathlib.Core.List.{List}
 use lib.Dec.{leb, eqb}
 use lib.ListN.{length, getD, drop, replicate}
-use Rattle.elementary.specs.Decimals.{nought}
+use Rattle.arithmetic.specs.Decimals.{nought}
 use Rattle.sheet.specs.Over.{after}
 use Rattle.lent.specs.Lent.{statusOf, valuesAfter}
 use Rattle.exported_answers.specs.Sheets.{sheetIn}

@@ -5,7 +5,7 @@ use mathlib.Core.List.{List}
 use lib.Dec.{eqb}
 use lib.IntN.{pos}
 use lib.ListN.{getD, drop, replicate}
-use Rattle.elementary.specs.Decimals.{nought}
+use Rattle.arithmetic.specs.Decimals.{nought}
 use Rattle.refusal.specs.Outcomes.{Outcome}
 use Rattle.trim.specs.Search.{Next, nextTrimClass}
 use Rattle.lent.specs.Lent.{statusOf, valuesAfter}

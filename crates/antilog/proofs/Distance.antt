@@ -2,7 +2,7 @@
 -- logarithm of a to the base 2 is said by 2 ^ b ≤ a ^ 2 ^ p. Log and antilog share one lemma over their places, `next-place`. Assumes nothing.
 use mathlib.Core.Path.{_≡_, sym, ap, _∙_, subst, subst₂}
 use Prim.Native.Nat.{ℕ, zero, suc, _+_, _-_, _*_, _/_, _%_, _^_, _≤_, _<_}
-use native.Mathlib.Nat.{le-refl, le-trans, le-of-eq, lt-trans, lt-of-lt-of-le, lt-suc-self, ne-of-gt, add-zero, zero-add, add-assoc, add-mul, mul-add, mul-assoc, mul-comm, mul-left-comm, mul-right-comm, mul-mul-mul-comm, mul-pos, mul-le-mul-left, mul-le-mul-right, mul-lt-mul-of-pos-right, le-of-mul-le-mul-right, lt-of-mul-lt-mul-right, one-le-pow, pow-succ', pow-le-pow-left, pow-lt-pow-left, mod-lt, div-add-mod', div-mul-le-self, div-lt-iff-lt-mul, mul-div-cancel}
+use native.Mathlib.Nat.{le-refl, le-trans, le-of-eq, lt-of-lt-of-le, lt-suc-self, add-zero, zero-add, add-assoc, add-mul, mul-add, mul-assoc, mul-comm, mul-left-comm, mul-right-comm, mul-mul-mul-comm, mul-le-mul-left, mul-le-mul-right, pow-succ', mod-lt, div-add-mod', div-mul-le-self, div-lt-iff-lt-mul, mul-div-cancel}
 use native.Mathlib.Omega.{arith}
 use mathlib.Core.Bool.{false}
 use lib.IntN.{ℤ}
@@ -13,13 +13,13 @@ use lib.Ieee.{fin, binary64, size, minus, fits}
 use lib.Ieee.Digits.{size-le}
 use Rattle.wide.specs.Root.{root}
 use Rattle.wide.proofs.Root.{root-le, root-gt}
-use Rattle.rounding.specs.Nearest.{unitsOf}
+use Rattle.arithmetic.specs.Nearest.{unitsOf}
 use Rattle.antilog.specs.Log.{squared, bitOf, nextOf, logBits, mantissaOf, logWord}
 use Rattle.antilog.specs.Antilog.{antilogRoot}
 use Rattle.estimate.proofs.Compared.{Comparison, at-most, below, turned, next-place}
-use Rattle.estimate.proofs.Powers.{pow-one, pow-product, pow-power, pow-scaled, pow-squared, lt-of-squares, near-one-le-two}
+use Rattle.estimate.proofs.Powers.{pow-one, pow-power, pow-scaled, lt-of-squares, near-one-le-two}
 use Rattle.antilog.proofs.Range.{Mantissa, bit-cases, next-mantissa, top-bit-le, antilogRoot-mantissa, mantissaOf-mantissa}
-use Rattle.rounding.proofs.Units.{Short, split-power, units-short, units-pos}
+use Rattle.arithmetic.proofs.Units.{Short, split-power, units-short, units-pos}
 use Rattle.antilog.proofs.Ordered.{biasedWord, word-biased}
 
 -- what it compares with, in units of 2^62

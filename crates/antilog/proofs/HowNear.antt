@@ -1,9 +1,8 @@
 -- Document 02, "How near is near", for any number of places from 1 to 60, and so for 52 and 60; and where fewer units would be too few.
 -- proofs/Distance has the inequalities in units of 2 ^ -1074. Assumes nothing.
 use mathlib.Core.Path.{_≡_, sym, ap, ap₂, _∙_, subst, subst₂}
-use Prim.Native.Nat.{ℕ, zero, suc, _+_, _-_, _*_, _^_, _≤_, _<_}
+use Prim.Native.Nat.{ℕ, zero, suc, _+_, _*_, _^_, _≤_, _<_}
 use native.Mathlib.Nat.{le-of-mul-le-mul-right, lt-of-mul-lt-mul-right, mul-comm, mul-mul-mul-comm, one-mul, mul-pos, mul-le-mul-right, mul-lt-mul-of-pos-right, one-le-pow, not-le-of-lt}
-use native.Mathlib.Omega.{arith}
 use mathlib.Core.Bool.{true, false}
 use lib.IntN.{ℤ, pos, _+ℤ_}
 use lib.Dec.{T, lit≤}
@@ -12,13 +11,13 @@ use lib.Ieee.{Float, nan, inf, fin, binary64, up, down, minus, fits}
 use lib.Ieee.Digits.{minus-val}
 use lib.Ieee.Fits.{down-pos}
 use lib.Ieee.Positive.{positive}
-use Rattle.rounding.specs.Nearest.{unitsOf}
+use Rattle.arithmetic.specs.Nearest.{unitsOf}
 use Rattle.antilog.specs.Log.{logWord, wordOfUnits}
 use Rattle.antilog.specs.Antilog.{antilogRoot}
 use Rattle.antilog.specs.HowNear.{twoToThe, value, _toThe_, _isAtMost_, _isBelow_, LogNear, HowNear, HowNearIsNear}
 use Rattle.estimate.proofs.Powers.{pow-product, pow-scaled}
-use Rattle.rounding.proofs.Order.{units-exact}
-use Rattle.rounding.proofs.Differences.{minus-same, minus-plus}
+use Rattle.arithmetic.proofs.Order.{units-exact}
+use Rattle.arithmetic.proofs.Differences.{minus-plus}
 use Rattle.antilog.proofs.Distance.{antilogRoot-below, antilogRoot-above, NearLog, near-log}
 
 -- The numbers n / d = X / 2 ^ t and 2 ^ (u - w): the one to the power k compares with the other as X ^ k does with 2 ^ (u + t * k - w).

@@ -11,12 +11,12 @@ use lib.Count.{leadingZeros, leading-top}
 use lib.Arith.{digits-div, digits-mod}
 use lib.Pow.{pow-add, pow-pos, pow-mono, shl-lt, shl-exact}
 use lib.Ieee.{size, minus}
-use Rattle.rounding.specs.declared.word.Word.{Word}
-use Rattle.rounding.specs.Whole.{asWord}
+use Rattle.arithmetic.specs.declared.word.Word.{Word}
+use Rattle.arithmetic.specs.Whole.{asWord}
 use Rattle.antilog.specs.Log.{mantissaOf, logBits, wordOfUnits}
-use Rattle.rounding.proofs.Pattern.{size-is}
-use Rattle.rounding.proofs.Size.{size-shifted}
-use Rattle.rounding.proofs.Differences.{minus-above, minus-below, minus-plus, minus-times}
+use Rattle.arithmetic.proofs.Pattern.{size-is}
+use Rattle.arithmetic.proofs.Size.{size-shifted}
+use Rattle.arithmetic.proofs.Differences.{minus-above, minus-below, minus-plus, minus-times}
 use Rattle.antilog.proofs.Range.{Mantissa}
 
 -- ---- a significand and its leading zeros in a word of 64 bits

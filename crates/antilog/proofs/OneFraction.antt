@@ -9,9 +9,9 @@ use lib.Ieee.{binary64, up, down, round, minus}
 use lib.Ieee.Digits.{minus-val}
 use lib.Ieee.Fits.{down-pos}
 use lib.Ieee.Scale.{round-same}
-use Rattle.rounding.specs.Whole.{floorDiv}
+use Rattle.arithmetic.specs.Whole.{floorDiv}
 use Rattle.antilog.specs.Antilog.{antilogRoot, antilog}
-use Rattle.rounding.proofs.Differences.{by-sign, minus-is, minus-same, minus-below, floor-minus, remainder-minus}
+use Rattle.arithmetic.proofs.Differences.{by-sign, minus-is, minus-same, minus-below, floor-minus, remainder-minus}
 
 less-62 : (a b : ℕ) → minus a b -ℤ pos 62 ≡ minus a (b + 62)
 less-62 a b =

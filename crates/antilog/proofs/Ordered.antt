@@ -1,6 +1,6 @@
 -- The log word and the antilog as a whole keep the order, over any number of places: a greater double never has a smaller word, and a greater word never
 -- a smaller antilog, subnormals and infinity included. Assumes nothing.
-use mathlib.Core.Path.{_≡_, sym, ap, _∙_, subst}
+use mathlib.Core.Path.{_≡_, sym, ap, subst}
 use mathlib.Core.Logic.{_⊎_, inl, inr}
 use Prim.Native.Nat.{ℕ, suc, _+_, _-_, _*_, _/_, _^_, _≤_, _<_, suc-le-suc}
 use native.Mathlib.Nat.{le-trans, le-of-eq, eq-or-lt-of-le, mul-assoc, mul-le-mul-left, mul-le-mul-right, mul-le-mul, one-mul, pow-succ', mod-lt, not-le-of-lt}
@@ -13,11 +13,11 @@ use lib.Pow.{pow-pos, pow-mono}
 use lib.Ieee.{binary64, up, down, size, minus, le}
 use lib.Ieee.Fits.{down-pos}
 use lib.Ieee.Order.{round-mono}
-use Rattle.rounding.specs.Whole.{floorDiv, floorMod}
-use Rattle.rounding.specs.Nearest.{nearestScaled}
+use Rattle.arithmetic.specs.Whole.{floorDiv, floorMod}
+use Rattle.arithmetic.specs.Nearest.{nearestScaled}
 use Rattle.antilog.specs.Log.{mantissaOf, logBits, wordOfUnits}
 use Rattle.antilog.specs.Antilog.{antilogRoot, antilog}
-use Rattle.rounding.proofs.Integers.{le-of-pos, le-of-negsuc, div-mono, minus-mono}
+use Rattle.arithmetic.proofs.Integers.{le-of-pos, le-of-negsuc, div-mono, minus-mono}
 use Rattle.antilog.proofs.Range.{Mantissa, antilogRoot-mantissa}
 use Rattle.antilog.proofs.Monotone.{units-mono, antilogRoot-mono, remainder-mono}
 use Rattle.antilog.proofs.LogDigits.{word-counted}

@@ -15,7 +15,7 @@ use Rattle.wide.proofs.Root.{root-le, root-gt}
 use Rattle.antilog.specs.Log.{squared, bitOf, nextOf, logBits, mantissaOf}
 use Rattle.antilog.specs.Antilog.{antilogRoot}
 use Rattle.estimate.proofs.Powers.{squares-lt, lt-of-squares}
-use Rattle.rounding.proofs.Size.{size-pos}
+use Rattle.arithmetic.proofs.Size.{size-pos}
 
 pub record Mantissa (M : ℕ) : Type 0 where
   pub low : 2 ^ 62 ≤ M

@@ -12,11 +12,11 @@ use lib.Ieee.Fits.{down-pos, round-fits}
 use lib.Ieee.Order.{round-mono}
 use Rattle.estimate.specs.Estimate.{AtMost, AtLeast, Estimates}
 use Rattle.estimate.proofs.Powers.{pow-scaled, lt-of-powers}
-use Rattle.rounding.specs.Nearest.{nearestScaled}
+use Rattle.arithmetic.specs.Nearest.{nearestScaled}
 use Rattle.antilog.specs.Antilog.{antilogRoot}
-use Rattle.rounding.specs.Places.{places}
-use Rattle.rounding.proofs.Order.{unsigned, antisymmetric, le-trans-double}
-use Rattle.rounding.proofs.Rounding.{round-unsigned}
+use Rattle.arithmetic.specs.Places.{places}
+use Rattle.arithmetic.proofs.Order.{unsigned, antisymmetric, le-trans-double}
+use Rattle.arithmetic.proofs.Rounding.{round-unsigned}
 use Rattle.antilog.proofs.Distance.{antilogRoot-below, antilogRoot-above}
 
 -- ---- the root by the estimate

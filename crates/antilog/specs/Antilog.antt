@@ -3,8 +3,8 @@ use Prim.Native.Nat.{ℕ, zero, suc, _+_, _*_, _/_, _%_, _^_}
 use lib.IntN.{ℤ, pos, _-ℤ_}
 use lib.Ieee.{Float, round}
 use Rattle.wide.specs.Root.{root}
-use Rattle.rounding.specs.Whole.{floorDiv, floorMod}
-use Rattle.rounding.specs.Nearest.{nearestScaled}
+use Rattle.arithmetic.specs.Whole.{floorDiv, floorMod}
+use Rattle.arithmetic.specs.Nearest.{nearestScaled}
 
 -- Y, which starts at 2^62; for each of f's p bits, lowest first, it becomes the floor of the square root of Y * 2^62, or of Y * 2^63 where the
 -- bit is 1. The highest bit, f / 2 ^ p of p + 1 bits, comes last.

@@ -4,10 +4,10 @@ use mathlib.Core.Bool.{true, false, cond}
 use lib.IntN.{ℤ, pos, _+ℤ_, _*ℤ_}
 use lib.Dec.{leb}
 use lib.Ieee.{Float, nan, inf, fin, size, minus}
-use Rattle.rounding.specs.declared.word.Logarithm.{Logarithm}
-use Rattle.rounding.specs.declared.word.Logarithm.the-variants.{Defined, Undefined}
-use Rattle.rounding.specs.Whole.{asWord}
-use Rattle.rounding.specs.Nearest.{unitsOf}
+use Rattle.arithmetic.specs.declared.word.Logarithm.{Logarithm}
+use Rattle.arithmetic.specs.declared.word.Logarithm.the-variants.{Defined, Undefined}
+use Rattle.arithmetic.specs.Whole.{asWord}
+use Rattle.arithmetic.specs.Nearest.{unitsOf}
 
 -- Q = floor(M * M / 2^62)
 abbrev pub squared : ℕ → ℕ

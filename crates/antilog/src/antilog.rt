@@ -3,20 +3,20 @@ ghost use mathlib.Core.Path.{_≡_};
 ghost use mathlib.Core.Bool.{cond};
 ghost use Prim.Native.Nat.{_^_, _<_};
 ghost use lib.IntN.{pos, negsuc, _-ℤ_};
-ghost use Rattle.rounding.specs.Whole.{wordValue};
-ghost use Rattle.rounding.specs.Nearest.{nearestScaled};
+ghost use Rattle.arithmetic.specs.Whole.{wordValue};
+ghost use Rattle.arithmetic.specs.Nearest.{nearestScaled};
 ghost use Rattle.antilog.specs.Antilog.{antilogRoot, antilog};
-ghost use Rattle.rounding.specs.Places.{places};
+ghost use Rattle.arithmetic.specs.Places.{places};
+use arithmetic::word::ONES;
+use arithmetic::word::PLACES;
+use arithmetic::word::WHOLE;
+use arithmetic::word::Word;
 use estimate::estimate;
 use root_tables::reciprocal_table::reciprocal_table;
 use root_tables::root_table::root_table;
 use roots::quick::quick_root;
 use rounding::nearest::nearest_product;
 use rounding::nearest::nearest_quotient;
-use rounding::word::ONES;
-use rounding::word::PLACES;
-use rounding::word::WHOLE;
-use rounding::word::Word;
 use wide::words::Wide;
 
 // 2^62 times 2 to the power f / 2^60, from f's lowest bit to its highest. The radicand, y * 2^62 or

@@ -8,8 +8,8 @@ use borrow.Author.Tests.{le-leb, lt-leb, leb-true, leb-false}
 use lib.Dec.{T, leb}
 use lib.Ieee.{Float, nan, inf, fin, binary64, ofBits, fits, lt, le, isNan}
 use lib.Ieee.Bits.{is-true, is-false}
-use Rattle.rounding.proofs.Order.{number}
-use Rattle.rounding.proofs.Strict.{less-of-not-le, not-le-of-less, lt-le-trans}
+use Rattle.arithmetic.proofs.Order.{number}
+use Rattle.arithmetic.proofs.Strict.{less-of-not-le, not-le-of-less, lt-le-trans}
 use Rattle.atmosphere.specs.Layers.{layers, firstFrom, baseHeight, layerAt, Range, OnlyRange}
 use Rattle.atmosphere.proofs.FirstLayer.{first-le, told-by-first}
 

@@ -3,8 +3,8 @@
 use Prim.Native.Nat.{ℕ}
 use mathlib.Core.Bool.{Bool, _&&_, cond}
 use lib.Ieee.{Float, lt}
-use Rattle.elementary.specs.Decimals.{decimal, one, hundred}
-use Rattle.elementary.specs.Operators.{_⊕_, _⊖_, _⊗_, _⊘_}
+use Rattle.arithmetic.specs.Decimals.{decimal, one, hundred}
+use Rattle.arithmetic.specs.Operators.{_⊕_, _⊖_, _⊗_, _⊘_}
 use Rattle.elementary.specs.Exponents.{ofDouble, pressureExponent}
 use Rattle.elementary.specs.Power.{power}
 use Rattle.doubles.specs.Doubles.{absDouble}

@@ -5,12 +5,12 @@ ghost use Prim.Native.Nat.{_<_};
 ghost use mathlib.Core.Bool.{false};
 ghost use lib.Ieee.{isNan};
 ghost use Rattle.atmosphere.specs.Layers.{geopotentialHeight, standardHeight, layerAt, OnlyRange, layerPressure, standardAir};
-ghost use Rattle.rounding.specs.Places.{places};
+ghost use Rattle.arithmetic.specs.Places.{places};
 use doubles::doubles::abs;
 use doubles::doubles::clamp;
 use elementary::exp::exp;
 use elementary::power::power;
-use humid_air::humid::R_AIR;
+use moist_air::mixture::R_AIR;
 
 pub const G_ACCEL_MPS2: f64 = 9.80665;
 

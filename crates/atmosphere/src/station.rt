@@ -1,7 +1,7 @@
 // The readings of a station: what is absent or a default, and the altimeter setting.
 ghost use mathlib.Core.Path.{_≡_};
 ghost use Rattle.atmosphere.specs.Station.{inPressureBand, inTemperatureBand, resolved, stationPressure, stationTemperature, reducedQnh};
-ghost use Rattle.rounding.specs.Places.{places};
+ghost use Rattle.arithmetic.specs.Places.{places};
 use super::layers::ICAO_LAYERS;
 use super::layers::standard_geopotential_height_m;
 use doubles::doubles::abs;

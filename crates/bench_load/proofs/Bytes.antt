@@ -12,7 +12,7 @@ use Rattle.fields.specs.declared.fields.Value.the-variants.{Count}
 use Rattle.fields.specs.Fields.{dataSize}
 use Rattle.writer.specs.Records.{fieldsFrom, recordOf}
 use Rattle.writer.proofs.Fields.{length-field}
-use Rattle.bench_load.specs.Records.{readingsOf}
+use Rattle.load_writer.specs.Records.{readingsOf}
 use Rattle.bench_load.specs.Laws.{countField, fieldsOf}
 use Rattle.bench_load.proofs.Slots.{inSlots, by-slots}
 

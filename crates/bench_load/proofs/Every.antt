@@ -4,14 +4,14 @@ use mathlib.Core.Bool.{Bool, true, false}
 use Prim.Native.Nat.{ℕ, _≤_}
 use lib.ListN.{length}
 use Rattle.refusal.specs.Outcomes.{Outcome, accepted, _⟫_}
-use Rattle.record.specs.declared.readings.Readings.{Readings}
+use Rattle.entries.specs.declared.Readings.{Readings}
 use Rattle.record.specs.Readings.{readRecord}
 use Rattle.record.proofs.Strict.{same-where-rising, accepted-rising}
 use Rattle.writer.proofs.ReadBack.{read-back}
 use Rattle.mast.specs.Judge.{judged}
 use Rattle.load_records.specs.Counts.{loadCounts}
 use Rattle.load_records.proofs.Ranges.{in-ranges}
-use Rattle.bench_load.specs.Records.{loadReadings, loadRecord}
+use Rattle.load_writer.specs.Records.{loadReadings, loadRecord}
 use Rattle.bench_load.specs.Laws.{IsOfTheLoad, EveryRecord}
 use Rattle.bench_load.proofs.Slots.{readings-of-the-load, readings-held}
 use Rattle.bench_load.proofs.Bytes.{bytes-of, at-most-28}

@@ -9,9 +9,9 @@ use lib.IntN.{ℤ, pos, negsuc}
 use lib.Signed.{_≤ℤ_}
 use lib.Ieee.{Float, nan, inf, fin, binary64, fits, lt, le}
 use lib.Ieee.Scale.{finite}
-use Rattle.rounding.proofs.Integers.{times-mono}
-use Rattle.rounding.proofs.Rounding.{ratio-mono}
-use Rattle.rounding.proofs.Strict.{not-le-of-less, lt-le-trans}
+use Rattle.arithmetic.proofs.Integers.{times-mono}
+use Rattle.arithmetic.proofs.Rounding.{ratio-mono}
+use Rattle.arithmetic.proofs.Strict.{not-le-of-less, lt-le-trans}
 use Rattle.doubles.specs.Doubles.{isFinite}
 use Rattle.thousandths.specs.Thousandths.{thousandths}
 use Rattle.thousandths.specs.Laws.{InRange}

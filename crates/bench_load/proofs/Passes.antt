@@ -8,18 +8,18 @@ use lib.Ieee.{Float, fits, ofBits, round, lt}
 use Rattle.refusal.specs.Outcomes.{accepted, Row, row, _then_}
 use Rattle.refusal.specs.Causes.{NoneHolds}
 use Rattle.refusal.proofs.Rows.{then-append, then-none, none-both}
-use Rattle.elementary.specs.Decimals.{nought}
+use Rattle.arithmetic.specs.Decimals.{nought}
 use Rattle.thousandths.specs.Thousandths.{thousandths}
 use Rattle.thousandths.specs.Laws.{InRange}
 use Rattle.thousandths.proofs.Words.{count-of-word}
 use Rattle.density_altitude.specs.Inverse.{absoluteZero, temperatureRows}
-use Rattle.record.specs.declared.readings.Entry.{Entry}
-use Rattle.record.specs.declared.readings.Entry.the-variants.{Absent, Present}
-use Rattle.record.specs.declared.readings.Stored.{Stored}
-use Rattle.record.specs.declared.readings.Stored.the-variants as stored
-use Rattle.record.specs.declared.readings.Readings.{Readings}
+use Rattle.entries.specs.declared.Entry.{Entry}
+use Rattle.entries.specs.declared.Entry.the-variants.{Absent, Present}
+use Rattle.entries.specs.declared.Stored.{Stored}
+use Rattle.entries.specs.declared.Stored.the-variants as stored
+use Rattle.entries.specs.declared.Readings.{Readings}
 use Rattle.fields.specs.Fields as meaning
-use Rattle.record.specs.Readings.{isPresent, entryFor, entryOf}
+use Rattle.entries.specs.Entries.{isPresent, entryFor, entryOf}
 use Rattle.resolved.specs.Resolved.{ordinary}
 use Rattle.station.specs.Figures.{figuresOf}
 use Rattle.limits.specs.Checks.{has, isClash, finiteRows, pressureRows, humidityRows, present, valueRows, ordinaryRows}

@@ -14,13 +14,13 @@ use Rattle.load_records.specs.declared.counts.LoadCounts.{LoadCounts}
 use Rattle.load_records.specs.Laws.{Between, InRanges}
 use Rattle.fields.specs.declared.fields.Value.{Value}
 use Rattle.fields.specs.declared.fields.Value.the-variants.{Count}
-use Rattle.record.specs.declared.readings.Slot.{Slot}
-use Rattle.record.specs.declared.readings.Stored.{Stored}
-use Rattle.record.specs.declared.readings.Stored.the-variants.{Absent, Present}
-use Rattle.record.specs.declared.readings.Readings.{Readings}
-use Rattle.record.specs.Readings.{slotOf}
+use Rattle.entries.specs.declared.Slot.{Slot}
+use Rattle.entries.specs.declared.Stored.{Stored}
+use Rattle.entries.specs.declared.Stored.the-variants.{Absent, Present}
+use Rattle.entries.specs.declared.Readings.{Readings}
+use Rattle.entries.specs.Entries.{slotOf}
 use Rattle.writer.specs.Laws.{IsHeld, AreHeld}
-use Rattle.bench_load.specs.Records.{readingsOf}
+use Rattle.load_writer.specs.Records.{readingsOf}
 use Rattle.bench_load.specs.Laws.{CountIn, IsOfTheLoad}
 use Rattle.bench_load.proofs.Order.{in-range}
 

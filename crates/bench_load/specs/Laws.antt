@@ -12,15 +12,16 @@ use Rattle.load_records.specs.declared.counts.LoadCounts.{LoadCounts}
 use Rattle.load_records.specs.Counts.{loadCounts}
 use Rattle.load_records.specs.Laws.{Between}
 use Rattle.fields.specs.declared.fields.Value.the-variants.{Count}
-use Rattle.record.specs.declared.readings.Stored.{Stored}
-use Rattle.record.specs.declared.readings.Stored.the-variants.{Absent, Present}
-use Rattle.record.specs.declared.readings.Readings.{Readings}
+use Rattle.entries.specs.declared.Stored.{Stored}
+use Rattle.entries.specs.declared.Stored.the-variants.{Absent, Present}
+use Rattle.entries.specs.declared.Readings.{Readings}
 use Rattle.fields.specs.Fields as meaning
-use Rattle.record.specs.Readings.{storedOf, readRecord}
+use Rattle.record.specs.Readings.{readRecord}
+use Rattle.entries.specs.Entries.{storedOf}
 use Rattle.writer.specs.Records.{fieldWith}
 use Rattle.resolved.specs.Resolved.{ordinary}
 use Rattle.mast.specs.Judge.{airOutcome, judgeBy}
-use Rattle.bench_load.specs.Records.{loadReadings, loadRecord}
+use Rattle.load_writer.specs.Records.{loadReadings, loadRecord}
 
 -- ---- the bytes: counts in the fields 11, 12, 15, unless it is left out, and 17 (hex)
 abbrev pub countField : ℕ → ℤ → List ℕ

@@ -1,5 +1,4 @@
--- What the contracts of `bench_load` cite: the load's records, their text, and how many of them are asked for; and what may be relied on of every record.
-pub mod Records
+-- What the contracts of `bench_load` cite: the text of the load's records, and how many of them are asked for; and what may be relied on of every record.
 pub mod Text
 pub mod Asked
 pub mod Laws

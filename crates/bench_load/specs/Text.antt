@@ -9,7 +9,7 @@ use Rattle.mast.specs.Judge.{judge}
 use Rattle.answer_lines.specs.Lines.{hexDigits}
 use Rattle.text.specs.Text.{answerText}
 use Rattle.bench_load.specs.declared.pages.Block.{Block}
-use Rattle.bench_load.specs.Records.{loadRecord}
+use Rattle.load_writer.specs.Records.{loadRecord}
 
 unfoldable pub digits : List ℕ → List ℕ
 digits [] = []

@@ -1,4 +1,3 @@
-// The load for the acceptance bench: its records, their text, and how many of them are asked for.
+// The load for the acceptance bench: the text of its records, and how many of them are asked for.
 pub mod asked;
 pub mod pages;
-pub mod records;

@@ -6,7 +6,7 @@ ghost use lib.ListN.{length};
 ghost use lib.Seq.{sets};
 ghost use Rattle.writer.specs.Written.{written};
 ghost use Rattle.bench_load.specs.Text.{digits, judgedText, recordText, recordsText, recordsIn, lengthOf, Fills};
-use super::records::write_load_record;
+use load_writer::records::write_load_record;
 use mast::judge::judge;
 use pieces::hex_digit;
 use text::answer_text;

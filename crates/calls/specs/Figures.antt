@@ -5,11 +5,11 @@ use mathlib.Core.List.{List}
 use lib.Dec.{eqb}
 use lib.ListN.{getD, replicate}
 use lib.Ieee.{Float, nan}
-use Rattle.rounding.specs.Places.{places}
-use Rattle.elementary.specs.Decimals.{nought}
-use Rattle.elementary.specs.Operators.{_⊗_}
+use Rattle.arithmetic.specs.Places.{places}
+use Rattle.arithmetic.specs.Decimals.{nought}
+use Rattle.arithmetic.specs.Operators.{_⊗_}
 use Rattle.saturation.specs.Saturation.{saturationPressure}
-use Rattle.humid_air.specs.MoistAir.{airDensity}
+use Rattle.humid_air.specs.Humidity.{airDensity}
 use Rattle.humid_air.specs.Sound.{soundSpeed}
 use Rattle.atmosphere.specs.Layers.{standardAir}
 use Rattle.altitudes.specs.Altitudes.{foot, nwsAltitude, heightOfPressure, faaDensityAltitude}

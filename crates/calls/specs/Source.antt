@@ -2,14 +2,15 @@
 -- the list has agrees with nothing; oracle/README.md has the numbers. Definitions only.
 use Prim.Native.Nat.{ℕ, _+_}
 use mathlib.Core.Bool.{Bool, false, cond, _&&_, _||_}
-use mathlib.Core.List.{List, [], _∷_}
+use mathlib.Core.List.{List}
 use lib.Dec.{leb, eqb}
 use lib.ListN.{getD, drop, replicate}
 use lib.Ieee.{Float}
-use Rattle.rounding.specs.Places.{places}
-use Rattle.elementary.specs.Decimals.{nought}
+use Rattle.arithmetic.specs.Places.{places}
+use Rattle.arithmetic.specs.Decimals.{nought}
 use Rattle.saturation.specs.Saturation.{saturationPressure}
-use Rattle.humid_air.specs.MoistAir.{enhancementFactor, compressibilityFactor, moleFraction, capped, moleFractionCelsius, moleFractionKelvin, molarMassRatio, airDensity}
+use Rattle.moist_air.specs.MoistAir.{enhancementFactor, compressibilityFactor, moleFraction, capped, molarMassRatio}
+use Rattle.humid_air.specs.Humidity.{moleFractionCelsius, moleFractionKelvin, airDensity}
 use Rattle.humid_air.specs.Sound.{soundSpeedAt, soundSpeed}
 use Rattle.atmosphere.specs.declared.station.Reading.{Reading}
 use Rattle.atmosphere.specs.Layers.{geopotentialHeight, standardAir}

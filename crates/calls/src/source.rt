@@ -22,18 +22,18 @@ use exported_air::stations::station_air_calculate_atmosphere;
 use exported_air::stations::station_air_for_density_altitude;
 use exported_air::stations::station_air_standard_atmosphere;
 use humid_air::humid::calculate_air_density_cimp;
-use humid_air::humid::capped_vapor_mole_fraction;
-use humid_air::humid::enhanced_compressibility_factor;
-use humid_air::humid::enhanced_enhancement_factor;
 use humid_air::humid::moist_air_vapor_mole_fraction;
-use humid_air::humid::moist_molar_mass_ratio;
 use humid_air::humid::moist_sound_speed_at_mole_fraction;
 use humid_air::humid::moist_speed_of_sound;
-use humid_air::humid::vapor_mole_fraction;
 use lines::doubles::double_at;
 use lines::doubles::is_last;
 use lines::doubles::stand_on;
 use lines::line::word;
+use moist_air::mixture::capped_vapor_mole_fraction;
+use moist_air::mixture::enhanced_compressibility_factor;
+use moist_air::mixture::enhanced_enhancement_factor;
+use moist_air::mixture::moist_molar_mass_ratio;
+use moist_air::mixture::vapor_mole_fraction;
 use saturation::saturation::enhanced_saturation_vapor_pressure;
 
 // Whether a line of the layers' list agrees.

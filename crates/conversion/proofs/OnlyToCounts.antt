@@ -10,9 +10,10 @@ use lib.ListN.{length, drop}
 use Rattle.refusal.specs.Outcomes.{Outcome, accepted, refused, _⟫_, Row, _then_}
 use Rattle.fields.specs.declared.fields.Value.{Value}
 use Rattle.fields.specs.declared.fields.Value.the-variants.{Double, Count}
-use Rattle.record.specs.declared.readings.Readings.{Readings}
+use Rattle.entries.specs.declared.Readings.{Readings}
 use Rattle.fields.specs.Fields.{meaningOf, tagOf, sizeOf, valueOf, field, headRows}
-use Rattle.record.specs.Readings.{noReadings, noted, orderRows, rowsFrom, readRows}
+use Rattle.record.specs.Readings.{noted, orderRows, rowsFrom, readRows}
+use Rattle.entries.specs.Entries.{noReadings}
 use Rattle.writer.specs.Written.{lengthWritten}
 use Rattle.conversion.specs.Conversion.{turned, hasNoCount, fieldsOf, recordIn, countRows, converted}
 use Rattle.conversion.specs.Laws.{OnlyToCounts}

@@ -7,17 +7,18 @@ use native.Mathlib.Omega.{arith}
 use borrow.Author.Tests.{eqb-true, eqb-false}
 use lib.Dec.{eqb}
 use lib.ListN.{length, take, drop, length-drop, length-set}
-use Rattle.refusal.specs.Outcomes.{accepted, _then_}
+use Rattle.refusal.specs.Outcomes.{accepted}
 use Rattle.refusal.specs.Causes.{NoneHolds}
 use Rattle.refusal.proofs.Rows.{then-none, then-accepted, none-before, none-after, none-both}
 use Rattle.fields.specs.declared.fields.Field.{Field}
 use Rattle.fields.specs.declared.fields.Value.{Value}
-use Rattle.record.specs.declared.readings.Entry.the-variants as entry
-use Rattle.record.specs.declared.readings.Stored.the-variants.{Present}
-use Rattle.record.specs.declared.readings.Readings.{Readings}
+use Rattle.entries.specs.declared.Entry.the-variants as entry
+use Rattle.entries.specs.declared.Stored.the-variants.{Present}
+use Rattle.entries.specs.declared.Readings.{Readings}
 use Rattle.fields.specs.Fields.{meanings, doubleOf, tagOf, sizeOf, field, headRows}
-use Rattle.record.specs.Readings.{slotOf, noReadings, withValue, entryFor, entryOf, isPresent, orderRows, noted, readRows, readings, readRecord}
-use Rattle.record.proofs.Walk.{fieldRows, no-bytes, read, read-step, any-last}
+use Rattle.record.specs.Readings.{orderRows, noted, readRows, readings, readRecord}
+use Rattle.entries.specs.Entries.{slotOf, noReadings, withValue, entryFor, entryOf, isPresent}
+use Rattle.record.proofs.Walk.{fieldRows, no-bytes, read-step, any-last}
 use Rattle.record.proofs.Entries.{is-new, is-whole}
 use Rattle.record.proofs.FirstBytes.{in-range}
 use Rattle.record.proofs.Exchange.{whole, read-one}

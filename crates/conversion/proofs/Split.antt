@@ -10,10 +10,11 @@ use lib.ListN.{length, take, drop, getD, length-take, length-drop, length-append
 use lib.Seq.{length-take-le, getD-take, getD-drop, take-append-seam, drop-append-seam}
 use Rattle.refusal.specs.Causes.{NoneHolds}
 use Rattle.refusal.proofs.Rows.{none-before, none-after}
-use Rattle.record.specs.declared.readings.Stored.the-variants.{Present}
-use Rattle.record.specs.declared.readings.Readings.{Readings}
+use Rattle.entries.specs.declared.Stored.the-variants.{Present}
+use Rattle.entries.specs.declared.Readings.{Readings}
 use Rattle.fields.specs.Fields.{meanings, dataSize, tagOf, sizeOf, field, headRows}
-use Rattle.record.specs.Readings.{slotOf, noReadings, noted, orderRows, rowsFrom, readRows}
+use Rattle.record.specs.Readings.{noted, orderRows, rowsFrom, readRows}
+use Rattle.entries.specs.Entries.{slotOf, noReadings}
 use Rattle.fields.proofs.Forms.{at-most}
 use Rattle.record.proofs.Walk.{fieldRows}
 use Rattle.record.proofs.Entries.{is-new}

@@ -5,9 +5,10 @@ use mathlib.Core.Bool.{Bool, true, false, not}
 use mathlib.Core.List.{List, [], _∷_}
 use lib.Ieee.{Float}
 use Rattle.refusal.specs.Outcomes.{accepted, refused}
-use Rattle.record.specs.declared.readings.Readings.{Readings}
+use Rattle.entries.specs.declared.Readings.{Readings}
 use Rattle.fields.specs.Fields.{isCountTag, tagOf}
-use Rattle.record.specs.Readings.{entryOf, readRecord}
+use Rattle.record.specs.Readings.{readRecord}
+use Rattle.entries.specs.Entries.{entryOf}
 use Rattle.writer.specs.Laws.{AreBytes}
 use Rattle.conversion.specs.Conversion.{fieldsOf, converted, lengthConverted}
 

@@ -6,7 +6,7 @@ use native.Mathlib.Nat.{le-refl, le-trans, mul-right-comm, mul-le-mul, add-div-r
 use native.Mathlib.Omega.{arith}
 use lib.Dec.{lit≤}
 use lib.Pow.{pow-pos, pow-add, pow-mono}
-use Rattle.rounding.specs.Parts.{Digits}
+use Rattle.arithmetic.specs.Parts.{Digits}
 use Rattle.decimals.specs.Decimal.{nearestCount}
 
 -- the floor of twice the number, of n units times s

@@ -10,7 +10,7 @@ use lib.Dec.{ltb, lit<, lit≤}
 use lib.ListN.{length, length-append}
 use lib.Pow.{pow-add}
 use lib.Ieee.{Float, nan, inf, fin}
-use Rattle.rounding.specs.Nearest.{unitsOf}
+use Rattle.arithmetic.specs.Nearest.{unitsOf}
 use Rattle.decimals.specs.Decimal.{digits, pointed, nearestCount, countText, decimalText}
 use Rattle.decimals.specs.Places.{inSixteen}
 use Rattle.decimals.proofs.Digits.{length-last, some-digit, length-digits}

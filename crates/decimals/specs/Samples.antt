@@ -6,7 +6,7 @@ use mathlib.Core.Path.{_≡_}
 use mathlib.Core.List.{List}
 use mathlib.Core.List as list
 use lib.ListN.{length}
-use Rattle.elementary.specs.Decimals.{decimal}
+use Rattle.arithmetic.specs.Decimals.{decimal}
 use Rattle.decimals.specs.Decimal.{decimalText}
 
 abbrev pub ascii : String → List ℕ

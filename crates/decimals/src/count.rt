@@ -1,7 +1,7 @@
 // A double's size as a whole number of decimals.
 ghost use mathlib.Core.Path.{_≡_};
 ghost use Prim.Native.Nat.{_*_, _^_, _≤_, _<_, min};
-ghost use Rattle.rounding.specs.Parts.{Digits};
+ghost use Rattle.arithmetic.specs.Parts.{Digits};
 ghost use Rattle.decimals.specs.Decimal.{nearestCount};
 use wide::words::product;
 use wide::words::shifted_right;

@@ -1,12 +1,12 @@
 // The decimal text of a double, written from its last digit to its first.
 ghost use mathlib.Core.Path.{_≡_};
 ghost use mathlib.Core.List.{[], _∷_};
-ghost use Prim.Native.Nat.{_^_, _≤_};
+ghost use Prim.Native.Nat.{_≤_};
 ghost use Rattle.decimals.specs.Decimal.{lastDigits, digits, pointed, countText, decimalText};
 ghost use Rattle.decimals.specs.Places.{inSixteen, Before};
 use super::count::nearest_count;
 use super::count::power_of_ten;
-use rounding::nearest::Parts;
+use arithmetic::double::Parts;
 use rounding::nearest::take_apart;
 
 // The last `len` of the bytes are the text and the others are blanks. A text of more than sixteen bytes

@@ -7,11 +7,12 @@ use lib.IntN.{pos, negsuc}
 use lib.Dec.{T}
 use lib.Ieee.{Float, nan, inf, fin, binary64, ofBits, neg, add, sub, mul, div, fits, le}
 use lib.Ieee.Fits.{add-fits, sub-fits, mul-fits, div-fits}
-use Rattle.elementary.specs.Decimals.{decimal}
-use Rattle.elementary.specs.Operators.{_⊖_, _⊗_, _⊘_}
-use Rattle.elementary.proofs.Rises.{Rises, power-rises, power-fits}
-use Rattle.elementary.proofs.Sums.{add-rises, sub-falls, sub-rises}
-use Rattle.elementary.proofs.Products.{mul-rises, mul-by-rises, div-rises}
+use Rattle.arithmetic.specs.Decimals.{decimal}
+use Rattle.arithmetic.specs.Operators.{_⊖_, _⊗_, _⊘_}
+use Rattle.arithmetic.proofs.Order.{Rises}
+use Rattle.elementary.proofs.Rises.{power-rises, power-fits}
+use Rattle.arithmetic.proofs.Sums.{add-rises, sub-falls, sub-rises}
+use Rattle.arithmetic.proofs.Products.{mul-rises, mul-by-rises, div-rises}
 use Rattle.atmosphere.specs.declared.station.Reading.{Reading}
 use Rattle.atmosphere.specs.declared.station.Reading.the-variants.{Given, FromLayer}
 use Rattle.doubles.specs.Doubles.{isFinite}

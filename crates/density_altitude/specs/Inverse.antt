@@ -4,10 +4,10 @@ use Prim.Native.Nat.{ℕ}
 use mathlib.Core.Bool.{Bool, not, _&&_}
 use mathlib.Core.List.{List, [], _∷_, _++_}
 use lib.Ieee.{Float, lt, le}
-use Rattle.refusal.specs.Outcomes.{Outcome, accepted, refusal, Row, row, _then_}
+use Rattle.refusal.specs.Outcomes.{Outcome, accepted, Row, row, _then_}
 use Rattle.refusal.specs.Causes.{ExactlyCaused}
-use Rattle.elementary.specs.Decimals.{decimal, nought, one}
-use Rattle.elementary.specs.Operators.{_⊕_, _⊖_, _⊗_, _⊘_}
+use Rattle.arithmetic.specs.Decimals.{decimal, nought, one}
+use Rattle.arithmetic.specs.Operators.{_⊕_, _⊖_, _⊗_, _⊘_}
 use Rattle.elementary.specs.Exponents.{Exponent, ofDouble, nwsExponent}
 use Rattle.elementary.specs.Power.{power}
 use Rattle.atmosphere.specs.declared.station.Reading.{Reading}
@@ -15,9 +15,7 @@ use Rattle.atmosphere.specs.declared.station.Reading.the-variants.{Given, FromL
 use Rattle.doubles.specs.Doubles.{isFinite}
 use Rattle.atmosphere.specs.Station.{standardPressure}
 use Rattle.altitudes.specs.Altitudes.{foot, nwsFeet, seaLevelFahrenheit, thousand, fahrenheitPerThousandFeet, feetPerDegree, standardFahrenheit}
-use Rattle.density_altitude.specs.declared.inverse.Station.{Station}
-use Rattle.density_altitude.specs.declared.inverse.Answer.{Answer}
-use Rattle.density_altitude.specs.declared.inverse.Answer.the-variants as answer
+use Rattle.answered.specs.declared.inverse.Station.{Station}
 
 -- ---- the pressure altitude h in ft
 -- The FAA's rule is d = h + K (t - (59 - 3.57 h / 1000)), with t in °F and K its feet for each degree. So h is (d - K (t - 59)) / (1 + K 3.57 / 1000).
@@ -60,11 +58,6 @@ abbrev pub resolve : ℕ → Float → Reading → Station
 resolve places d t = let h = pressureAltitudeFeet t d in stationWith places h (stationCelsius t h)
 
 -- ---- document 01's table: the rows of the causes 1 to 4, in the order in which they are checked
--- what each case of the code's answer stands for
-abbrev pub outcome : Answer → Outcome Station
-outcome (answer.Station s) = accepted s
-outcome (answer.Refused c) = refusal c
-
 -- in °C
 abbrev pub absoluteZero : Float
 absoluteZero = decimal "-273.15"

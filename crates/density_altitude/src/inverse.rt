@@ -2,14 +2,17 @@
 // temperature or the standard one.
 ghost use mathlib.Core.Path.{_≡_};
 ghost use Rattle.refusal.specs.Outcomes.{accepted, checked, passed, _then_};
-ghost use Rattle.density_altitude.specs.Inverse.{stationWith, resolve, isFiniteAbove, hasAir, outcome, temperatureRows, givenRows, airRows, station};
-ghost use Rattle.rounding.specs.Places.{places};
+ghost use Rattle.density_altitude.specs.Inverse.{stationWith, resolve, isFiniteAbove, hasAir, temperatureRows, givenRows, airRows, station};
+ghost use Rattle.answered.specs.Inverted.{outcome};
+ghost use Rattle.arithmetic.specs.Places.{places};
 use altitudes::altitudes::DA_FAA_RULE_FT_PER_DEG_F;
 use altitudes::altitudes::DA_FT_TO_M;
 use altitudes::altitudes::DA_NWS_LAPSE_F_PER_1000FT;
 use altitudes::altitudes::DA_NWS_PRESSURE_ALT_FT;
 use altitudes::altitudes::DA_NWS_SEA_LEVEL_HPA;
 use altitudes::altitudes::DA_NWS_SEA_LEVEL_TEMP_F;
+use answered::inverse::Answer;
+use answered::inverse::Station;
 use atmosphere::station::Reading;
 use doubles::doubles::is_finite;
 use elementary::power::power;
@@ -22,18 +25,6 @@ use refusal::refuse_if;
 const DA_NWS_EXPONENT_RECIPROCAL: usize = 12;
 
 const ABSOLUTE_ZERO_C: f64 = -273.15;
-
-pub struct Station {
-    pub altitude_m: f64,
-    pub temperature_c: f64,
-    pub pressure_hpa: f64,
-}
-
-// The station, or why there is none: a cause 1 to 4.
-pub enum Answer {
-    Station(Station),
-    Refused(Refusal),
-}
 
 // The altitude, temperature and pressure that a density altitude resolves to, whether or not a station
 // can have them.

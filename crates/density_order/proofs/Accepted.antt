@@ -8,11 +8,11 @@ use lib.Ieee.Fits.{and-i, and-l, and-r}
 use Rattle.refusal.specs.Outcomes.{Outcome, accepted, refused}
 use Rattle.refusal.specs.Causes.{NoneHolds}
 use Rattle.refusal.proofs.Rows.{exactly}
-use Rattle.elementary.specs.Decimals.{nought}
+use Rattle.arithmetic.specs.Decimals.{nought}
 use Rattle.atmosphere.specs.declared.station.Reading.{Reading}
 use Rattle.atmosphere.specs.declared.station.Reading.the-variants.{Given, FromLayer}
 use Rattle.doubles.specs.Doubles.{isFinite}
-use Rattle.density_altitude.specs.declared.inverse.Station.{Station}
+use Rattle.answered.specs.declared.inverse.Station.{Station}
 use Rattle.density_altitude.specs.Inverse.{resolve, absoluteZero, isFiniteAbove, hasAir, stationRows, station, Caused}
 use Rattle.density_order.specs.Order.{Accepted}
 

@@ -6,12 +6,12 @@ use lib.Dec.{T}
 use lib.Ieee.{Float, binary64, fits, le}
 use lib.Ieee.Bits.{ofBits-fits}
 use lib.Ieee.Fits.{div-fits}
-use Rattle.elementary.specs.Operators.{_⊗_, _⊘_}
+use Rattle.arithmetic.specs.Operators.{_⊗_}
 use Rattle.atmosphere.specs.declared.station.Reading.{Reading}
 use Rattle.atmosphere.specs.declared.station.Reading.the-variants.{Given, FromLayer}
 use Rattle.doubles.specs.Doubles.{isFinite}
 use Rattle.altitudes.specs.Altitudes.{foot}
-use Rattle.density_altitude.specs.Inverse.{correction, pressureAltitudeFeet, stationCelsius, resolve, absoluteZero, isFiniteAbove, station}
+use Rattle.density_altitude.specs.Inverse.{pressureAltitudeFeet, stationCelsius, resolve, absoluteZero, isFiniteAbove, station}
 use Rattle.density_order.specs.Order.{NoneGiven, InOrder}
 use Rattle.density_altitude.proofs.Figures.{Corrected, corrected-finite, pressure-altitude-rises, pressure-altitude-fits, temperature-falls}
 use Rattle.density_order.proofs.Accepted.{Exists, exists, has-air, Granted, is-station}

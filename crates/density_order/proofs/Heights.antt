@@ -7,11 +7,11 @@ use lib.Dec.{T}
 use lib.Ieee.{Float, nan, inf, fin, binary64, ofBits, mul, div, fits, lt, le}
 use lib.Ieee.Bits.{ofBits-fits}
 use lib.Ieee.Fits.{and-i, and-l, and-r, sub-fits, mul-fits}
-use Rattle.elementary.specs.Decimals.{nought}
-use Rattle.elementary.specs.Operators.{_⊗_}
+use Rattle.arithmetic.specs.Decimals.{nought}
+use Rattle.arithmetic.specs.Operators.{_⊗_}
 use Rattle.elementary.specs.Power.{power}
-use Rattle.rounding.proofs.Order.{zero-below, le-trans-double}
-use Rattle.rounding.proofs.Strict.{lt-le-trans}
+use Rattle.arithmetic.proofs.Order.{zero-below, le-trans-double}
+use Rattle.arithmetic.proofs.Strict.{lt-le-trans}
 use Rattle.doubles.specs.Doubles.{isFinite}
 use Rattle.atmosphere.specs.Station.{standardPressure}
 use Rattle.altitudes.specs.Altitudes.{foot}

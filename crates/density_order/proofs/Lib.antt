@@ -6,5 +6,4 @@ pub mod Warmer
 pub mod PressuresApart
 pub mod Spread
 pub mod Demand
-pub mod Owned
 pub mod Rejected

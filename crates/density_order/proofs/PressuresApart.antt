@@ -6,13 +6,13 @@ use lib.IntN.{ℤ, pos, negsuc}
 use lib.Dec.{T, lit<, lit≤}
 use lib.Ieee.{Float, nan, inf, fin, binary64, ofBits, div, fits, lt, le}
 use lib.Ieee.Positive.{positive, between}
-use Rattle.elementary.specs.Operators.{_⊗_}
-use Rattle.rounding.specs.Nearest.{unitsOf}
+use Rattle.arithmetic.specs.Operators.{_⊗_}
+use Rattle.arithmetic.specs.Nearest.{unitsOf}
 use Rattle.elementary.specs.Power.{power}
-use Rattle.rounding.proofs.Integers.{le-of-pos}
-use Rattle.rounding.proofs.Order.{count-of-le, le-trans-double}
+use Rattle.arithmetic.proofs.Integers.{le-of-pos}
+use Rattle.arithmetic.proofs.Order.{count-of-le, le-trans-double}
 use Rattle.elementary.proofs.Rises.{power-fits}
-use Rattle.elementary.proofs.Between.{products-apart}
+use Rattle.arithmetic.proofs.Between.{products-apart}
 use Rattle.elementary.proofs.PowersApart.{powers-parted}
 use Rattle.atmosphere.specs.Station.{standardPressure}
 use Rattle.density_altitude.specs.Inverse.{nwsReciprocal}

@@ -5,11 +5,11 @@ use lib.Ieee.{Float, ofBits, neg, add, sub, mul, div, lt, le}
 use Rattle.elementary.specs.Power.{power}
 use Rattle.doubles.specs.Doubles.{isFinite}
 use Rattle.atmosphere.specs.declared.station.Reading.{Reading}
-use Rattle.density_altitude.specs.declared.inverse.Station.{Station}
+use Rattle.answered.specs.declared.inverse.Station.{Station}
 use Rattle.refusal.specs.Outcomes.{Outcome}
 use Rattle.density_altitude.specs.Inverse.{station}
 use Rattle.density_order.specs.Order.{Accepted, Strictly}
-use Rattle.density_order.specs.Warmer.{WarmerMeansLower, InBetween}
+use Rattle.density_order.specs.Warmer.{InBetween}
 use Rattle.density_order.specs.Rejected.{RejectedAtTheEdges, Rejected, FalseWarmed, RejectedByWarmth}
 
 -- an inverse that nowhere is strict: at each edge the promise says that it is

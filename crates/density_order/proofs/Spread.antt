@@ -11,14 +11,14 @@ use lib.Ieee.Bits.{ofBits-fits}
 use lib.Ieee.Fits.{mul-fits}
 use lib.Ieee.Positive.{above-of-le}
 use lib.Ieee.Scale.{finite}
-use Rattle.elementary.specs.Decimals.{decimal, one}
-use Rattle.elementary.specs.Operators.{_⊖_, _⊗_, _⊘_}
-use Rattle.rounding.specs.Nearest.{unitsOf}
-use Rattle.elementary.proofs.CommonDenominator.{above, beneath}
-use Rattle.elementary.proofs.Sums.{sub-falls}
-use Rattle.elementary.proofs.Counts.{over, under, Small, le-of-sides, small-between, below-large, above-large, gap-of-counts}
-use Rattle.elementary.proofs.Near.{Step, step-pos}
-use Rattle.elementary.proofs.Apart.{Apart, apart-lt, apart-weaker, sub-apart, sub-from-apart, mul-apart, div-apart}
+use Rattle.arithmetic.specs.Decimals.{decimal, one}
+use Rattle.arithmetic.specs.Operators.{_⊖_, _⊗_, _⊘_}
+use Rattle.arithmetic.specs.Nearest.{unitsOf}
+use Rattle.arithmetic.proofs.CommonDenominator.{above, beneath}
+use Rattle.arithmetic.proofs.Sums.{sub-falls}
+use Rattle.arithmetic.proofs.Counts.{over, under, Small, le-of-sides, small-between, below-large, above-large, gap-of-counts}
+use Rattle.arithmetic.proofs.Near.{Step, step-pos}
+use Rattle.arithmetic.proofs.Apart.{Apart, apart-lt, apart-weaker, sub-apart, sub-from-apart, mul-apart, div-apart}
 use Rattle.atmosphere.specs.declared.station.Reading.{Reading}
 use Rattle.atmosphere.specs.declared.station.Reading.the-variants.{Given, FromLayer}
 use Rattle.altitudes.specs.Altitudes.{foot, nwsFeet}

@@ -1,20 +1,22 @@
 -- What lies between two accepted temperatures at one density altitude is accepted, and the figures are in order: the pressure altitudes turn the order of the
--- temperatures. Assumes nothing.
-use mathlib.Core.Path.{sym, subst, subst₂}
+-- temperatures. The FAA's density altitudes keep it. Assumes nothing.
+use mathlib.Core.Path.{_≡_, sym, subst, subst₂}
 use mathlib.Core.Bool.{not}
 use Prim.Native.Nat.{ℕ}
 use lib.Dec.{T, not-T}
 use lib.Ieee.{Float, binary64, fits, lt, le}
 use lib.Ieee.Bits.{ofBits-fits}
 use lib.Ieee.Fits.{and-i, and-l, and-r}
-use Rattle.elementary.specs.Operators.{_⊘_}
-use Rattle.rounding.proofs.Strict.{not-le-of-less}
+use Rattle.arithmetic.specs.Places.{places}
+use Rattle.arithmetic.specs.Operators.{_⊘_}
+use Rattle.arithmetic.proofs.Strict.{not-le-of-less}
 use Rattle.atmosphere.specs.declared.station.Reading.the-variants.{Given}
 use Rattle.doubles.specs.Doubles.{isFinite}
-use Rattle.altitudes.specs.Altitudes.{foot}
+use Rattle.altitudes.specs.Altitudes.{foot, faaDensityAltitude}
+use Rattle.altitudes.proofs.AltitudeOrder.{faa-never-falls}
 use Rattle.density_altitude.specs.Inverse.{pressureAltitudeFeet, resolve, absoluteZero, isFiniteAbove, station}
 use Rattle.density_order.specs.Order.{Accepted}
-use Rattle.density_order.specs.Warmer.{Lower, InBetween}
+use Rattle.density_order.specs.Warmer.{Lower, InBetween, FaaNeverFalls}
 use Rattle.density_altitude.proofs.Figures.{corrected-finite, pressure-altitude-falls, pressure-altitude-fits}
 use Rattle.density_order.proofs.Accepted.{Exists, exists, has-air, Granted, granted, is-station}
 use Rattle.density_order.proofs.Heights.{Climbs, above-between, to-middle, from-middle, middle-exists}
@@ -69,3 +71,8 @@ module _ (p : ℕ) (d t₁ t t₂ : Float) (f₁ : T (fits binary64 t₁)) (f : 
         colder = lowers t₁ t (from-middle p (feet t₂) (feet t) (feet t₁) t₂ t₁ (fit t₂) (fit t) (fit t₁) lower upper low high) v middle;
         warmer = lowers t t₂ (to-middle p (feet t₂) (feet t) (feet t₁) t₂ t₁ (fit t₂) (fit t) (fit t₁) lower upper low high) middle w;
       }
+
+-- ---- the FAA's density altitudes
+pub faa-in-order : (p t₁ t₂ : Float) {d₁ d₂ : Float} → T (fits binary64 p) → T (fits binary64 t₁) → T (fits binary64 t₂)
+    → d₁ ≡ faaDensityAltitude places p t₁ → d₂ ≡ faaDensityAltitude places p t₂ → FaaNeverFalls p t₁ t₂ d₁ d₂
+faa-in-order p t₁ t₂ f f₁ f₂ e₁ e₂ u z u₁ u₂ l = subst₂ (λ (x y : Float). T (le x y)) (sym e₁) (sym e₂) (faa-never-falls places p t₁ t₂ f f₁ f₂ z u₁ u₂ l)

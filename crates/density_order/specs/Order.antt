@@ -4,12 +4,12 @@ use lib.IntN.{ℤ, pos, _+ℤ_}
 use lib.Dec.{T}
 use lib.Signed.{_≤ℤ_}
 use lib.Ieee.{Float, nan, inf, fin, lt, le}
-use Rattle.elementary.specs.Decimals.{decimal}
-use Rattle.rounding.specs.Whole.{signed}
-use Rattle.rounding.specs.Nearest.{unitsOf}
+use Rattle.arithmetic.specs.Decimals.{decimal}
+use Rattle.arithmetic.specs.Whole.{signed}
+use Rattle.arithmetic.specs.Nearest.{unitsOf}
 use Rattle.atmosphere.specs.declared.station.Reading.{Reading}
 use Rattle.atmosphere.specs.declared.station.Reading.the-variants.{Given, FromLayer}
-use Rattle.density_altitude.specs.declared.inverse.Station.{Station}
+use Rattle.answered.specs.declared.inverse.Station.{Station}
 use Rattle.refusal.specs.Outcomes.{Outcome, accepted, refused}
 
 -- ---- an answer

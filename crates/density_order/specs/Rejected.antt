@@ -5,12 +5,12 @@ use mathlib.Core.Path.{_≡_}
 use mathlib.Core.List.{[], _∷_}
 use Prim.Native.String.{String}
 use lib.Ieee.{Float}
-use Rattle.rounding.specs.Places.{places}
-use Rattle.elementary.specs.Decimals.{decimal}
-use Rattle.elementary.specs.Operators.{_⊖_}
+use Rattle.arithmetic.specs.Places.{places}
+use Rattle.arithmetic.specs.Decimals.{decimal}
+use Rattle.arithmetic.specs.Operators.{_⊖_}
 use Rattle.atmosphere.specs.declared.station.Reading.{Reading}
 use Rattle.atmosphere.specs.declared.station.Reading.the-variants.{Given, FromLayer}
-use Rattle.density_altitude.specs.declared.inverse.Station.{Station}
+use Rattle.answered.specs.declared.inverse.Station.{Station}
 use Rattle.refusal.specs.Outcomes.{Outcome, accepted, refused}
 use Rattle.altitudes.specs.Altitudes.{faaDensityAltitude}
 use Rattle.density_altitude.specs.Inverse.{station}

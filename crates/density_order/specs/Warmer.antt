@@ -2,9 +2,9 @@
 -- it at a fixed pressure. Figures and inputs compare as numbers, -0 equal to +0; accepted means what it means in demand 3. Definitions only.
 use lib.Dec.{T}
 use lib.Ieee.{Float, le}
-use Rattle.elementary.specs.Decimals.{nought}
+use Rattle.arithmetic.specs.Decimals.{nought}
 use Rattle.doubles.specs.Doubles.{isFinite}
-use Rattle.density_altitude.specs.declared.inverse.Station.{Station}
+use Rattle.answered.specs.declared.inverse.Station.{Station}
 use Rattle.refusal.specs.Outcomes.{Outcome}
 use Rattle.density_order.specs.Order.{Accepted, altitude, pressure, NeverFalls, NeverRises}
 

@@ -1,3 +1,2 @@
-// What engineers may rely on between stations with given density altitudes.
-pub mod order;
-pub mod warmth;
+// What engineers may rely on between stations with given density altitudes: definitions and laws. The
+// functions that promise it are those of `promised_stations`.

@@ -9,13 +9,13 @@ use lib.Pow.{pow-pos}
 use lib.Ieee.{Float, nan, inf, fin, binary64, ofBits, neg, fits, le, isNan}
 use lib.Ieee.Bits.{ofBits-fits}
 use lib.Ieee.Fits.{neg-fits}
-use Rattle.rounding.specs.Whole.{floorDiv}
-use Rattle.rounding.specs.Nearest.{unitsOf}
+use Rattle.arithmetic.specs.Whole.{floorDiv}
+use Rattle.arithmetic.specs.Nearest.{unitsOf}
 use Rattle.elementary.specs.Exp.{floorScaled, log2e, expTop, expBottom, expWithin, exp}
-use Rattle.rounding.proofs.Integers.{times-mono, signed-times, floorDiv-mono}
-use Rattle.rounding.proofs.Order.{count-of-le, number, unsigned, ordered-cases, zero-below, below-infinity, le-trans-double}
+use Rattle.arithmetic.proofs.Integers.{times-mono, signed-times, floorDiv-mono}
+use Rattle.arithmetic.proofs.Order.{Rises, count-of-le, number, unsigned, ordered-cases, zero-below, below-infinity, le-trans-double}
 use Rattle.antilog.proofs.Ordered.{antilog-mono}
-use Rattle.elementary.proofs.Rises.{Rises, antilog-unsigned}
+use Rattle.elementary.proofs.Rises.{antilog-unsigned}
 
 -- the answer at a number, a being whether it reaches the upper bound and b whether it reaches the lower one
 abbrev bounded : ℕ → Float → Bool → Bool → Float

@@ -8,8 +8,8 @@ use lib.Ieee.{Float, nan, inf, fin, neg, odd}
 use lib.Ieee.Bits.{is-true}
 use Rattle.elementary.specs.Exponents.{Exponent, exponentAt, isThree, isFour}
 use Rattle.elementary.specs.Power.{positivePower, infinityOrZero, power, powerAt}
-use Rattle.rounding.proofs.Parts.{finite-of-parts}
-use Rattle.rounding.proofs.Rounding.{odd-opposite}
+use Rattle.arithmetic.proofs.Parts.{finite-of-parts}
+use Rattle.arithmetic.proofs.Rounding.{odd-opposite}
 
 pub infinite-three : (p : ℕ) (e : Exponent) → isThree e ≡ true → inf true ≡ power p e (inf true)
 unfolding power

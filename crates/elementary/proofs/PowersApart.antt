@@ -9,8 +9,8 @@ use lib.IntN.{ℤ, pos, _*ℤ_}
 use lib.Dec.{T, lit<}
 use lib.Pow.{pow-pos, pow-lt, pow-mono, pow-add}
 use lib.Ieee.{fin, binary64, round, minus, fits}
-use Rattle.rounding.specs.Whole.{floorDiv}
-use Rattle.rounding.specs.Nearest.{unitsOf}
+use Rattle.arithmetic.specs.Whole.{floorDiv}
+use Rattle.arithmetic.specs.Nearest.{unitsOf}
 use Rattle.antilog.specs.Log.{logWord}
 use Rattle.antilog.specs.Antilog.{antilogRoot, antilog}
 use Rattle.elementary.specs.Exponents.{Exponent}
@@ -18,9 +18,9 @@ use Rattle.elementary.specs.Power.{power}
 use Rattle.estimate.proofs.Powers.{pow-product, pow-power, pow-scaled, two-each-le-next, next-le-two-each, lt-of-powers, lt-of-exponents}
 use Rattle.antilog.proofs.Range.{antilogRoot-mantissa}
 use Rattle.antilog.proofs.Distance.{antilogRoot-below, antilogRoot-above, NearLog, near-log}
-use Rattle.rounding.proofs.Differences.{minus-same, minus-times, floor-minus}
+use Rattle.arithmetic.proofs.Differences.{minus-same, minus-times, floor-minus}
 use Rattle.antilog.proofs.OneFraction.{scaledRoot, antilog-minus}
-use Rattle.elementary.proofs.Between.{Parted, round-parted}
+use Rattle.arithmetic.proofs.Between.{Parted, round-parted}
 
 -- ---- the words: Y is 1 + 1 / n times X or more, and both are raised to the power n * D
 words-apart : (n D X Y b c : ℕ) → 0 < n → X * suc n ≤ Y * n → 2 ^ b ≤ X ^ (n * D) → Y ^ (n * D) < 2 ^ (c + 2) → b + D < c + 2

@@ -12,16 +12,16 @@ use lib.Pow.{pow-pos}
 use lib.Ieee.{Float, nan, inf, fin, binary64, up, down, neg, fits, le}
 use lib.Ieee.Fits.{round-fits, cond-fits, neg-fits}
 use lib.Ieee.Positive.{above-of-le}
-use Rattle.rounding.specs.Whole.{signed, floorDiv, floorMod}
-use Rattle.rounding.specs.Nearest.{nearestRatio}
+use Rattle.arithmetic.specs.Whole.{signed, floorDiv, floorMod}
+use Rattle.arithmetic.specs.Nearest.{nearestRatio}
 use Rattle.antilog.specs.Log.{logWord}
 use Rattle.antilog.specs.Antilog.{antilogRoot, antilog}
 use Rattle.elementary.specs.Exponents.{Exponent, exponentAt, isThree, isFour}
 use Rattle.elementary.specs.Power.{positivePower, infinityOrZero, power, powerAt}
 use Rattle.elementary.specs.Ln.{ln2, ln}
-use Rattle.rounding.proofs.Integers.{le-of-pos, times-mono, times-anti, floorDiv-mono}
-use Rattle.rounding.proofs.Order.{count-of-le, number, numbers-of-le, unsigned, lowest, highest, zero-below, below-infinity, neg-below-unsigned, neg-turns, le-trans-double}
-use Rattle.rounding.proofs.Rounding.{round-unsigned, ratio-mono}
+use Rattle.arithmetic.proofs.Integers.{le-of-pos, times-mono, times-anti, floorDiv-mono}
+use Rattle.arithmetic.proofs.Order.{FromZeroUp, Rises, RisesFromZero, FallsFromZero, count-of-le, number, numbers-of-le, unsigned, lowest, highest, zero-below, below-infinity, neg-below-unsigned, neg-turns, le-trans-double}
+use Rattle.arithmetic.proofs.Rounding.{round-unsigned, ratio-mono}
 use Rattle.elementary.proofs.PowerCases.{in-table}
 use Rattle.antilog.proofs.Ordered.{wordOfUnits-mono, antilog-mono}
 
@@ -48,19 +48,6 @@ kind (inf false) h = infinite
 kind (fin s zero e) h = zeros s e
 kind (fin false (suc m) e) h = positive m e
 kind (fin true (suc m) e) h = absurd (above-zero m e true (pos 0) (neg-turns (fin false 0 (pos 0)) (fin true (suc m) e) h))
-
--- ---- what keeps the order of all doubles, and what keeps or turns that of the doubles from zero up
-abbrev pub Rises : (Float → Float) → Type 0
-Rises f = (x y : Float) → T (fits binary64 x) → T (fits binary64 y) → T (le x y) → T (le (f x) (f y))
-
-abbrev pub FromZeroUp : (Float → Float → Type 0) → (Float → Float) → Type 0
-FromZeroUp R f = (x y : Float) → T (fits binary64 x) → T (fits binary64 y) → T (le (fin false 0 (pos 0)) x) → T (le x y) → R (f x) (f y)
-
-abbrev pub RisesFromZero : (Float → Float) → Type 0
-RisesFromZero = FromZeroUp (λ a b. T (le a b))
-
-abbrev pub FallsFromZero : (Float → Float) → Type 0
-FallsFromZero = FromZeroUp (λ a b. T (le b a))
 
 -- by the function's values at zeros, at positive numbers, which their words compare, and at infinity
 module _ (p : ℕ) (R : Float → Float → Type 0) (f : Float → Float)

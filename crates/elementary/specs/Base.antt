@@ -2,14 +2,14 @@
 use mathlib.Core.Path.{_≡_}
 use Prim.Native.Nat.{ℕ, _*_, _^_, _<_}
 use lib.Ieee.{Float}
-use Rattle.rounding.specs.declared.nearest.Parts.{Parts}
-use Rattle.rounding.specs.declared.nearest.Parts.the-variants.{NotANumber, Infinite, Zero, Finite}
+use Rattle.arithmetic.specs.declared.double.Parts.{Parts}
+use Rattle.arithmetic.specs.declared.double.Parts.the-variants.{NotANumber, Infinite, Zero, Finite}
 use Rattle.elementary.specs.declared.power.Base.{Base}
-use Rattle.rounding.specs.declared.word.Word.{Word}
-use Rattle.rounding.specs.Whole.{asWord}
+use Rattle.arithmetic.specs.declared.word.Word.{Word}
+use Rattle.arithmetic.specs.Whole.{asWord}
 use Rattle.antilog.specs.Log.{wordOfUnits}
-use Rattle.rounding.specs.Parts.{TakenApart}
-use Rattle.rounding.specs.Places.{places}
+use Rattle.arithmetic.specs.Parts.{TakenApart}
+use Rattle.arithmetic.specs.Places.{places}
 
 -- the log word of q * 2 ^ k units of 2 ^ -1074, which is small
 pub record Logged (q k : ℕ) (log : Word) : Type 0 where

@@ -3,9 +3,9 @@ use Prim.Native.Nat.{ℕ, _*_, _^_}
 use mathlib.Core.Bool.{false, cond}
 use lib.IntN.{ℤ, pos, _*ℤ_}
 use lib.Ieee.{Float, nan, inf, fin, ofBits, neg, le, isNan}
-use Rattle.rounding.specs.Whole.{signed, floorDiv}
-use Rattle.elementary.specs.Decimals.{decimal}
-use Rattle.rounding.specs.Nearest.{unitsOf}
+use Rattle.arithmetic.specs.Whole.{signed, floorDiv}
+use Rattle.arithmetic.specs.Decimals.{decimal}
+use Rattle.arithmetic.specs.Nearest.{unitsOf}
 use Rattle.antilog.specs.Antilog.{antilog}
 
 -- floor(x * 2^p), for the finite x of so many units of 2 ^ -1074

@@ -6,8 +6,8 @@ use mathlib.Core.List.{List, [], _∷_}
 use lib.Dec.{eqb}
 use lib.ListN.{getD}
 use lib.Ieee.{Float, nan, inf, fin, ofBits, neg, sub, mul, div, up, down}
-use Rattle.elementary.specs.Decimals.{decimal, one}
-use Rattle.elementary.specs.Operators.{_⊖_, _⊗_, _⊘_}
+use Rattle.arithmetic.specs.Decimals.{decimal, one}
+use Rattle.arithmetic.specs.Operators.{_⊖_, _⊗_, _⊘_}
 
 -- ---- ICAO Doc 7488, primary constants
 -- the standard acceleration of free fall, m/s² (`G_ACCEL_MPS2`)

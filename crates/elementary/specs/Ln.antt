@@ -3,8 +3,8 @@ use Prim.Native.Nat.{ℕ, zero, suc, _^_}
 use mathlib.Core.Bool.{true, false}
 use lib.IntN.{pos, _*ℤ_}
 use lib.Ieee.{Float, nan, inf, fin, round}
-use Rattle.rounding.specs.Whole.{floorDiv}
-use Rattle.rounding.specs.Nearest.{nearestRatio}
+use Rattle.arithmetic.specs.Whole.{floorDiv}
+use Rattle.arithmetic.specs.Nearest.{nearestRatio}
 use Rattle.antilog.specs.Log.{logWord, wordOfUnits}
 
 -- ln 2, times 2^62

@@ -4,7 +4,7 @@ use mathlib.Core.Bool.{Bool, true, false, _&&_, cond}
 use lib.IntN.{pos, _*ℤ_}
 use lib.Dec.{ltb}
 use lib.Ieee.{Float, nan, inf, fin, neg}
-use Rattle.rounding.specs.Whole.{signed, floorDiv}
+use Rattle.arithmetic.specs.Whole.{signed, floorDiv}
 use Rattle.antilog.specs.Log.{logWord, wordOfUnits}
 use Rattle.antilog.specs.Antilog.{antilog}
 use Rattle.elementary.specs.Exponents.{Exponent, exponents, exponentAt, isThree, isFour}

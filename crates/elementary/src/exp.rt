@@ -2,18 +2,18 @@
 ghost use mathlib.Core.Path.{_≡_};
 ghost use mathlib.Core.Bool.{false};
 ghost use Prim.Native.Nat.{_*_, _^_, _<_};
-ghost use Rattle.rounding.specs.Whole.{signed, floorDiv, asWord};
-ghost use Rattle.rounding.specs.Parts.{Digits};
+ghost use Rattle.arithmetic.specs.Whole.{signed, floorDiv, asWord};
+ghost use Rattle.arithmetic.specs.Parts.{Digits};
 ghost use Rattle.elementary.specs.Exp.{exp};
-ghost use Rattle.rounding.specs.Places.{places};
+ghost use Rattle.arithmetic.specs.Places.{places};
 use super::multiples::times;
 use super::power::infinity_or_zero;
 use antilog::antilog::antilog;
-use rounding::nearest::Parts;
+use arithmetic::double::Parts;
+use arithmetic::word::PLACES;
+use arithmetic::word::WHOLE;
+use arithmetic::word::Word;
 use rounding::nearest::take_apart;
-use rounding::word::PLACES;
-use rounding::word::WHOLE;
-use rounding::word::Word;
 use wide::words::Wide;
 use wide::words::shifted_right;
 

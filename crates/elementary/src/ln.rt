@@ -1,20 +1,19 @@
 // The natural logarithm of a double.
 ghost use mathlib.Core.Path.{_≡_};
 ghost use mathlib.Core.Bool.{false};
-ghost use Prim.Native.Nat.{_+_, _*_, _^_, _≤_, _<_};
-ghost use lib.IntN.{pos};
+ghost use Prim.Native.Nat.{_+_, _^_, _<_};
 ghost use lib.Ieee.{odd};
-ghost use Rattle.rounding.specs.Whole.{wordValue};
-ghost use Rattle.rounding.specs.Nearest.{nearestRatio};
-ghost use Rattle.rounding.specs.Parts.{Digits};
+ghost use Rattle.arithmetic.specs.Whole.{wordValue};
+ghost use Rattle.arithmetic.specs.Nearest.{nearestRatio};
+ghost use Rattle.arithmetic.specs.Parts.{Digits};
 ghost use Rattle.elementary.specs.Ln.{lnPositive, ln};
-ghost use Rattle.rounding.specs.Places.{places};
+ghost use Rattle.arithmetic.specs.Places.{places};
 use super::log::log_of_digits;
 use super::multiples::times;
-use rounding::nearest::Parts;
+use arithmetic::double::Parts;
+use arithmetic::word::Word;
 use rounding::nearest::nearest_to_digits;
 use rounding::nearest::take_apart;
-use rounding::word::Word;
 
 // ln 2, times 2^62
 const LN_2: u64 = 0x2c5c_85fd_f473_de6a;

@@ -2,16 +2,16 @@
 // repeated squaring.
 ghost use mathlib.Core.Path.{_≡_};
 ghost use Prim.Native.Nat.{_+_, _*_, _/_, _^_, _≤_, _<_};
-ghost use Rattle.rounding.specs.Whole.{asWord};
+ghost use Rattle.arithmetic.specs.Whole.{asWord};
 ghost use Rattle.antilog.specs.Log.{logBits, wordOfUnits, logarithm};
-ghost use Rattle.rounding.specs.Parts.{Digits};
-ghost use Rattle.rounding.specs.Places.{places};
-use rounding::nearest::Parts;
+ghost use Rattle.arithmetic.specs.Parts.{Digits};
+ghost use Rattle.arithmetic.specs.Places.{places};
+use arithmetic::double::Parts;
+use arithmetic::word::Logarithm;
+use arithmetic::word::ONES;
+use arithmetic::word::PLACES;
+use arithmetic::word::Word;
 use rounding::nearest::take_apart;
-use rounding::word::Logarithm;
-use rounding::word::ONES;
-use rounding::word::PLACES;
-use rounding::word::Word;
 use wide::words::product;
 
 // floor(m * m / 2^62).

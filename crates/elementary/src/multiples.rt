@@ -2,12 +2,12 @@
 ghost use mathlib.Core.Path.{_≡_};
 ghost use Prim.Native.Nat.{_^_, _≤_, _<_};
 ghost use lib.IntN.{pos, negℤ, _*ℤ_};
-ghost use Rattle.rounding.specs.Whole.{floorDiv, wordValue, asWord};
-ghost use Rattle.rounding.specs.Places.{places};
-use rounding::word::ONES;
-use rounding::word::PLACES;
-use rounding::word::WHOLE;
-use rounding::word::Word;
+ghost use Rattle.arithmetic.specs.Whole.{floorDiv, wordValue, asWord};
+ghost use Rattle.arithmetic.specs.Places.{places};
+use arithmetic::word::ONES;
+use arithmetic::word::PLACES;
+use arithmetic::word::WHOLE;
+use arithmetic::word::Word;
 use wide::words::Wide;
 use wide::words::product;
 use wide::words::shifted_left;

@@ -5,18 +5,18 @@ ghost use mathlib.Core.List.{[], _∷_};
 ghost use Prim.Native.Nat.{_<_};
 ghost use lib.IntN.{pos};
 ghost use lib.Ieee.{inf, fin, odd};
-ghost use Rattle.rounding.specs.Parts.{Digits};
+ghost use Rattle.arithmetic.specs.Parts.{Digits};
 ghost use Rattle.elementary.specs.Base.{Logged, IsBase};
 ghost use Rattle.elementary.specs.Exponents.{exponentAt};
 ghost use Rattle.elementary.specs.Power.{infinityOrZero, positivePower, power, powerAt};
-ghost use Rattle.rounding.specs.Places.{places};
+ghost use Rattle.arithmetic.specs.Places.{places};
 use super::log::log_of_digits;
 use super::multiples::opposite;
 use super::multiples::times;
 use antilog::antilog::antilog;
-use rounding::nearest::Parts;
+use arithmetic::double::Parts;
+use arithmetic::word::Word;
 use rounding::nearest::take_apart;
-use rounding::word::Word;
 
 // The exponents' magnitudes times 2^58, and which exponents are negative, by their numbers in
 // specs/Exponents.

@@ -1,13 +1,13 @@
 -- A number that is nearly 2^63 times 2 to the power x / 2 ^ p: it stays so when it is multiplied by what is nearly 2 to the power y / 2 ^ p, and errors add. Assumes
 -- nothing.
 use mathlib.Core.Path.{_≡_, refl, sym, ap, _∙_, subst}
-use Prim.Native.Nat.{ℕ, zero, suc, _+_, _-_, _*_, _/_, _%_, _^_, _≤_, _<_}
-use native.Mathlib.Nat.{le-trans, le-of-eq, le-of-lt, lt-of-le-of-lt, lt-suc-self, zero-mul, suc-mul, add-mul, mul-add, mul-assoc, mul-comm, mul-left-comm, mul-right-comm, mul-le-mul-left, mul-le-mul-right, mul-le-mul, div-mul-le-self, div-lt-iff-lt-mul}
+use Prim.Native.Nat.{ℕ, zero, suc, _+_, _*_, _/_, _^_, _≤_, _<_}
+use native.Mathlib.Nat.{le-trans, le-of-eq, lt-of-le-of-lt, lt-suc-self, zero-mul, suc-mul, add-mul, mul-add, mul-assoc, mul-comm, mul-le-mul-right, div-mul-le-self, div-lt-iff-lt-mul}
 use native.Mathlib.Omega.{arith}
 use lib.Pow.{pow-pos, pow-lt}
 use Rattle.estimate.specs.Estimate.{AtMost, AtLeast}
 use Rattle.estimate.proofs.Powers.{pow-power, lt-of-powers}
-use Rattle.estimate.proofs.Compared.{Comparison, at-most, turned, product-compares, more-places}
+use Rattle.estimate.proofs.Compared.{at-most, turned, product-compares, more-places}
 
 -- ---- bounds of products and of more places
 

@@ -1,9 +1,9 @@
 -- A word as three numbers, and a logarithm as a word that may be missing. Definitions only.
 use Prim.Native.Nat.{ℕ}
 use mathlib.Core.Bool.{Bool, true, false}
-use Rattle.rounding.specs.declared.word.Word.{Word}
-use Rattle.rounding.specs.declared.word.Logarithm.{Logarithm}
-use Rattle.rounding.specs.declared.word.Logarithm.the-variants.{Defined, Undefined}
+use Rattle.arithmetic.specs.declared.word.Word.{Word}
+use Rattle.arithmetic.specs.declared.word.Logarithm.{Logarithm}
+use Rattle.arithmetic.specs.declared.word.Logarithm.the-variants.{Defined, Undefined}
 
 abbrev pub word : Bool → ℕ → ℕ → Word
 word s k f = record { negative = s; whole = k; part = f }

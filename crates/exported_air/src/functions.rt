@@ -2,13 +2,13 @@
 ghost use mathlib.Core.Path.{_≡_};
 ghost use Rattle.elementary.specs.Exp as Exp;
 ghost use Rattle.elementary.specs.Ln as Ln;
-ghost use Rattle.rounding.specs.Sqrt as Sqrt;
-ghost use Rattle.humid_air.specs.MoistAir.{moleFractionCelsius};
+ghost use Rattle.square_root.specs.Sqrt as Sqrt;
+ghost use Rattle.humid_air.specs.Humidity.{moleFractionCelsius};
 ghost use Rattle.atmosphere.specs.Station.{stationPressure, stationTemperature, reducedQnh};
 ghost use Rattle.altitudes.specs.Altitudes.{nwsAltitude, faaDensityAltitude, pressureAltitude};
 ghost use Rattle.air.specs.Matched.{densityMatchedAltitude};
 ghost use Rattle.exported_air.specs.Readings.{isGiven};
-ghost use Rattle.rounding.specs.Places.{places};
+ghost use Rattle.arithmetic.specs.Places.{places};
 use air::matched::density_matched_altitude_m;
 use altitudes::altitudes::faa_rule_density_altitude_ft;
 use altitudes::altitudes::nws_pressure_altitude_ft;
@@ -20,7 +20,7 @@ use atmosphere::station::resolve_station_temperature;
 use elementary::exp::exp;
 use elementary::ln::ln;
 use humid_air::humid::water_vapor_mole_fraction_uncapped;
-use rounding::sqrt::sqrt;
+use square_root::sqrt::sqrt;
 
 // e to the power x.
 #[no_mangle]

@@ -1,17 +1,17 @@
 // The rules that only tests call: the log word, the antilog, and the power by its exponent's number. A
 // log word travels as its three numbers.
 ghost use mathlib.Core.Path.{_≡_};
-ghost use Rattle.rounding.specs.Places.{places};
-ghost use Rattle.rounding.specs.Whole.{wordValue};
+ghost use Rattle.arithmetic.specs.Places.{places};
+ghost use Rattle.arithmetic.specs.Whole.{wordValue};
 ghost use Rattle.antilog.specs.Log.{logarithm};
 ghost use Rattle.antilog.specs.Antilog as Antilog;
 ghost use Rattle.elementary.specs.Power.{powerAt};
 ghost use Rattle.exported_air.specs.Words.{word, isDefined, wordOr};
 use antilog::antilog::antilog;
+use arithmetic::word::Logarithm;
+use arithmetic::word::Word;
 use elementary::log::log_word;
 use elementary::power::power;
-use rounding::word::Logarithm;
-use rounding::word::Word;
 
 // Whether x has a log word. Where it has none, the three numbers stay as they are.
 #[no_mangle]

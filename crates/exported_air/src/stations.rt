@@ -2,7 +2,7 @@
 // a status comes back, 0 for figures or the number of a refusal. Where the array has fewer places than
 // the function may need, the status is 255, and nothing is written.
 ghost use mathlib.Core.Path.{_≡_};
-ghost use Rattle.rounding.specs.Places.{places};
+ghost use Rattle.arithmetic.specs.Places.{places};
 ghost use Rattle.atmosphere.specs.Layers.{standardAir};
 ghost use Rattle.air.specs.Station.{atmosphere};
 ghost use Rattle.refusal.specs.Outcomes.{accepted};

@@ -1,13 +1,13 @@
 // The vote of three masts.
 ghost use mathlib.Core.Path.{_≡_};
-ghost use Rattle.mast.specs.Judge.{outcome};
+ghost use Rattle.answered.specs.Judged.{outcome};
 ghost use Rattle.vote.specs.Vote.{voteOutcome, vote};
 ghost use Rattle.lent.specs.Lent.{told, statusIn, leftIn, figureValues, markIn};
 ghost use Rattle.exported_answers.specs.Votes.{mastIn};
+use answered::judge::Answer;
 use lent::TOO_SHORT;
 use lent::put_answer;
 use lent::wide;
-use mast::judge::Answer;
 use vote::answer::Vote;
 use vote::masts::vote;
 

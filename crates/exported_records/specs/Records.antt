@@ -7,9 +7,9 @@ use lib.ListN.{length, getD}
 use lib.Ieee.{Float, nan}
 use Rattle.refusal.specs.Outcomes.{Outcome, accepted, refused, row, _then_, _⟫_}
 use Rattle.fields.specs.declared.fields.Value.the-variants.{Count}
-use Rattle.record.specs.declared.readings.Readings.{Readings}
+use Rattle.entries.specs.declared.Readings.{Readings}
 use Rattle.fields.specs.Fields.{meanings}
-use Rattle.record.specs.Readings.{noReadings, withValue, withEntry}
+use Rattle.entries.specs.Entries.{noReadings, withValue, withEntry}
 use Rattle.writer.specs.Records.{recordOf}
 use Rattle.writer.specs.Written.{lengthWritten, overwritten}
 

@@ -1,10 +1,10 @@
 // The load for the acceptance bench.
 ghost use mathlib.Core.Path.{_≡_};
 ghost use Rattle.writer.specs.Written.{lengthWritten, overwritten};
-ghost use Rattle.bench_load.specs.Records.{loadRecord};
+ghost use Rattle.load_writer.specs.Records.{loadRecord};
 ghost use Rattle.lent.specs.Lent.{statusOf, lengthOr};
-use bench_load::records::write_load_record;
 use lent::put_length;
+use load_writer::records::write_load_record;
 
 // Writes the load's record with this number, 0 for the first, and its length. 18 where `out` is shorter
 // than the record, which leaves `out` and `length` as they were.

@@ -8,14 +8,14 @@ ghost use Rattle.lent.specs.Lent.{statusOf, lengthOr};
 ghost use Rattle.exported_records.specs.Records.{isForm, areForms, withForm, readingsOf, recordIn, lengthIn, outAfter};
 use conversion::to_counts;
 use conversion::to_doubles;
+use entries::Readings;
+use entries::no_readings;
+use entries::with_entry;
+use entries::with_value;
 use fields::fields::MEANINGS;
 use fields::fields::Value;
 use lent::TOO_SHORT;
 use lent::put_length;
-use record::readings::Readings;
-use record::readings::no_readings;
-use record::readings::with_entry;
-use record::readings::with_value;
 use writer::write;
 
 // The status of a form that is unknown.

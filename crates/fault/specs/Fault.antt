@@ -3,13 +3,13 @@ use Prim.Native.Nat.{ℕ}
 use mathlib.Core.Bool.{Bool, false, not, cond}
 use lib.Dec.{eqb}
 use lib.Ieee.{le}
-use Rattle.elementary.specs.Decimals.{nought}
+use Rattle.arithmetic.specs.Decimals.{nought}
 use Rattle.doubles.specs.Doubles.{isFinite}
-use Rattle.record.specs.declared.readings.Entry.{Entry}
-use Rattle.record.specs.declared.readings.Entry.the-variants.{Absent, Present}
-use Rattle.record.specs.declared.readings.Readings.{Readings}
+use Rattle.entries.specs.declared.Entry.{Entry}
+use Rattle.entries.specs.declared.Entry.the-variants.{Absent, Present}
+use Rattle.entries.specs.declared.Readings.{Readings}
 use Rattle.fields.specs.Fields.{meanings, altitude, temperature, stationPressure, qnh, humidity, densityAltitude, measuredPressure}
-use Rattle.record.specs.Readings.{entryOf}
+use Rattle.entries.specs.Entries.{entryOf}
 
 abbrev pub notFinite : Entry → Bool
 notFinite Absent = false

@@ -1,8 +1,11 @@
 // The reading that a refusal of readings is about.
 ghost use mathlib.Core.Path.{_≡_};
-ghost use Rattle.record.specs.Readings.{entryOf};
+ghost use Rattle.entries.specs.Entries.{entryOf};
 ghost use Rattle.fault.specs.Fault.{notFinite, notPositive, firstNotFinite, firstNotPositive, readingOf};
 use doubles::doubles::is_finite;
+use entries::Entry;
+use entries::Readings;
+use entries::entry_of;
 use fields::fields::ALTITUDE;
 use fields::fields::DENSITY_ALTITUDE;
 use fields::fields::HUMIDITY;
@@ -11,9 +14,6 @@ use fields::fields::MEASURED_PRESSURE;
 use fields::fields::QNH;
 use fields::fields::STATION_PRESSURE;
 use fields::fields::TEMPERATURE;
-use record::readings::Entry;
-use record::readings::Readings;
-use record::readings::entry_of;
 
 fn is_not_finite(readings: Readings, meaning: usize) -> bool
     ensures { λ r. ⌜ r ≡ notFinite (entryOf readings meaning) ⌝ }

@@ -11,16 +11,16 @@ use lib.Pow.{pow-pos, pow-mono}
 use lib.Ieee.{Float, nan, inf, fin, binary64, up, down, minus, level, lt, eq, le, neg, ofBits, fits}
 use lib.Ieee.Fits.{down-pos}
 use lib.Ieee.Positive.{num, den, first-pos}
-use Rattle.rounding.specs.Whole.{signed, floorDiv}
-use Rattle.rounding.specs.Nearest.{unitsOf}
+use Rattle.arithmetic.specs.Whole.{signed, floorDiv}
+use Rattle.arithmetic.specs.Nearest.{unitsOf}
 use Rattle.antilog.specs.Antilog.{antilog}
 use Rattle.elementary.specs.Exp.{log2e, expTop, expBottom, floorScaled, expWithin, exp}
 use Rattle.elementary.specs.Ln.{ln2}
 use Rattle.antilog.specs.HowNear.{Fraction, _isAtMost_}
 use Rattle.functions_near.specs.FunctionsNear.{Normal, Within, raised, raisedBy, eBelow, eAbove, ExpNear}
 use Rattle.estimate.proofs.Powers.{pow-scaled}
-use Rattle.rounding.proofs.Order.{units-exact}
-use Rattle.rounding.proofs.Differences.{opposite, minus-above, minus-same, minus-times, floor-minus}
+use Rattle.arithmetic.proofs.Order.{units-exact}
+use Rattle.arithmetic.proofs.Differences.{opposite, minus-above, minus-same, minus-times, floor-minus}
 use Rattle.functions_near.proofs.RootsNear.{le-of-powers, words-raised, shift, Worded, antilog-within}
 use Rattle.functions_near.proofs.EulerNear.{log2e-word}
 

@@ -10,16 +10,16 @@ use lib.Pow.{pow-pos, pow-mono, pow-add}
 use lib.Ieee.{Float, nan, inf, fin, binary64, up, down, minus, fits}
 use lib.Ieee.Fits.{down-pos}
 use lib.Ieee.Positive.{num, den, first-pos, through}
-use Rattle.rounding.specs.Whole.{floorDiv}
-use Rattle.rounding.specs.Nearest.{unitsOf}
+use Rattle.arithmetic.specs.Whole.{floorDiv}
+use Rattle.arithmetic.specs.Nearest.{unitsOf}
 use Rattle.antilog.specs.Log.{logWord}
 use Rattle.elementary.specs.Exp.{log2e}
 use Rattle.elementary.specs.Ln.{ln2, ln}
 use Rattle.antilog.specs.HowNear.{Fraction, _isAtMost_, _isBelow_, _toThe_, twoToThe, value}
 use Rattle.functions_near.specs.FunctionsNear.{eBelow, eAbove, atLeast, atMost, LnNear}
 use Rattle.estimate.proofs.Powers.{pow-power, pow-scaled}
-use Rattle.rounding.proofs.Order.{units-exact}
-use Rattle.rounding.proofs.Differences.{minus-same, minus-plus, minus-times, floor-minus}
+use Rattle.arithmetic.proofs.Order.{units-exact}
+use Rattle.arithmetic.proofs.Differences.{minus-same, minus-plus, minus-times, floor-minus}
 use Rattle.antilog.proofs.Distance.{NearLog, near-log}
 use Rattle.antilog.proofs.HowNear.{two-at-most, below-two}
 use Rattle.functions_near.proofs.EulerNear.{ln2-word}

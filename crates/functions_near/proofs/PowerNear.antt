@@ -12,8 +12,8 @@ use lib.Ieee.{Float, nan, inf, fin, binary64, minus, fits}
 use lib.Ieee.Bits.{is-true}
 use lib.Ieee.Fits.{up-pos, down-pos}
 use lib.Ieee.Positive.{num, den, positive}
-use Rattle.rounding.specs.Whole.{signed, floorDiv}
-use Rattle.rounding.specs.Nearest.{unitsOf}
+use Rattle.arithmetic.specs.Whole.{signed, floorDiv}
+use Rattle.arithmetic.specs.Nearest.{unitsOf}
 use Rattle.antilog.specs.Log.{logWord}
 use Rattle.antilog.specs.Antilog.{antilog}
 use Rattle.elementary.specs.Exponents.{Exponent, exponents, exponentAt}
@@ -21,10 +21,10 @@ use Rattle.elementary.specs.Power.{power, powerAt}
 use Rattle.antilog.specs.HowNear.{value}
 use Rattle.functions_near.specs.FunctionsNear.{Normal, Within, raised, PowerNear}
 use Rattle.estimate.proofs.Powers.{pow-product, pow-power, pow-scaled, lt-of-exponents}
-use Rattle.rounding.proofs.Integers.{neg-times, neg-left}
-use Rattle.rounding.proofs.Order.{units-exact}
-use Rattle.rounding.proofs.Units.{units-below}
-use Rattle.rounding.proofs.Differences.{by-sign, opposite, minus-above, minus-same, minus-times, floor-minus}
+use Rattle.arithmetic.proofs.Integers.{neg-times, neg-left}
+use Rattle.arithmetic.proofs.Order.{units-exact}
+use Rattle.arithmetic.proofs.Units.{units-below}
+use Rattle.arithmetic.proofs.Differences.{by-sign, opposite, minus-above, minus-same, minus-times, floor-minus}
 use Rattle.antilog.proofs.Distance.{NearLog, near-log}
 use Rattle.elementary.proofs.Exponents.{at}
 use Rattle.functions_near.proofs.RootsNear.{words-raised, shift, Worded, antilog-within}

@@ -15,7 +15,7 @@ use lib.Ieee.Order.{drop, kept}
 use lib.Ieee.Scale.{finite, grid, round-val, round-under}
 use lib.Ieee.Positive.{num, den, den-pos, positive-finite, value→cross}
 use Rattle.functions_near.specs.FunctionsNear.{Normal}
-use Rattle.rounding.proofs.Closest.{nearest-is, closest-at-least}
+use Rattle.arithmetic.proofs.Closest.{nearest-is, closest-at-least}
 
 -- ---- the whole number closest to y / u is no further than half from it
 module _ (y u : ℕ) (some : 0 < u) where

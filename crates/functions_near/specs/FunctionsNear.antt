@@ -7,8 +7,8 @@ use lib.Dec.{T}
 use lib.Ieee.{Float, nan, inf, fin, binary64, fits}
 use lib.Ieee.Positive.{num, den, positive}
 use lib.Ieee.Scale.{finite}
-use Rattle.rounding.specs.Whole.{floorDiv}
-use Rattle.rounding.specs.Nearest.{nearestRatio}
+use Rattle.arithmetic.specs.Whole.{floorDiv}
+use Rattle.arithmetic.specs.Nearest.{nearestRatio}
 use Rattle.antilog.specs.Log.{logWord}
 use Rattle.elementary.specs.Exponents.{Exponent, exponentAt}
 use Rattle.elementary.specs.Power.{powerAt}

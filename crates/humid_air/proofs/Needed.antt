@@ -4,11 +4,12 @@ use mathlib.Core.Path.{_≡_, refl, ap}
 use mathlib.Core.Bool.{Bool, true, false, cond}
 use Prim.Native.Nat.{ℕ}
 use lib.Ieee.{Float, lt, eq, ofBits}
-use Rattle.elementary.specs.Decimals.{nought, hundred}
-use Rattle.elementary.specs.Operators.{_⊗_, _⊘_}
+use Rattle.arithmetic.specs.Decimals.{nought, hundred}
+use Rattle.arithmetic.specs.Operators.{_⊗_, _⊘_}
 use Rattle.doubles.specs.Doubles.{clampDouble}
 use Rattle.saturation.specs.Saturation.{saturationPressure}
-use Rattle.humid_air.specs.MoistAir.{moleFraction, neededPressure}
+use Rattle.moist_air.specs.MoistAir.{moleFraction}
+use Rattle.humid_air.specs.Humidity.{neededPressure}
 
 -- dry air has the same mole fraction at every saturation pressure
 by-test : (psv f p H : Float) (dry : Bool) → cond dry (H ⊗ f ⊘ p) (H ⊘ hundred ⊗ f ⊗ cond dry nought psv ⊗ hundred ⊘ p) ≡ cond dry (H ⊗ f ⊘ p) (H ⊘ hundred ⊗ f ⊗ psv ⊗ hundred ⊘ p)

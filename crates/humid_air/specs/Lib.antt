@@ -1,3 +1,3 @@
 -- What the contracts of `humid_air` cite, from the public documents in the order of rounding of src/atmosphere.rs.
-pub mod MoistAir
+pub mod Humidity
 pub mod Sound

@@ -3,11 +3,12 @@
 -- them, and n is the number of places of exp and power. Definitions only.
 use Prim.Native.Nat.{ℕ}
 use lib.Ieee.{Float}
-use Rattle.elementary.specs.Decimals.{decimal, one}
-use Rattle.elementary.specs.Operators.{_⊕_, _⊖_, _⊗_}
+use Rattle.arithmetic.specs.Decimals.{decimal, one}
+use Rattle.arithmetic.specs.Operators.{_⊕_, _⊖_, _⊗_}
 use Rattle.elementary.specs.Exponents.{Rd}
-use Rattle.rounding.specs.Sqrt.{sqrt}
-use Rattle.humid_air.specs.MoistAir.{capped, moleFractionKelvin}
+use Rattle.square_root.specs.Sqrt.{sqrt}
+use Rattle.moist_air.specs.MoistAir.{capped}
+use Rattle.humid_air.specs.Humidity.{moleFractionKelvin}
 
 -- γ = 1.4 (1 - 0.062 x_v)
 abbrev heatCapacityRatio : Float → Float

@@ -5,11 +5,11 @@ use mathlib.Core.List.{List, [], _∷_, _++_}
 use lib.Dec.{ltb}
 use lib.ListN.{length, drop}
 use lib.Ieee.{Float}
-use Rattle.density_altitude.specs.declared.inverse.Station.{Station}
+use Rattle.answered.specs.declared.inverse.Station.{Station}
 use Rattle.refusal.specs.declared.Refusal.{Refusal}
 use Rattle.refusal.specs.Refusals.{numberOf, valuesOf}
 use Rattle.refusal.specs.Outcomes.{Outcome, accepted, refused}
-use Rattle.station.specs.declared.figures.Figures.{Figures}
+use Rattle.answered.specs.declared.judge.Figures.{Figures}
 
 -- ---- an outcome as a status and the doubles that are handed out: 0 and the figures, or the number of a refusal and its values
 pub record Told : Type 0 where

@@ -5,18 +5,18 @@ ghost use Prim.Native.Nat.{_≤_};
 ghost use mathlib.Core.List.{[], _∷_};
 ghost use lib.ListN.{length};
 ghost use Rattle.refusal.specs.Refusals.{numberOf, valuesOf, listed};
-ghost use Rattle.density_altitude.specs.Inverse as Inverse;
-ghost use Rattle.mast.specs.Judge.{outcome};
+ghost use Rattle.answered.specs.Inverted as Inverted;
+ghost use Rattle.answered.specs.Judged.{outcome};
 ghost use Rattle.writer.specs.Written.{written};
 ghost use Rattle.lent.specs.Lent.{handedOut, told, pair, cause, statusIn, leftIn, statusOf, stationValues, figureValues, markIn, lengthOr};
-use density_altitude::inverse;
-use density_altitude::inverse::Station;
-use mast::judge::Answer;
+use answered::inverse;
+use answered::inverse::Station;
+use answered::judge::Answer;
+use answered::judge::Figures;
 use refusal::Refusal;
 use refusal::Values;
 use refusal::handed_out;
 use refusal::number;
-use station::figures::Figures;
 use writer::Written;
 
 // The status of figures.
@@ -116,8 +116,8 @@ pub fn put_refused(lent: &mut [f64], refusal: Refusal) -> u32
 
 // The status of what the inverse answers, with its station or its refusal's values.
 pub fn put_inverse(lent: &mut [f64], answer: inverse::Answer) -> u32
-    ensures { λ r. ⌜ r ≡ statusIn 3 (now (lent .entry)) (told stationValues (Inverse.outcome answer)) ⌝ }
-    ensures { λ _. ⌜ now (lent .exit) ≡ leftIn 3 (now (lent .entry)) (told stationValues (Inverse.outcome answer)) ⌝ }
+    ensures { λ r. ⌜ r ≡ statusIn 3 (now (lent .entry)) (told stationValues (Inverted.outcome answer)) ⌝ }
+    ensures { λ _. ⌜ now (lent .exit) ≡ leftIn 3 (now (lent .entry)) (told stationValues (Inverted.outcome answer)) ⌝ }
 {
     if lent.len() < 3 {
         return TOO_SHORT;

@@ -3,15 +3,15 @@ use mathlib.Core.Bool.{Bool, not, _&&_, _||_}
 use mathlib.Core.List.{List, [], _∷_, _++_}
 use Prim.Native.Nat.{ℕ}
 use lib.Ieee.{Float, lt, le}
-use Rattle.elementary.specs.Decimals.{nought, hundred}
+use Rattle.arithmetic.specs.Decimals.{nought, hundred}
 use Rattle.doubles.specs.Doubles.{isFinite}
 use Rattle.refusal.specs.Outcomes.{Row, row}
 use Rattle.density_altitude.specs.Inverse.{temperatureRows}
-use Rattle.record.specs.declared.readings.Entry.{Entry}
-use Rattle.record.specs.declared.readings.Entry.the-variants.{Absent, Present}
-use Rattle.record.specs.declared.readings.Readings.{Readings}
+use Rattle.entries.specs.declared.Entry.{Entry}
+use Rattle.entries.specs.declared.Entry.the-variants.{Absent, Present}
+use Rattle.entries.specs.declared.Readings.{Readings}
 use Rattle.fields.specs.Fields.{altitude, temperature, stationPressure, qnh, humidity, densityAltitude, measuredPressure}
-use Rattle.record.specs.Readings.{isPresent, entryOf}
+use Rattle.entries.specs.Entries.{isPresent, entryOf}
 
 abbrev pub has : Readings → ℕ → Bool
 has r m = isPresent (entryOf r m)

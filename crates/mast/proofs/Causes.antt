@@ -7,7 +7,7 @@ use Rattle.refusal.specs.Outcomes.{Outcome, accepted, _then_}
 use Rattle.refusal.specs.Causes.{ExactlyCaused}
 use Rattle.refusal.proofs.Rows.{then-append, then-next, exactly}
 use Rattle.record.specs.Readings.{readRows, readings}
-use Rattle.station.specs.declared.figures.Figures.{Figures}
+use Rattle.answered.specs.declared.judge.Figures.{Figures}
 use Rattle.station.specs.Figures.{figuresOf}
 use Rattle.mast.specs.Judge.{readingRows, resolved, judged, judgeBy, recordRows, Caused}
 

@@ -10,24 +10,26 @@ use lib.Dec.{eqb}
 use lib.Ieee.{Float, nan, inf, fin, binary64, up, down, unlike, round, neg, mul, div, lt, eq, ofBits}
 use lib.Ieee.Fits.{up-pos, down-pos}
 use borrow.Author.Tests.{ne-eqb}
-use Rattle.rounding.specs.Places.{places}
-use Rattle.elementary.specs.Decimals.{one}
-use Rattle.elementary.specs.Operators.{_⊗_, _⊘_}
-use Rattle.rounding.proofs.Rounding.{round-opposite}
-use Rattle.rounding.proofs.Scaled.{zero-bits}
-use Rattle.humid_air.specs.MoistAir.{moleFraction, moleFractionCelsius}
+use Rattle.arithmetic.specs.Places.{places}
+use Rattle.arithmetic.specs.Decimals.{one}
+use Rattle.arithmetic.specs.Operators.{_⊗_, _⊘_}
+use Rattle.arithmetic.proofs.Rounding.{round-opposite}
+use Rattle.arithmetic.proofs.Scaled.{zero-bits}
+use Rattle.moist_air.specs.MoistAir.{moleFraction}
+use Rattle.humid_air.specs.Humidity.{moleFractionCelsius}
 use Rattle.refusal.specs.Outcomes.{Outcome, accepted, refused, Row, row, _then_}
 use Rattle.refusal.proofs.Rows.{then-append, then-same}
 use Rattle.density_altitude.specs.Inverse.{stationRows}
-use Rattle.record.specs.declared.readings.Entry.{Entry}
-use Rattle.record.specs.declared.readings.Entry.the-variants.{Absent, Present}
-use Rattle.record.specs.declared.readings.Readings.{Readings}
+use Rattle.entries.specs.declared.Entry.{Entry}
+use Rattle.entries.specs.declared.Entry.the-variants.{Absent, Present}
+use Rattle.entries.specs.declared.Readings.{Readings}
 use Rattle.fields.specs.Fields.{temperature, humidity, densityAltitude}
-use Rattle.record.specs.Readings.{isPresent, entryOf}
-use Rattle.station.specs.declared.figures.Figures.{Figures}
+use Rattle.entries.specs.Entries.{isPresent, entryOf}
+use Rattle.answered.specs.declared.judge.Figures.{Figures}
 use Rattle.resolved.specs.declared.resolved.Resolved.{Resolved}
 use Rattle.limits.specs.Checks.{has, isClash, humidityRows, present}
-use Rattle.resolved.specs.Resolved.{givenTemperature, valueOrZero}
+use Rattle.resolved.specs.Resolved.{givenTemperature}
+use Rattle.entries.specs.Entries.{valueOrZero}
 use Rattle.station.specs.Figures.{shownTemperature, shownPressure, figuresOf}
 use Rattle.mast.specs.Judge.{airRows, wayRows, resolvedBy, judged}
 use Rattle.mast.specs.Laws.{Dry, without, NotWith06}

@@ -6,17 +6,17 @@ use Prim.Native.Nat.{ℕ, zero, suc, _<_}
 use native.Mathlib.Omega.{arith}
 use borrow.Author.Tests.{not-false}
 use lib.Ieee.{Float}
-use Rattle.rounding.specs.Places.{places}
+use Rattle.arithmetic.specs.Places.{places}
 use Rattle.doubles.specs.Doubles.{isFinite}
 use Rattle.refusal.specs.Outcomes.{accepted, Row, row, _then_}
 use Rattle.refusal.specs.Causes.{NoneHolds}
 use Rattle.refusal.proofs.Rows.{exactly, none-before, none-after}
 use Rattle.density_altitude.specs.Inverse.{temperatureRows, stationRows}
-use Rattle.record.specs.declared.readings.Entry.{Entry}
-use Rattle.record.specs.declared.readings.Entry.the-variants.{Absent, Present}
-use Rattle.record.specs.declared.readings.Readings.{Readings}
+use Rattle.entries.specs.declared.Entry.{Entry}
+use Rattle.entries.specs.declared.Entry.the-variants.{Absent, Present}
+use Rattle.entries.specs.declared.Readings.{Readings}
 use Rattle.fields.specs.Fields.{meanings, altitude, temperature, stationPressure, qnh, humidity, densityAltitude, measuredPressure}
-use Rattle.record.specs.Readings.{entryOf, isPresent}
+use Rattle.entries.specs.Entries.{entryOf, isPresent}
 use Rattle.resolved.specs.declared.resolved.Resolved.{Resolved}
 use Rattle.limits.specs.Checks.{has, isClash, finiteRows, pressureRows, humidityRows, present, valueRows}
 use Rattle.resolved.specs.Resolved.{ordinary, givenTemperature}

@@ -5,15 +5,16 @@ use mathlib.Core.List.{List, [], _∷_, _++_}
 use Prim.Native.Nat.{ℕ, _≤_}
 use native.Mathlib.Omega.{arith}
 use lib.Ieee.{Float}
-use Rattle.rounding.specs.Places.{places}
+use Rattle.arithmetic.specs.Places.{places}
 use Rattle.refusal.specs.Outcomes.{Outcome, accepted, refused, _⟫_, Row}
 use Rattle.refusal.proofs.Rows.{exactly}
 use Rattle.density_altitude.specs.Inverse.{temperatureRows, stationRows}
-use Rattle.record.specs.declared.readings.Entry.{Entry}
-use Rattle.record.specs.declared.readings.Entry.the-variants.{Absent, Present}
-use Rattle.record.specs.declared.readings.Readings.{Readings}
+use Rattle.entries.specs.declared.Entry.{Entry}
+use Rattle.entries.specs.declared.Entry.the-variants.{Absent, Present}
+use Rattle.entries.specs.declared.Readings.{Readings}
 use Rattle.fields.specs.Fields.{altitude, temperature, stationPressure, qnh, humidity, densityAltitude, measuredPressure}
-use Rattle.record.specs.Readings.{entryOf, readRecord}
+use Rattle.record.specs.Readings.{readRecord}
+use Rattle.entries.specs.Entries.{entryOf}
 use Rattle.record.proofs.FirstBytes.{first-bytes}
 use Rattle.record.proofs.Following.{nothing-after}
 use Rattle.record.proofs.Exchange.{exchange}

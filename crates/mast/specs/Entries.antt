@@ -4,12 +4,12 @@ use mathlib.Core.Bool.{true}
 use Prim.Native.Nat.{ℕ, _<_}
 use Rattle.doubles.specs.Doubles.{isFinite}
 use Rattle.refusal.specs.Outcomes.{accepted}
-use Rattle.record.specs.declared.readings.Entry.{Entry}
-use Rattle.record.specs.declared.readings.Entry.the-variants.{Absent, Present}
-use Rattle.record.specs.declared.readings.Readings.{Readings}
+use Rattle.entries.specs.declared.Entry.{Entry}
+use Rattle.entries.specs.declared.Entry.the-variants.{Absent, Present}
+use Rattle.entries.specs.declared.Readings.{Readings}
 use Rattle.fields.specs.Fields.{meanings}
-use Rattle.record.specs.Readings.{entryOf}
-use Rattle.station.specs.declared.figures.Figures.{Figures}
+use Rattle.entries.specs.Entries.{entryOf}
+use Rattle.answered.specs.declared.judge.Figures.{Figures}
 use Rattle.mast.specs.Judge.{judged}
 
 abbrev pub SameEntries : Readings → Readings → Type 0

@@ -4,10 +4,10 @@ use mathlib.Core.Path.{_≡_}
 use mathlib.Core.Logic.{_≢_}
 use Prim.Native.Nat.{ℕ}
 use Rattle.refusal.specs.Outcomes.{accepted}
-use Rattle.record.specs.declared.readings.Readings.{Readings}
+use Rattle.entries.specs.declared.Readings.{Readings}
 use Rattle.fields.specs.Fields.{humidity}
-use Rattle.record.specs.Readings.{entryOf}
-use Rattle.station.specs.declared.figures.Figures.{Figures}
+use Rattle.entries.specs.Entries.{entryOf}
+use Rattle.answered.specs.declared.judge.Figures.{Figures}
 use Rattle.mast.specs.Judge.{judged}
 
 abbrev pub DifferOnlyInHumidity : Readings → Readings → Type 0

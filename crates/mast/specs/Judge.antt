@@ -4,30 +4,24 @@ use Prim.Native.Nat.{ℕ}
 use mathlib.Core.Bool.{Bool, true, false, not}
 use mathlib.Core.List.{List, [], _∷_, _++_}
 use lib.Ieee.{Float, lt}
-use Rattle.rounding.specs.Places.{places}
-use Rattle.elementary.specs.Decimals.{one}
-use Rattle.humid_air.specs.MoistAir.{moleFractionCelsius}
-use Rattle.refusal.specs.Outcomes.{Outcome, accepted, refusal, _⟫_, Row, row, _then_}
+use Rattle.arithmetic.specs.Places.{places}
+use Rattle.arithmetic.specs.Decimals.{one}
+use Rattle.humid_air.specs.Humidity.{moleFractionCelsius}
+use Rattle.refusal.specs.Outcomes.{Outcome, accepted, _⟫_, Row, row, _then_}
 use Rattle.refusal.specs.Causes.{ExactlyCaused}
-use Rattle.density_altitude.specs.declared.inverse.Station.{Station}
+use Rattle.answered.specs.declared.inverse.Station.{Station}
 use Rattle.density_altitude.specs.Inverse.{resolve, stationRows}
-use Rattle.record.specs.declared.readings.Entry.{Entry}
-use Rattle.record.specs.declared.readings.Entry.the-variants.{Absent, Present}
-use Rattle.record.specs.declared.readings.Readings.{Readings}
+use Rattle.entries.specs.declared.Entry.{Entry}
+use Rattle.entries.specs.declared.Entry.the-variants.{Absent, Present}
+use Rattle.entries.specs.declared.Readings.{Readings}
 use Rattle.fields.specs.Fields.{temperature, humidity, densityAltitude}
-use Rattle.record.specs.Readings.{entryOf, readRows, readings, readRecord}
-use Rattle.station.specs.declared.figures.Figures.{Figures}
+use Rattle.record.specs.Readings.{readRows, readings, readRecord}
+use Rattle.entries.specs.Entries.{entryOf}
+use Rattle.answered.specs.declared.judge.Figures.{Figures}
 use Rattle.resolved.specs.declared.resolved.Resolved.{Resolved}
-use Rattle.mast.specs.declared.judge.Answer.{Answer}
-use Rattle.mast.specs.declared.judge.Answer.the-variants as answer
 use Rattle.limits.specs.Checks.{isClash, humidityRows, present, ordinaryRows}
 use Rattle.resolved.specs.Resolved.{ordinary, givenTemperature, atStation}
 use Rattle.station.specs.Figures.{shownTemperature, shownPressure, figuresOf, isAir}
-
--- what each case of the code's answer stands for
-abbrev pub outcome : Answer → Outcome Figures
-outcome (answer.Figures f) = accepted f
-outcome (answer.Refused c) = refusal c
 
 -- ---- a station's air
 -- 14: `water_vapor_mole_fraction_uncapped` of the shown temperature and pressure and the humidity above 1

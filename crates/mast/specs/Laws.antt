@@ -6,11 +6,11 @@ use mathlib.Core.List.{List, [], _∷_, _++_}
 use lib.Dec.{eqb}
 use lib.Ieee.{Float, lt}
 use lib.ListN.{length, take}
-use Rattle.rounding.specs.Places.{places}
-use Rattle.elementary.specs.Decimals.{decimal, one}
-use Rattle.humid_air.specs.MoistAir.{moleFractionCelsius}
+use Rattle.arithmetic.specs.Places.{places}
+use Rattle.arithmetic.specs.Decimals.{decimal, one}
+use Rattle.humid_air.specs.Humidity.{moleFractionCelsius}
 use Rattle.refusal.specs.Outcomes.{accepted, refused, Row, _then_}
-use Rattle.record.specs.declared.readings.Readings.{Readings}
+use Rattle.entries.specs.declared.Readings.{Readings}
 use Rattle.fields.specs.Fields.{sizeOf, densityAltitude, humidity}
 use Rattle.record.specs.Readings.{readRecord}
 use Rattle.limits.specs.Checks.{has}

@@ -2,20 +2,23 @@
 ghost use mathlib.Core.Path.{_≡_};
 ghost use Rattle.refusal.specs.Outcomes.{_⟫_};
 ghost use Rattle.record.specs.Readings.{readOutcome};
-ghost use Rattle.mast.specs.Judge.{outcome, airOutcome, ordinaryOutcome, humidOutcome, stationOutcome, judged, judge, judgeStrictly};
-use density_altitude::inverse;
-use density_altitude::inverse::Station;
+ghost use Rattle.mast.specs.Judge.{airOutcome, ordinaryOutcome, humidOutcome, stationOutcome, judged, judge, judgeStrictly};
+ghost use Rattle.answered.specs.Judged.{outcome};
+use answered::inverse;
+use answered::inverse::Station;
+use answered::judge::Answer;
+use answered::judge::Figures;
 use density_altitude::inverse::station_for_density_altitude;
+use entries::Entry;
+use entries::Readings;
+use entries::entry_of;
 use fields::fields::DENSITY_ALTITUDE;
 use fields::fields::HUMIDITY;
 use fields::fields::TEMPERATURE;
 use limits::checks::check_humidity;
 use limits::checks::check_ordinary;
 use limits::checks::is_clash;
-use record::readings::Entry;
 use record::readings::Read;
-use record::readings::Readings;
-use record::readings::entry_of;
 use record::readings::read_record;
 use record::readings::read_record_strictly;
 use refusal::Check;
@@ -24,14 +27,8 @@ use resolved::resolved::Resolved;
 use resolved::resolved::at_station;
 use resolved::resolved::given_temperature;
 use resolved::resolved::ordinary;
-use station::figures::Figures;
 use station::figures::figures_of;
 use station::figures::is_air;
-
-pub enum Answer {
-    Figures(Figures),
-    Refused(Refusal),
-}
 
 // The figures of a station and their mark, or the refusal 14 or 15: there is more vapour than air, or the
 // figures are not air's.

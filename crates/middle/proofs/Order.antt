@@ -1,8 +1,8 @@
 -- The order of the doubles that are not NaN is total: each has its place among the whole numbers, one comes before another exactly where its place is lower, and
 -- two with one place are the same. Assumes nothing.
 use mathlib.Core.Path.{_≡_, refl, sym, ap, ap₂, subst, subst₂, _∙_}
-use mathlib.Core.Bool.{Bool, true, false, not, _&&_, _||_, cond, true≢false, and-false, or-false}
-use Prim.Native.Nat.{ℕ, zero, suc, _+_, _-_, _*_, _/_, _^_, _≤_, _<_}
+use mathlib.Core.Bool.{Bool, true, false, not, _&&_, _||_, true≢false, and-false, or-false}
+use Prim.Native.Nat.{ℕ, zero, suc, _+_, _-_, _*_, _^_, _≤_, _<_}
 use native.Mathlib.Nat.{zero-mul, zero-div, mul-assoc, mul-comm, mul-right-comm, add-mul, mul-pos, mul-lt-mul-of-pos-right, lt-of-mul-lt-mul-right, lt-of-not-le, le-of-lt, le-of-eq, lt-irrefl}
 use native.Mathlib.Omega.{arith}
 use borrow.Author.Tests.{ltb-true, ltb-false, lt-ltb, le-ltb, eq-eqb, ne-eqb}
@@ -11,9 +11,9 @@ use lib.Dec.{T, ltb, eqb}
 use lib.Pow.{pow-pos}
 use lib.Ieee.{Float, nan, inf, fin, binary64, up, down, below, lt, fits, isNan}
 use lib.Ieee.Fits.{down-pos}
-use Rattle.rounding.specs.Nearest.{unitsOf}
-use Rattle.rounding.proofs.Order.{units-exact, same-double}
-use Rattle.rounding.proofs.Units.{units-below, units-pos}
+use Rattle.arithmetic.specs.Nearest.{unitsOf}
+use Rattle.arithmetic.proofs.Order.{units-exact, same-double}
+use Rattle.arithmetic.proofs.Units.{units-below, units-pos}
 use Rattle.middle.specs.Middle.{isMinusZero, isPlusZero, precedes, IsNumber}
 
 -- ---- tests on numbers

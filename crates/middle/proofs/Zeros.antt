@@ -9,8 +9,8 @@ use lib.IntN.{ℤ}
 use lib.Dec.{eqb}
 use lib.Ieee.{Float, nan, inf, fin, up, down, div, lt, eq, ofBits}
 use lib.Ieee.Fits.{up-pos}
-use Rattle.elementary.specs.Decimals.{nought, one}
-use Rattle.elementary.specs.Operators.{_⊘_}
+use Rattle.arithmetic.specs.Decimals.{nought, one}
+use Rattle.arithmetic.specs.Operators.{_⊘_}
 use Rattle.middle.specs.Middle.{isMinusZero, isPlusZero}
 
 equals-zero : (s : Bool) (e : ℤ) → eq (fin s 0 e) nought ≡ true

@@ -6,7 +6,7 @@ use mathlib.Core.Bool.{Bool, false, not, _&&_, _||_, cond}
 use Prim.Native.Nat.{ℕ, zero, suc, _+_, _≤_}
 use lib.Dec.{T}
 use lib.Ieee.{Float, nan, inf, fin, binary64, lt, isNan, fits}
-use Rattle.elementary.specs.Decimals.{decimal}
+use Rattle.arithmetic.specs.Decimals.{decimal}
 
 -- ---- the order
 unfoldable pub isMinusZero : Float → Bool

@@ -5,7 +5,7 @@ use mathlib.Core.List.{List, [], _∷_}
 use Prim.Native.Nat.{ℕ, _<_}
 use native.Mathlib.Omega.{arith}
 use lib.ListN.{length, getD, drop}
-use Rattle.record.specs.declared.readings.Readings.{Readings}
+use Rattle.entries.specs.declared.Readings.{Readings}
 use Rattle.pieces.specs.Ascii.{ascii}
 use Rattle.typed_word.specs.declared.Problem.{Problem}
 use Rattle.typed_readings.specs.declared.WordCheck.{WordCheck}

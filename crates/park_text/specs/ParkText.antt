@@ -6,12 +6,12 @@ use mathlib.Core.List.{List, [], _∷_, _++_}
 use lib.Ieee.{Float}
 use lib.ListN.{getD, take}
 use Rattle.refusal.specs.Outcomes.{Outcome, accepted, refused}
-use Rattle.record.specs.declared.readings.Entry.{Entry}
-use Rattle.record.specs.declared.readings.Entry.the-variants.{Absent, Present}
-use Rattle.record.specs.declared.readings.Readings.{Readings}
+use Rattle.entries.specs.declared.Entry.{Entry}
+use Rattle.entries.specs.declared.Entry.the-variants.{Absent, Present}
+use Rattle.entries.specs.declared.Readings.{Readings}
 use Rattle.fields.specs.Fields.{altitude, temperature, stationPressure, qnh, humidity, densityAltitude, measuredPressure}
-use Rattle.record.specs.Readings.{entryOf}
-use Rattle.resolved.specs.Resolved.{valueOrZero}
+use Rattle.entries.specs.Entries.{entryOf}
+use Rattle.entries.specs.Entries.{valueOrZero}
 use Rattle.limits.specs.Checks.{has}
 use Rattle.pieces.specs.Characters.{same}
 use Rattle.pieces.specs.Ascii.{ascii}

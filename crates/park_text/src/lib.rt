@@ -3,11 +3,15 @@ ghost use mathlib.Core.Path.{_≡_};
 ghost use Prim.Native.Nat.{_≤_};
 ghost use lib.ListN.{length, take};
 ghost use Rattle.refusal.specs.Refusals.{numberOf};
-ghost use Rattle.resolved.specs.Resolved.{valueOrZero};
 ghost use Rattle.sheet_refusal.specs.SheetRefusal.{refusedText};
 ghost use Rattle.report.specs.Report.{Holds};
 ghost use Rattle.typed_readings.specs.Words.{words};
-ghost use Rattle.park_text.specs.ParkText.{problemLine, usageText, sheetPage, sheetNeeds, sheetOnly, hasOther, sheetFor, sheetOf, sheetWords, readingsWords, parkText};
+ghost use Rattle.park_text.specs.ParkText.{problemLine, usageText, sheetPage, sheetNeeds, hasOther, sheetFor, sheetOf, sheetWords, readingsWords, parkText};
+use entries::Entry;
+use entries::Readings;
+use entries::entry_of;
+use entries::is_present;
+use entries::value_or_zero;
 use fields::fields::ALTITUDE;
 use fields::fields::DENSITY_ALTITUDE;
 use fields::fields::HUMIDITY;
@@ -18,10 +22,6 @@ use fields::fields::TEMPERATURE;
 use park_lines::put_heading;
 use park_lines::put_message;
 use pieces::put;
-use record::readings::Entry;
-use record::readings::Readings;
-use record::readings::entry_of;
-use record::readings::is_present;
 use refusal::Refusal;
 use report::ReportText;
 use report::report_text;
@@ -94,15 +94,6 @@ fn sheet_page(altitude_m: f64, pressure_hpa: f64, humidity_percent: f64) -> Repo
             ReportText { bytes: page, len }
         }
         Sheet::Refused(refusal) => refusal_text(refusal),
-    }
-}
-
-fn value_or_zero(entry: Entry) -> f64
-    ensures { λ r. ⌜ r ≡ valueOrZero entry ⌝ }
-{
-    match entry {
-        Entry::Present(x) => x,
-        Entry::Absent => 0.0,
     }
 }
 

@@ -15,13 +15,14 @@ use Rattle.thousandths.specs.Thousandths.{countOf}
 use Rattle.thousandths.proofs.Laws.{thousandths-fits}
 use Rattle.fields.specs.declared.fields.Value.{Value}
 use Rattle.fields.specs.declared.fields.Value.the-variants.{Double, Count}
-use Rattle.record.specs.declared.readings.Entry.the-variants.{Absent, Present}
-use Rattle.record.specs.declared.readings.Stored.the-variants as stored
-use Rattle.record.specs.declared.readings.Slot.{Slot}
-use Rattle.record.specs.declared.readings.Readings.{Readings}
+use Rattle.entries.specs.declared.Entry.the-variants.{Absent, Present}
+use Rattle.entries.specs.declared.Stored.the-variants as stored
+use Rattle.entries.specs.declared.Slot.{Slot}
+use Rattle.entries.specs.declared.Readings.{Readings}
 use Rattle.fields.specs.Bytes.{wordAt, doubleAt}
 use Rattle.fields.specs.Fields.{meanings, doubleOf, isCountTag, tagOf, valueOf, field, sizeOf}
-use Rattle.record.specs.Readings.{slotOf, noReadings, entryFor, entryOf, withValue, withEntry, noted, readingsFrom, readRows, readings}
+use Rattle.record.specs.Readings.{noted, readingsFrom, readRows, readings}
+use Rattle.entries.specs.Entries.{slotOf, noReadings, entryFor, entryOf, withValue, withEntry}
 use Rattle.record.specs.Doubles.{HoldsDoubles, ReadsDoubles}
 
 -- ---- a slot for each meaning

@@ -9,11 +9,11 @@ use lib.Dec.{ltb}
 use lib.ListN.{length, getD, set}
 use Rattle.refusal.specs.Causes.{NoneHolds}
 use Rattle.fields.specs.declared.fields.Value.{Value}
-use Rattle.record.specs.declared.readings.Stored.the-variants.{Absent, Present}
-use Rattle.record.specs.declared.readings.Slot.{Slot}
-use Rattle.record.specs.declared.readings.Readings.{Readings}
+use Rattle.entries.specs.declared.Stored.the-variants.{Absent, Present}
+use Rattle.entries.specs.declared.Slot.{Slot}
+use Rattle.entries.specs.declared.Readings.{Readings}
 use Rattle.fields.specs.Fields.{field, headRows, sizeOf}
-use Rattle.record.specs.Readings.{slotOf, entryFor, entryOf, isPresent}
+use Rattle.entries.specs.Entries.{slotOf, entryFor, entryOf, isPresent}
 use Rattle.record.proofs.Walk.{fieldRows}
 
 module _ (strict : Bool) (r : Readings) (last : ℕ) (s : List ℕ) (none : NoneHolds (fieldRows strict r last s)) where

@@ -7,8 +7,8 @@ use native.Mathlib.Omega.{arith}
 use lib.ListN.{length, drop-of-length-le}
 use Rattle.refusal.specs.Outcomes.{Outcome, accepted, Row, _then_}
 use Rattle.refusal.proofs.Rows.{then-none, then-accepted}
-use Rattle.record.specs.declared.readings.Slot.{Slot}
-use Rattle.record.specs.declared.readings.Readings.{Readings}
+use Rattle.entries.specs.declared.Slot.{Slot}
+use Rattle.entries.specs.declared.Readings.{Readings}
 use Rattle.fields.specs.Fields.{tagOf, field, sizeOf}
 use Rattle.record.specs.Readings.{noted, readRecord}
 use Rattle.record.proofs.Walk.{fieldRows, read, any-last}

@@ -2,7 +2,7 @@
 use mathlib.Core.Path.{_≡_, refl, sym, ap, _∙_}
 use mathlib.Core.Bool.{Bool, true, false, cond}
 use mathlib.Core.List.{List, [], _∷_, _++_}
-use Prim.Native.Nat.{ℕ, zero, suc, _+_, _-_, _*_, _≤_, _<_}
+use Prim.Native.Nat.{ℕ, zero, suc, _+_, _*_, _≤_, _<_}
 use native.Mathlib.Omega.{arith}
 use borrow.Author.Tests.{leb-true, leb-false, not-false}
 use lib.Dec.{leb, lit≤}
@@ -11,11 +11,12 @@ use lib.Seq.{length-take-le, take-all}
 use Rattle.refusal.specs.Causes.{NoneHolds}
 use Rattle.refusal.proofs.Rows.{then-same}
 use Rattle.fields.specs.declared.fields.Value.{Value}
-use Rattle.record.specs.declared.readings.Stored.the-variants.{Absent, Present}
-use Rattle.record.specs.declared.readings.Slot.{Slot}
-use Rattle.record.specs.declared.readings.Readings.{Readings}
+use Rattle.entries.specs.declared.Stored.the-variants.{Absent, Present}
+use Rattle.entries.specs.declared.Slot.{Slot}
+use Rattle.entries.specs.declared.Readings.{Readings}
 use Rattle.fields.specs.Fields.{meanings, tagOf, sizeOf, field, headRows}
-use Rattle.record.specs.Readings.{slotOf, noReadings, entryFor, isPresent, noted, readRecord}
+use Rattle.record.specs.Readings.{noted, readRecord}
+use Rattle.entries.specs.Entries.{slotOf, noReadings, entryFor, isPresent}
 use Rattle.fields.proofs.Forms.{at-most, tagged}
 use Rattle.record.proofs.Walk.{fieldRows, read, read-step}
 use Rattle.record.proofs.Entries.{is-new}

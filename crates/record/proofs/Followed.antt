@@ -12,7 +12,7 @@ use lib.Seq.{drop-append-le}
 use Rattle.refusal.specs.Outcomes.{Outcome, Row, row, _then_}
 use Rattle.fields.specs.declared.fields.Field.{Field}
 use Rattle.fields.specs.declared.fields.Value.the-variants.{Double, Count}
-use Rattle.record.specs.declared.readings.Readings.{Readings}
+use Rattle.entries.specs.declared.Readings.{Readings}
 use Rattle.fields.specs.Bytes.{wordAt, doubleAt}
 use Rattle.fields.specs.Fields.{isCountTag, isTag, meaningOf, dataSize, tagOf, lengthOf, sizeOf, valueOf, field, headRows}
 use Rattle.record.specs.Readings.{orderRows, noted}

@@ -11,9 +11,10 @@ use lib.Ieee.{Float}
 use lib.ListN.{length, drop, length-append, length-drop}
 use Rattle.refusal.specs.Outcomes.{Outcome, accepted, refused, Row, row, _then_}
 use Rattle.refusal.proofs.Rows.{then-append, then-none, then-to, then-accepted}
-use Rattle.record.specs.declared.readings.Readings.{Readings}
+use Rattle.entries.specs.declared.Readings.{Readings}
 use Rattle.fields.specs.Fields.{tagOf, field, headRows, sizeOf}
-use Rattle.record.specs.Readings.{orderRows, noReadings, noted, readRecord}
+use Rattle.record.specs.Readings.{orderRows, noted, readRecord}
+use Rattle.entries.specs.Entries.{noReadings}
 use Rattle.record.proofs.Walk.{fieldRows, no-bytes, read, read-step, any-last}
 use Rattle.record.proofs.Entries.{is-whole}
 use Rattle.record.proofs.Followed.{headerRows, same-header, read-whole}

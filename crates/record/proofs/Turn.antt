@@ -11,7 +11,7 @@ use lib.Seq.{drop-drop}
 use Rattle.refusal.specs.Outcomes.{Outcome, accepted, refused, _⟫_, _then_}
 use Rattle.refusal.specs.Causes.{NoneHolds}
 use Rattle.refusal.proofs.Rows.{then-append, then-next, then-none, then-to, exactly}
-use Rattle.record.specs.declared.readings.Readings.{Readings}
+use Rattle.entries.specs.declared.Readings.{Readings}
 use Rattle.fields.specs.Fields.{tagOf, field, headRows, sizeOf, fieldOf, nextAt}
 use Rattle.record.specs.Readings.{orderRows, noted, withField}
 use Rattle.record.proofs.Walk.{fieldRows, read, read-step}

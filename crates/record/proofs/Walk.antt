@@ -8,10 +8,11 @@ use native.Mathlib.Omega.{arith}
 use lib.ListN.{length, drop, length-drop, length-set}
 use Rattle.refusal.specs.Outcomes.{Outcome, accepted, Row, _then_}
 use Rattle.refusal.proofs.Rows.{then-append}
-use Rattle.record.specs.declared.readings.Readings.{Readings}
-use Rattle.record.specs.declared.readings.Stored.the-variants.{Present}
+use Rattle.entries.specs.declared.Readings.{Readings}
+use Rattle.entries.specs.declared.Stored.the-variants.{Present}
 use Rattle.fields.specs.Fields.{meanings, tagOf, field, headRows, sizeOf}
-use Rattle.record.specs.Readings.{slotOf, noReadings, orderRows, noted, rowsFrom, readingsFrom, readings}
+use Rattle.record.specs.Readings.{orderRows, noted, rowsFrom, readingsFrom, readings}
+use Rattle.entries.specs.Entries.{slotOf, noReadings}
 
 module _ (strict : Bool) where
   -- the outcome of at most n fields, after those that gave r

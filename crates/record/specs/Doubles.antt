@@ -6,9 +6,10 @@ use mathlib.Core.List.{List}
 use Prim.Native.Nat.{ℕ}
 use lib.Ieee.{Float, binary64, fits}
 use Rattle.refusal.specs.Outcomes.{accepted}
-use Rattle.record.specs.declared.readings.Entry.the-variants.{Present}
-use Rattle.record.specs.declared.readings.Readings.{Readings}
-use Rattle.record.specs.Readings.{entryOf, readRecord}
+use Rattle.entries.specs.declared.Entry.the-variants.{Present}
+use Rattle.entries.specs.declared.Readings.{Readings}
+use Rattle.record.specs.Readings.{readRecord}
+use Rattle.entries.specs.Entries.{entryOf}
 
 abbrev pub HoldsDoubles : Readings → Type 0
 HoldsDoubles r = (m : ℕ) (x : Float) → entryOf r m ≡ Present x → T (fits binary64 x)

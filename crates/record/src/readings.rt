@@ -3,112 +3,23 @@ ghost use mathlib.Core.Path.{_≡_};
 ghost use mathlib.Core.Bool.{true, false};
 ghost use Rattle.refusal.specs.Outcomes.{_⟫_};
 ghost use Rattle.fields.specs.Fields.{found};
-ghost use Rattle.record.specs.Readings.{noReadings, isPresent, entryFor, storedOf, entryOf, withValue, withEntry, withField, readOutcome, readRecord};
+ghost use Rattle.record.specs.Readings.{withField, readOutcome, readRecord};
+use entries::Readings;
+use entries::entry_of;
+use entries::is_present;
+use entries::no_readings;
+use entries::with_value;
 use fields::fields::Field;
 use fields::fields::Found;
-use fields::fields::MEANINGS;
-use fields::fields::Value;
-use fields::fields::double_of_value;
 use fields::fields::next_at;
 use reader::reader::field_from;
 use refusal::Check;
 use refusal::Refusal;
 
-// A reading, whatever the form of its field.
-pub enum Entry {
-    Absent,
-    Present(f64),
-}
-
-// A reading in the form of its field.
-pub enum Stored {
-    Absent,
-    Present(Value),
-}
-
-pub struct Slot {
-    pub stored: Stored,
-}
-
-// What is stored for each meaning. A struct holds no array of enums, so each has a slot.
-pub struct Readings {
-    pub slots: [Slot; MEANINGS],
-}
-
 // Readings, where the check is passed.
 pub struct Read {
     pub check: Check,
     pub readings: Readings,
-}
-
-// No entry for any meaning.
-pub fn no_readings() -> Readings
-    ensures { λ r. ⌜ r ≡ noReadings ⌝ }
-{
-    Readings {
-        slots: [Slot {
-            stored: Stored::Absent,
-        }; MEANINGS],
-    }
-}
-
-// Whether there is a value.
-pub fn is_present(entry: Entry) -> bool
-    ensures { λ r. ⌜ r ≡ isPresent entry ⌝ }
-{
-    match entry {
-        Entry::Absent => false,
-        Entry::Present(_) => true,
-    }
-}
-
-// What is stored for a meaning, and nothing where there is no such meaning.
-pub fn stored_of(readings: Readings, meaning: usize) -> Stored
-    ensures { λ r. ⌜ r ≡ storedOf readings meaning ⌝ }
-{
-    if MEANINGS <= meaning {
-        return Stored::Absent;
-    }
-    let slots = readings.slots;
-    let slot = slots[meaning];
-    slot.stored
-}
-
-fn entry_for(stored: Stored) -> Entry
-    ensures { λ r. ⌜ r ≡ entryFor stored ⌝ }
-{
-    match stored {
-        Stored::Absent => Entry::Absent,
-        Stored::Present(value) => Entry::Present(double_of_value(value)),
-    }
-}
-
-// The entry of a meaning, and none where there is no such meaning.
-pub fn entry_of(readings: Readings, meaning: usize) -> Entry
-    ensures { λ r. ⌜ r ≡ entryOf readings meaning ⌝ }
-{
-    entry_for(stored_of(readings, meaning))
-}
-
-// The readings with a value in its form for a meaning, and the same where there is no such meaning.
-pub fn with_value(readings: Readings, meaning: usize, value: Value) -> Readings
-    ensures { λ r. ⌜ r ≡ withValue readings meaning value ⌝ }
-{
-    if MEANINGS <= meaning {
-        return readings;
-    }
-    let mut slots = readings.slots;
-    slots[meaning] = Slot {
-        stored: Stored::Present(value),
-    };
-    Readings { slots }
-}
-
-// The readings with a double for a meaning, and the same where there is no such meaning.
-pub fn with_entry(readings: Readings, meaning: usize, value: f64) -> Readings
-    ensures { λ r. ⌜ r ≡ withEntry readings meaning value ⌝ }
-{
-    with_value(readings, meaning, Value::Double(value))
 }
 
 // The readings with one field more, or that its meaning has an entry already, or, to the strict reader,

@@ -1,7 +1,7 @@
 -- A record and what it converts to are judged alike: the reader gives them the same entries. Assumes nothing.
-use mathlib.Core.Path.{_≡_, sym, ap, _∙_}
+use mathlib.Core.Path.{sym, ap, _∙_}
 use Rattle.refusal.specs.Outcomes.{Outcome, _⟫_}
-use Rattle.record.specs.declared.readings.Readings.{Readings}
+use Rattle.entries.specs.declared.Readings.{Readings}
 use Rattle.conversion.proofs.ReadAlike.{same-entries}
 use Rattle.mast.specs.Judge.{judged, judge}
 use Rattle.record_laws.specs.Converted.{JudgedAlike}

@@ -5,20 +5,19 @@ use Prim.Native.Nat.{ℕ, _≤_}
 use native.Mathlib.Omega.{arith}
 use borrow.Author.Tests.{ltb-true, ltb-false}
 use lib.Dec.{ltb}
-use lib.Ieee.{Float, isNan}
+use lib.Ieee.{isNan}
 use lib.ListN.{length, List·getD-eq-default}
 use Rattle.doubles.proofs.NotANumber.{is-number}
 use Rattle.refusal.specs.Outcomes.{accepted}
 use Rattle.fields.specs.declared.fields.Value.{Value}
 use Rattle.fields.specs.declared.fields.Value.the-variants.{Double, Count}
-use Rattle.record.specs.declared.readings.Slot.{Slot}
-use Rattle.record.specs.declared.readings.Stored.{Stored}
-use Rattle.record.specs.declared.readings.Stored.the-variants.{Absent, Present}
-use Rattle.record.specs.declared.readings.Readings.{Readings}
+use Rattle.entries.specs.declared.Slot.{Slot}
+use Rattle.entries.specs.declared.Stored.the-variants.{Absent, Present}
+use Rattle.entries.specs.declared.Readings.{Readings}
 use Rattle.fields.specs.Fields.{meanings}
-use Rattle.record.specs.Readings.{slotOf, entryFor, storedOf}
-use Rattle.writer.specs.Laws.{NotNan, NoNan}
-use Rattle.station.specs.declared.figures.Figures.{Figures}
+use Rattle.entries.specs.Entries.{slotOf, entryFor, storedOf}
+use Rattle.writer.specs.Laws.{NoNan}
+use Rattle.answered.specs.declared.judge.Figures.{Figures}
 use Rattle.mast.specs.Judge.{judged}
 use Rattle.mast.specs.Entries.{FiniteEntry}
 use Rattle.mast.proofs.Entries.{accepted-is-finite}

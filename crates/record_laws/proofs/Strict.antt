@@ -7,13 +7,13 @@ use Prim.Native.Nat.{ℕ}
 use native.Mathlib.Omega.{arith}
 use Rattle.refusal.specs.Outcomes.{Outcome, accepted, refused, _⟫_}
 use Rattle.refusal.proofs.Rows.{exactly}
-use Rattle.record.specs.declared.readings.Readings.{Readings}
+use Rattle.entries.specs.declared.Readings.{Readings}
 use Rattle.record.specs.Readings.{readRows, readings, readRecord}
 use Rattle.fields.specs.Tags.{tags, Rising}
 use Rattle.record.proofs.Walk.{all-slots}
 use Rattle.record.proofs.Strict as reader
 use Rattle.writer.proofs.WrittenAgain as writer
-use Rattle.station.specs.declared.figures.Figures.{Figures}
+use Rattle.answered.specs.declared.judge.Figures.{Figures}
 use Rattle.mast.specs.Judge.{judged, judge, judgeStrictly}
 use Rattle.record_laws.specs.Strict.{SameWhereRising, SameOrFalling, AcceptedWhereRising, WrittenAgain, Strict}
 use Rattle.record_laws.proofs.Numbers.{no-nan}

@@ -8,7 +8,7 @@ use Rattle.record.specs.Readings.{readings}
 use Rattle.fields.specs.Tags.{tags, Rising}
 use Rattle.writer.specs.Records.{recordOf}
 use Rattle.writer.specs.Laws.{AreBytes}
-use Rattle.station.specs.declared.figures.Figures.{Figures}
+use Rattle.answered.specs.declared.judge.Figures.{Figures}
 use Rattle.mast.specs.Judge.{judge, judgeStrictly}
 
 -- a record whose tags rise has the same outcome, refusals and their values included

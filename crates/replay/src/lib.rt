@@ -1,5 +1,2 @@
-// A list of answers: what its lines have, and whether a line's answer is ours. `vectors/README.md` says
-// where the lists come from.
+// A list of answers: whether a line's answer is ours.
 pub mod list;
-mod rules;
-mod words;

@@ -10,7 +10,7 @@ use lib.ListN.{length, take, drop}
 use lib.Seq.{take-at}
 use Rattle.refusal.specs.declared.Refusal.{Refusal}
 use Rattle.refusal.specs.Outcomes.{accepted, refusal}
-use Rattle.record.specs.declared.readings.Readings.{Readings}
+use Rattle.entries.specs.declared.Readings.{Readings}
 use Rattle.writer.specs.Records.{recordOf}
 use Rattle.writer.specs.Written.{lengthWritten, overwritten}
 use Rattle.report.proofs.Short.{record-short}

@@ -10,9 +10,9 @@ use lib.Ieee.{Float}
 use lib.ListN.{length, replicate, length-append, length-replicate}
 use Rattle.decimals.specs.Decimal.{decimalText}
 use Rattle.refusal.specs.Outcomes.{Outcome, accepted, refused}
-use Rattle.record.specs.declared.readings.Readings.{Readings}
+use Rattle.entries.specs.declared.Readings.{Readings}
 use Rattle.fields.specs.Fields.{meanings}
-use Rattle.station.specs.declared.figures.Figures.{Figures}
+use Rattle.answered.specs.declared.judge.Figures.{Figures}
 use Rattle.writer.specs.Records.{fieldsFrom, recordOf}
 use Rattle.writer.proofs.Fields.{few}
 use Rattle.mast.specs.Judge.{judged}

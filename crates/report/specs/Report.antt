@@ -5,8 +5,8 @@ use mathlib.Core.Path.{_≡_}
 use mathlib.Core.List.{List, _++_}
 use lib.ListN.{length, take}
 use Rattle.refusal.specs.Outcomes.{Outcome, accepted, refused}
-use Rattle.record.specs.declared.readings.Readings.{Readings}
-use Rattle.station.specs.declared.figures.Figures.{Figures}
+use Rattle.entries.specs.declared.Readings.{Readings}
+use Rattle.answered.specs.declared.judge.Figures.{Figures}
 use Rattle.writer.specs.Records.{recordOf}
 use Rattle.mast.specs.Judge.{judged}
 use Rattle.trim_class.specs.Classes.{trimClass}

@@ -2,8 +2,8 @@
 use mathlib.Core.Path.{_≡_}
 use lib.Ieee.{nan}
 use Rattle.fields.specs.Fields.{altitude, qnh}
-use Rattle.record.specs.Readings.{noReadings, withEntry}
-use Rattle.elementary.specs.Decimals.{nought}
+use Rattle.entries.specs.Entries.{noReadings, withEntry}
+use Rattle.arithmetic.specs.Decimals.{nought}
 use Rattle.pieces.specs.Ascii.{ascii}
 use Rattle.report.specs.Report.{reportText}
 

@@ -4,7 +4,7 @@ use mathlib.Core.Bool.{Bool, false}
 use mathlib.Core.List.{List}
 use lib.ListN.{getD}
 use Rattle.refusal.specs.Outcomes.{Outcome, accepted, refused}
-use Rattle.record.specs.declared.readings.Readings.{Readings}
+use Rattle.entries.specs.declared.Readings.{Readings}
 use Rattle.record.specs.Readings.{readRecord}
 use Rattle.lines.specs.Parts.{splitAgrees}
 use Rattle.lines.specs.Text.{isText}

@@ -1,18 +1,17 @@
 -- What the readings of a record resolve to: altitude, temperature, pressure and humidity. Temperatures in °C, pressures in hPa, altitudes in m, humidities
 -- in percent. Definitions only.
 use lib.Ieee.{Float}
-use Rattle.rounding.specs.Places.{places}
-use Rattle.elementary.specs.Decimals.{nought}
+use Rattle.arithmetic.specs.Places.{places}
 use Rattle.atmosphere.specs.declared.station.Reading.{Reading}
 use Rattle.atmosphere.specs.declared.station.Reading.the-variants.{Given, FromLayer}
 use Rattle.atmosphere.specs.Station.{stationTemperature, reducedQnh}
 use Rattle.atmosphere.specs.Station as station
-use Rattle.density_altitude.specs.declared.inverse.Station.{Station}
-use Rattle.record.specs.declared.readings.Entry.{Entry}
-use Rattle.record.specs.declared.readings.Entry.the-variants.{Absent, Present}
-use Rattle.record.specs.declared.readings.Readings.{Readings}
+use Rattle.answered.specs.declared.inverse.Station.{Station}
+use Rattle.entries.specs.declared.Entry.{Entry}
+use Rattle.entries.specs.declared.Entry.the-variants.{Absent, Present}
+use Rattle.entries.specs.declared.Readings.{Readings}
 use Rattle.fields.specs.Fields.{altitude, temperature, stationPressure, qnh, humidity, measuredPressure}
-use Rattle.record.specs.Readings.{entryOf}
+use Rattle.entries.specs.Entries.{entryOf, valueOrZero}
 use Rattle.resolved.specs.declared.resolved.Resolved.{Resolved}
 use Rattle.resolved.specs.declared.resolved.Pressure.{Pressure}
 use Rattle.resolved.specs.declared.resolved.Pressure.the-variants as pressure
@@ -44,10 +43,6 @@ resolvedPressure (pressure.Measured p) h = Given p
 resolvedPressure pressure.Absent h = FromLayer
 
 -- absent humidity is 0; an absent altitude is refused
-abbrev pub valueOrZero : Entry → Float
-valueOrZero (Present x) = x
-valueOrZero Absent = nought
-
 unfoldable pub ordinary : Readings → Resolved
 ordinary r =
     let h = valueOrZero (entryOf r altitude) in

@@ -1,21 +1,22 @@
 // What the readings of a record resolve to: an altitude, a temperature and a pressure that are given or
 // taken from the layer, and a humidity.
 ghost use mathlib.Core.Path.{_≡_};
-ghost use Rattle.resolved.specs.Resolved.{unmeasuredPressure, pressureOf, resolvedTemperature, resolvedPressure, valueOrZero, givenTemperature, ordinary, atStation};
+ghost use Rattle.resolved.specs.Resolved.{unmeasuredPressure, pressureOf, resolvedTemperature, resolvedPressure, givenTemperature, ordinary, atStation};
+use answered::inverse::Station;
 use atmosphere::station::Reading;
 use atmosphere::station::reduce_qnh_to_station_pressure;
 use atmosphere::station::resolve_station_pressure;
 use atmosphere::station::resolve_station_temperature;
-use density_altitude::inverse::Station;
+use entries::Entry;
+use entries::Readings;
+use entries::entry_of;
+use entries::value_or_zero;
 use fields::fields::ALTITUDE;
 use fields::fields::HUMIDITY;
 use fields::fields::MEASURED_PRESSURE;
 use fields::fields::QNH;
 use fields::fields::STATION_PRESSURE;
 use fields::fields::TEMPERATURE;
-use record::readings::Entry;
-use record::readings::Readings;
-use record::readings::entry_of;
 
 pub enum Pressure {
     Station(f64),
@@ -76,15 +77,6 @@ fn resolved_pressure(pressure: Pressure, altitude_m: f64) -> Reading
         Pressure::Qnh(q) => Reading::Given(reduce_qnh_to_station_pressure(q, altitude_m)),
         Pressure::Measured(p) => Reading::Given(p),
         Pressure::Absent => Reading::FromLayer,
-    }
-}
-
-fn value_or_zero(entry: Entry) -> f64
-    ensures { λ r. ⌜ r ≡ valueOrZero entry ⌝ }
-{
-    match entry {
-        Entry::Present(x) => x,
-        Entry::Absent => 0.0,
     }
 }
 

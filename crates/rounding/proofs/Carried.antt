@@ -9,7 +9,7 @@ use lib.Arith.{digits-lt}
 use lib.Pow.{pow-pos, pow-mono, pow-add, shl-exact}
 use Rattle.wide.specs.declared.words.Wide.{Wide}
 use Rattle.wide.specs.Value.{value}
-use Rattle.rounding.proofs.Times.{remaining}
+use Rattle.arithmetic.proofs.Times.{remaining}
 
 -- ---- what a word says of a number
 pub no-carry : (v c s : ℕ) → v + c * 2 ^ 128 ≡ s → s < 2 ^ 128 → v ≡ s

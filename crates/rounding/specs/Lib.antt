@@ -1,7 +1,2 @@
--- What the contracts of `rounding` cite: the places, whole numbers and words, the nearest double, a double taken apart, and the square root.
-pub mod Places
-pub mod Whole
-pub mod Nearest
-pub mod Parts
+-- What the contracts of `rounding` cite of its own: a whole number with its highest digit in its place.
 pub mod Normalised
-pub mod Sqrt

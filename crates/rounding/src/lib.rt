@@ -1,5 +1,2 @@
-// Doubles and whole numbers: a double taken apart, the double nearest to a fraction, the square root, and
-// words of whole numbers in units of 2^-60.
+// A double taken apart, and the double nearest to a fraction of whole numbers.
 pub mod nearest;
-pub mod sqrt;
-pub mod word;

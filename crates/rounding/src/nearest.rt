@@ -7,27 +7,19 @@ ghost use lib.IntN.{pos};
 ghost use lib.Ieee.{binary64, round, nearest};
 ghost use lib.Ieee.Nearest.{closest};
 ghost use Rattle.wide.specs.Value.{value};
-ghost use Rattle.rounding.specs.Nearest.{nearestScaled, nearestRatio};
+ghost use Rattle.arithmetic.specs.Nearest.{nearestScaled, nearestRatio};
 ghost use Rattle.rounding.specs.Normalised.{IsNormalised};
-ghost use Rattle.rounding.specs.Parts.{partsOf, TakenApart};
-ghost use Rattle.rounding.specs.Places.{places};
-use super::word::PLACES;
-use super::word::WHOLE;
+ghost use Rattle.arithmetic.specs.Parts.{partsOf, TakenApart};
+ghost use Rattle.arithmetic.specs.Places.{places};
+use arithmetic::double::Parts;
+use arithmetic::word::PLACES;
+use arithmetic::word::WHOLE;
 use wide::words::Wide;
 use wide::words::product;
 use wide::words::shifted_right;
 use wide::words::sum;
 
 const DIGITS: u64 = PLACES as u64;
-
-// A double by its kind, with its sign, which is true where it is negative.
-// `Finite(s, q, k)` is q * 2^(k - 1074), or -q * 2^(k - 1074) where s is true.
-pub enum Parts {
-    NotANumber,
-    Infinite(bool),
-    Zero(bool),
-    Finite(bool, u64, u32),
-}
 
 // The kind of x and its parts. The sign, the exponent's field and the digits' field of x's bit pattern
 // say which kind it is. A field of 0 has no leading digit, and counts as a field of 1.

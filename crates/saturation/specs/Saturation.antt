@@ -4,12 +4,13 @@
 -- The order of rounding is that of src/atmosphere.rs, and n is the number of places of exp and power. Definitions only.
 use Prim.Native.Nat.{ℕ}
 use lib.Ieee.{Float}
-use Rattle.elementary.specs.Decimals.{decimal, one}
-use Rattle.elementary.specs.Operators.{_⊕_, _⊖_, _⊗_, _⊘_}
+use Rattle.arithmetic.specs.Decimals.{decimal, one}
+use Rattle.arithmetic.specs.Operators.{_⊕_, _⊖_, _⊗_, _⊘_}
 use Rattle.elementary.specs.Exponents.{ofDouble}
 use Rattle.elementary.specs.Power.{power}
 use Rattle.elementary.specs.Exp.{exp}
 use Rattle.doubles.specs.Doubles.{maxDouble}
+use Rattle.moist_air.specs.MoistAir.{coldest}
 
 -- ---- the release's constants
 -- T_c in K
@@ -55,10 +56,6 @@ abbrev τ^7·5 : ℕ → Float → Float
 τ^7·5 n τ = power n (ofDouble (decimal "7.5")) τ
 
 -- ---- the saturation pressure
--- a temperature below this one, in K, or NaN, counts as this one; it is the source's, not the release's
-abbrev pub coldest : Float
-coldest = decimal "173.15"
-
 -- ln(p / p_c) at T
 abbrev logRatio : ℕ → Float → Float
 logRatio n T =

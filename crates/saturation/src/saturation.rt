@@ -1,7 +1,7 @@
 // The saturation pressure of water vapour.
 ghost use mathlib.Core.Path.{_≡_};
 ghost use Rattle.saturation.specs.Saturation.{saturationPressure};
-ghost use Rattle.rounding.specs.Places.{places};
+ghost use Rattle.arithmetic.specs.Places.{places};
 use doubles::doubles::max;
 use elementary::exp::exp;
 use elementary::power::five_powers;

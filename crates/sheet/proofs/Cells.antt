@@ -13,7 +13,7 @@ use Rattle.decimals.specs.declared.text.DecimalText.{DecimalText}
 use Rattle.decimals.specs.Decimal.{decimalText}
 use Rattle.decimals.specs.Places.{inSixteen}
 use Rattle.decimals.proofs.Standing.{too-long, fits}
-use Rattle.station.specs.declared.figures.Figures.{Figures}
+use Rattle.answered.specs.declared.judge.Figures.{Figures}
 use Rattle.mast.proofs.Entries.{neither}
 use Rattle.sheet.specs.Over.{lastPlaces}
 use Rattle.sheet.specs.Row.{cell, isWider, rowText, isTooWide}

@@ -9,7 +9,7 @@ use lib.ListN.{length, replicate}
 use Rattle.decimals.specs.Decimal.{decimalText}
 use Rattle.refusal.specs.Outcomes.{Outcome, accepted, _⟫_, row, _then_}
 use Rattle.atmosphere.specs.declared.station.Reading.the-variants.{Given}
-use Rattle.station.specs.declared.figures.Figures.{Figures}
+use Rattle.answered.specs.declared.judge.Figures.{Figures}
 use Rattle.resolved.specs.declared.resolved.Resolved.{Resolved}
 use Rattle.mast.specs.Judge.{airOutcome}
 

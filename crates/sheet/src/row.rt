@@ -7,15 +7,15 @@ ghost use Rattle.refusal.specs.Outcomes.{checked};
 ghost use Rattle.sheet.specs.Over.{over, after, lastPlaces};
 ghost use Rattle.sheet.specs.Row.{figuresOutcome, rowOutcome};
 ghost use Rattle.sheet.specs.Sheet.{bare};
+use answered::judge::Answer;
+use answered::judge::Figures;
 use atmosphere::station::Reading;
 use decimals::text::DecimalText;
 use decimals::text::decimal_text;
-use mast::judge::Answer;
 use mast::judge::air;
 use refusal::Check;
 use refusal::Refusal;
 use resolved::resolved::Resolved;
-use station::figures::Figures;
 
 fn write_cell(page: &mut [u8], at: usize, text: DecimalText, width: usize, end: u8)
     requires { ⌜ (width ≤ 16) × (at + width < length (now page)) ⌝ }

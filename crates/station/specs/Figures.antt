@@ -2,16 +2,16 @@
 -- in m, humidities in percent. Definitions only.
 use mathlib.Core.Bool.{Bool, _&&_}
 use lib.Ieee.{Float, le}
-use Rattle.rounding.specs.Places.{places}
-use Rattle.elementary.specs.Decimals.{decimal, nought}
+use Rattle.arithmetic.specs.Places.{places}
+use Rattle.arithmetic.specs.Decimals.{decimal, nought}
 use Rattle.doubles.specs.Doubles.{isFinite}
-use Rattle.humid_air.specs.MoistAir.{moleFractionCelsius}
+use Rattle.humid_air.specs.Humidity.{moleFractionCelsius}
 use Rattle.atmosphere.specs.declared.station.Reading.{Reading}
 use Rattle.altitudes.specs.Altitudes.{pressureAltitude}
 use Rattle.air.specs.Station.{celsius, hectopascals, atmosphere}
 use Rattle.air.specs.Matched.{densityMatchedAltitude}
 use Rattle.density_altitude.specs.Inverse.{isFiniteAbove}
-use Rattle.station.specs.declared.figures.Figures.{Figures}
+use Rattle.answered.specs.declared.judge.Figures.{Figures}
 use Rattle.station.specs.declared.figures.StationFigures.{StationFigures}
 use Rattle.resolved.specs.declared.resolved.Resolved.{Resolved}
 

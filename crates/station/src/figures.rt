@@ -1,26 +1,13 @@
 // The eight figures of a station and their mark: what is shown of what is resolved, and the figures.
 ghost use mathlib.Core.Path.{_≡_};
-ghost use Rattle.rounding.specs.Places.{places};
-ghost use Rattle.elementary.specs.Decimals.{nought};
+ghost use Rattle.arithmetic.specs.Decimals.{nought};
 ghost use Rattle.density_altitude.specs.Inverse.{isFiniteAbove};
 ghost use Rattle.station.specs.Figures.{inCipmRange, stationFigures, isAir};
 use air::figures::air_figures;
 use altitudes::altitudes::pressure_altitude_m;
+use answered::judge::Figures;
 use doubles::doubles::is_finite;
 use resolved::resolved::Resolved;
-
-// The figures, and whether the shown temperature and pressure lie in the range of CIPM-2007.
-pub struct Figures {
-    pub altitude_m: f64,
-    pub temperature_c: f64,
-    pub pressure_hpa: f64,
-    pub density_kg_m3: f64,
-    pub speed_of_sound_mps: f64,
-    pub pressure_altitude_m: f64,
-    pub density_matched_altitude_m: f64,
-    pub vapor_mole_fraction: f64,
-    pub in_cipm_range: bool,
-}
 
 // The figures of a station, with the mole fraction of vapour, uncapped, of the shown temperature and
 // pressure.

@@ -1,7 +1,7 @@
 -- A text of an outcome is one of an equal outcome. Assumes nothing.
 use mathlib.Core.Path.{_≡_, subst}
 use Rattle.refusal.specs.Outcomes.{Outcome}
-use Rattle.station.specs.declared.figures.Figures.{Figures}
+use Rattle.answered.specs.declared.judge.Figures.{Figures}
 use Rattle.answer_lines.specs.declared.Text.{Text}
 use Rattle.answer_lines.specs.Lines.{Holds}
 use Rattle.text.specs.Text.{answerText}

@@ -3,10 +3,10 @@ use mathlib.Core.Path.{refl}
 use lib.Ieee.{ofBits, toBits, le, isNan}
 use Rattle.elementary.specs.Power.{powerAt}
 use Rattle.elementary.specs.Exp.{exp}
-use Rattle.rounding.specs.Sqrt.{sqrt}
+use Rattle.square_root.specs.Sqrt.{sqrt}
 use Rattle.doubles.specs.Doubles.{absDouble, isFinite}
 use Rattle.saturation.specs.Saturation.{saturationPressure}
-use Rattle.humid_air.specs.MoistAir.{moleFraction, compressibilityFactor, airDensityAt}
+use Rattle.moist_air.specs.MoistAir.{moleFraction, compressibilityFactor, airDensityAt}
 use Rattle.humid_air.specs.Sound.{soundSpeed}
 use Rattle.atmosphere.specs.Layers.{standardAir}
 use Rattle.altitudes.specs.Altitudes.{pressureAltitude}

@@ -1,10 +1,10 @@
 -- Document 01's sample records and the text of each answer. Definitions only.
-use Prim.Native.Nat.{ℕ, zero, suc, _*_, _/_, _%_, _^_}
+use Prim.Native.Nat.{ℕ, zero, suc, _/_, _%_, _^_}
 use mathlib.Core.Path.{_≡_}
 use mathlib.Core.List.{List, [], _∷_, _++_}
 use lib.Ieee.{Float, binary64, toBits}
 use lib.ListN.{take, drop}
-use Rattle.elementary.specs.Decimals.{decimal}
+use Rattle.arithmetic.specs.Decimals.{decimal}
 use Rattle.mast.specs.Judge.{judge}
 use Rattle.pieces.specs.Ascii.{ascii}
 use Rattle.text.specs.Text.{answerText}

@@ -2,7 +2,7 @@
 use Prim.Native.Nat.{ℕ}
 use mathlib.Core.List.{List, _++_}
 use Rattle.refusal.specs.Outcomes.{Outcome, accepted, refused}
-use Rattle.station.specs.declared.figures.Figures.{Figures}
+use Rattle.answered.specs.declared.judge.Figures.{Figures}
 use Rattle.pieces.specs.Characters.{refusalLine}
 use Rattle.answer_lines.specs.Lines.{stationLine, airLine}
 

@@ -1,7 +1,8 @@
 // The text of an answer: two lines with the eight figures and their mark, or `refused` and the number.
 ghost use mathlib.Core.Path.{_≡_};
 ghost use lib.ListN.{take};
-ghost use Rattle.mast.specs.Judge.{outcome, judge, judgeStrictly};
+ghost use Rattle.mast.specs.Judge.{judge, judgeStrictly};
+ghost use Rattle.answered.specs.Judged.{outcome};
 ghost use Rattle.pieces.specs.Characters.{same};
 ghost use Rattle.answer_lines.specs.Lines.{Holds};
 ghost use Rattle.text.specs.Asked.{strictWord, askedBy, askedText};
@@ -10,7 +11,7 @@ use answer_lines::Text;
 use answer_lines::figure_lines;
 use answer_lines::refusal_line;
 use answer_lines::usage;
-use mast::judge::Answer;
+use answered::judge::Answer;
 use mast::judge::judge;
 use mast::judge::judge_strictly;
 

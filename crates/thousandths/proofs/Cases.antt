@@ -2,7 +2,7 @@
 use mathlib.Core.Path.{_≡_, refl}
 use lib.IntN.{pos, negsuc}
 use lib.Ieee.{round, ofBits, toBits}
-use Rattle.elementary.specs.Decimals.{decimal}
+use Rattle.arithmetic.specs.Decimals.{decimal}
 use Rattle.thousandths.specs.declared.Counted.the-variants.{Count, Missing}
 use Rattle.thousandths.specs.Thousandths.{countOf, thousandths, nearestCount, counted, tried, countFor}
 

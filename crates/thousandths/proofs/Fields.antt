@@ -13,7 +13,7 @@ use lib.Ieee.Fits.{down-pos}
 use lib.Ieee.Bits.{ofBits-toBits, toBits-lt}
 use lib.Ieee.Exact.{HasValue, odd-sign}
 use borrow.Author.Tests.{ne-eqb}
-use Rattle.rounding.specs.Whole.{signed}
+use Rattle.arithmetic.specs.Whole.{signed}
 use Rattle.thousandths.specs.declared.Counted.the-variants.{Missing}
 use Rattle.thousandths.specs.Thousandths.{inRange, thousandths, nearestWhole, nearestCount, counted, tried, countFor}
 use Rattle.thousandths.proofs.Sizes.{nearest-whole-same}

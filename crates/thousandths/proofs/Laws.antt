@@ -11,8 +11,8 @@ use lib.Ieee.{Float, nan, inf, fin, binary64, neg, fits, ofBits, toBits}
 use lib.Ieee.Bits.{ofBits-toBits, is-true}
 use lib.Ieee.Fits.{round-fits}
 use lib.Ieee.Scale.{finite}
-use Rattle.rounding.specs.Whole.{signed}
-use Rattle.rounding.proofs.Rounding.{round-opposite}
+use Rattle.arithmetic.specs.Whole.{signed}
+use Rattle.arithmetic.proofs.Rounding.{round-opposite}
 use Rattle.thousandths.specs.declared.Counted.the-variants.{Count, Missing}
 use Rattle.thousandths.specs.Thousandths.{inRange, thousandths, nearestCount, counted, tried, countFor}
 use Rattle.thousandths.specs.Laws.{InRange, CountOfDouble, DoubleOfCount}

@@ -12,11 +12,11 @@ use lib.Ieee.{Float, nan, inf, fin, binary64, up, down, round}
 use lib.Ieee.Fits.{down-pos}
 use lib.Ieee.Nearest.{div-same}
 use lib.Ieee.Scale.{round-same}
-use Rattle.rounding.specs.Nearest.{unitsOf}
-use Rattle.elementary.proofs.CommonDenominator.{above, beneath}
-use Rattle.rounding.proofs.Order.{unsigned, units-exact}
-use Rattle.rounding.proofs.Rounding.{round-unsigned}
-use Rattle.elementary.proofs.Near.{Near, round-near}
+use Rattle.arithmetic.specs.Nearest.{unitsOf}
+use Rattle.arithmetic.proofs.CommonDenominator.{above, beneath}
+use Rattle.arithmetic.proofs.Order.{unsigned, units-exact}
+use Rattle.arithmetic.proofs.Rounding.{round-unsigned}
+use Rattle.arithmetic.proofs.Near.{Near, round-near}
 use Rattle.thousandths.specs.Thousandths.{nearestWhole}
 
 -- ---- equal fractions have the same nearest whole number

@@ -5,8 +5,8 @@ use mathlib.Core.Bool.{Bool, cond}
 use lib.IntN.{ℤ, pos, negsuc, subℕ}
 use lib.Dec.{leb, eqb}
 use lib.Ieee.{Float, nan, inf, fin, binary64, up, down, toBits}
-use Rattle.rounding.specs.Nearest.{nearestRatio}
-use Rattle.rounding.specs.Whole.{signed}
+use Rattle.arithmetic.specs.Nearest.{nearestRatio}
+use Rattle.arithmetic.specs.Whole.{signed}
 use Rattle.thousandths.specs.declared.Counted.{Counted}
 use Rattle.thousandths.specs.declared.Counted.the-variants.{Count, Missing}
 

@@ -2,7 +2,7 @@
 // count of a double, if it has one.
 ghost use mathlib.Core.Path.{_≡_};
 ghost use Prim.Native.Nat.{_*_, _^_, _<_};
-ghost use Rattle.rounding.specs.Whole.{signed};
+ghost use Rattle.arithmetic.specs.Whole.{signed};
 ghost use Rattle.thousandths.specs.Thousandths.{countOf, wordOf, thousandths, nearestWhole, counted, tried, countFor};
 
 pub enum Counted {

@@ -7,12 +7,13 @@ use Prim.Native.Nat.{ℕ}
 use native.Mathlib.Omega.{arith}
 use lib.Ieee.{Float}
 use Rattle.refusal.specs.Outcomes.{Outcome, accepted, refused, _⟫_}
-use Rattle.record.specs.declared.readings.Entry.{Entry}
-use Rattle.record.specs.declared.readings.Entry.the-variants.{Absent, Present}
-use Rattle.record.specs.declared.readings.Readings.{Readings}
+use Rattle.entries.specs.declared.Entry.{Entry}
+use Rattle.entries.specs.declared.Entry.the-variants.{Absent, Present}
+use Rattle.entries.specs.declared.Readings.{Readings}
 use Rattle.fields.specs.Fields.{temperature, measuredPressure}
-use Rattle.record.specs.Readings.{entryOf, readRecord}
-use Rattle.station.specs.declared.figures.Figures.{Figures}
+use Rattle.record.specs.Readings.{readRecord}
+use Rattle.entries.specs.Entries.{entryOf}
+use Rattle.answered.specs.declared.judge.Figures.{Figures}
 use Rattle.mast.specs.Judge.{judged, judge}
 use Rattle.trim_change.specs.declared.changes.Turn.{Turn}
 use Rattle.trim_change.specs.declared.changes.Found.{Found}

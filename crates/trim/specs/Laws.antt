@@ -7,11 +7,12 @@ use mathlib.Core.Bool.{false}
 use mathlib.Core.List.{List, []}
 use lib.Ieee.{Float}
 use Rattle.refusal.specs.Outcomes.{accepted, refused}
-use Rattle.record.specs.declared.readings.Entry.the-variants.{Absent, Present}
-use Rattle.record.specs.declared.readings.Readings.{Readings}
+use Rattle.entries.specs.declared.Entry.the-variants.{Absent, Present}
+use Rattle.entries.specs.declared.Readings.{Readings}
 use Rattle.fields.specs.Fields.{temperature, measuredPressure}
-use Rattle.record.specs.Readings.{entryOf, readRecord}
-use Rattle.station.specs.declared.figures.Figures.{Figures}
+use Rattle.record.specs.Readings.{readRecord}
+use Rattle.entries.specs.Entries.{entryOf}
+use Rattle.answered.specs.declared.judge.Figures.{Figures}
 use Rattle.mast.specs.Judge.{judged, judge}
 use Rattle.trim_change.specs.declared.changes.Quantity.{Quantity}
 use Rattle.trim_change.specs.declared.changes.Quantity.the-variants.{Temperature, MeasuredPressure}

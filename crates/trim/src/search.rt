@@ -2,11 +2,11 @@
 ghost use mathlib.Core.Path.{_≡_};
 ghost use Rattle.trim.specs.InOrder.{changesOf, firstOf};
 ghost use Rattle.trim.specs.Search.{outcome, nextFrom, nextWith, nextOf, nextTrimClass};
+use entries::Entry;
+use entries::Readings;
+use entries::entry_of;
 use fields::fields::MEASURED_PRESSURE;
 use fields::fields::TEMPERATURE;
-use record::readings::Entry;
-use record::readings::Readings;
-use record::readings::entry_of;
 use record::readings::read_record;
 use refusal::Check;
 use refusal::Refusal;

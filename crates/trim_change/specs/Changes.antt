@@ -5,12 +5,12 @@ use mathlib.Core.Bool.{cond}
 use lib.Dec.{eqb}
 use lib.IntN.{pos}
 use lib.Ieee.{Float, binary64, neg, ofInt}
-use Rattle.elementary.specs.Decimals.{decimal}
-use Rattle.elementary.specs.Operators.{_⊕_, _⊘_}
+use Rattle.arithmetic.specs.Decimals.{decimal}
+use Rattle.arithmetic.specs.Operators.{_⊕_, _⊘_}
 use Rattle.refusal.specs.Outcomes.{Outcome, accepted, refused}
-use Rattle.record.specs.declared.readings.Readings.{Readings}
+use Rattle.entries.specs.declared.Readings.{Readings}
 use Rattle.fields.specs.Fields.{temperature, measuredPressure}
-use Rattle.record.specs.Readings.{withEntry}
+use Rattle.entries.specs.Entries.{withEntry}
 use Rattle.trim_change.specs.declared.changes.Quantity.{Quantity}
 use Rattle.trim_change.specs.declared.changes.Quantity.the-variants.{Temperature, MeasuredPressure}
 use Rattle.trim_change.specs.declared.changes.Direction.{Direction}

@@ -2,10 +2,10 @@
 ghost use mathlib.Core.Path.{_≡_};
 ghost use Rattle.trim_class.specs.Classes.{classified};
 ghost use Rattle.trim_change.specs.Changes.{by, changed, change, another, tried};
+use entries::Readings;
+use entries::with_entry;
 use fields::fields::MEASURED_PRESSURE;
 use fields::fields::TEMPERATURE;
-use record::readings::Readings;
-use record::readings::with_entry;
 use trim_class::classes::Class;
 use trim_class::classes::class_of;
 

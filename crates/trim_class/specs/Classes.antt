@@ -4,9 +4,9 @@ use Prim.Native.Nat.{ℕ, _+_}
 use mathlib.Core.Bool.{cond}
 use mathlib.Core.List.{List, [], _∷_}
 use lib.Ieee.{Float, le}
-use Rattle.elementary.specs.Decimals.{decimal}
+use Rattle.arithmetic.specs.Decimals.{decimal}
 use Rattle.refusal.specs.Outcomes.{Outcome, accepted, refusal, _⟫_}
-use Rattle.record.specs.declared.readings.Readings.{Readings}
+use Rattle.entries.specs.declared.Readings.{Readings}
 use Rattle.mast.specs.Judge.{judged}
 use Rattle.trim_class.specs.declared.classes.Class.{Class}
 use Rattle.trim_class.specs.declared.classes.Class.the-variants as class

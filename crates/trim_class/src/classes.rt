@@ -1,9 +1,9 @@
 // The trim class of a density, and of readings.
 ghost use mathlib.Core.Path.{_≡_};
 ghost use Rattle.trim_class.specs.Classes.{trimClass, classified, classOf};
-use mast::judge::Answer;
+use answered::judge::Answer;
+use entries::Readings;
 use mast::judge::judge_readings;
-use record::readings::Readings;
 use refusal::Refusal;
 
 // kg/m3

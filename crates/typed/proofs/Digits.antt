@@ -9,7 +9,7 @@ use native.Mathlib.Omega.{arith}
 use lib.Dec.{T, leb, leb→le, nleb→lt}
 use lib.ListN.{length, getD, drop, drop-of-length-le}
 use lib.Seq.{drop-cons}
-use Rattle.rounding.specs.Whole.{signed}
+use Rattle.arithmetic.specs.Whole.{signed}
 use Rattle.thousandths.specs.Thousandths.{counted}
 use Rattle.thousandths.proofs.Words.{out-of-range}
 use Rattle.thousandths.proofs.Laws.{not-counted}

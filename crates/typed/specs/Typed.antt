@@ -5,7 +5,7 @@ use mathlib.Core.Bool.{Bool, true, false, _&&_, cond}
 use mathlib.Core.List.{List, [], _∷_, _++_}
 use lib.Dec.{leb, eqb}
 use lib.ListN.{length, take, drop}
-use Rattle.rounding.specs.Whole.{signed}
+use Rattle.arithmetic.specs.Whole.{signed}
 use Rattle.thousandths.specs.declared.Counted.{Counted}
 use Rattle.thousandths.specs.declared.Counted.the-variants as counted-as
 use Rattle.thousandths.specs.Thousandths.{counted}

@@ -10,11 +10,11 @@ use lib.Dec.{eqb}
 use lib.ListN.{length, length-set}
 use Rattle.fields.specs.declared.fields.Value.{Value}
 use Rattle.fields.specs.declared.fields.Value.the-variants.{Count}
-use Rattle.record.specs.declared.readings.Stored.{Stored}
-use Rattle.record.specs.declared.readings.Stored.the-variants.{Present}
-use Rattle.record.specs.declared.readings.Readings.{Readings}
+use Rattle.entries.specs.declared.Stored.{Stored}
+use Rattle.entries.specs.declared.Stored.the-variants.{Present}
+use Rattle.entries.specs.declared.Readings.{Readings}
 use Rattle.fields.specs.Fields.{meanings}
-use Rattle.record.specs.Readings.{slotOf, isPresent, entryFor, entryOf, storedOf, withValue}
+use Rattle.entries.specs.Entries.{slotOf, isPresent, entryFor, entryOf, storedOf, withValue}
 use Rattle.writer.proofs.Passed.{stored-same, stored-other}
 use Rattle.typed_word.specs.declared.Problem.the-variants.{RepeatedWord}
 use Rattle.typed_word.specs.declared.Word.{Word}

@@ -7,7 +7,7 @@ use native.Mathlib.Omega.{arith}
 use lib.Dec.{T, eqb, leb}
 use lib.IntN.{ℤ}
 use lib.ListN.{length, take, drop}
-use Rattle.rounding.specs.Whole.{signed}
+use Rattle.arithmetic.specs.Whole.{signed}
 use Rattle.thousandths.specs.declared.Counted.the-variants as counted-as
 use Rattle.thousandths.specs.Thousandths.{inRange, counted}
 use Rattle.thousandths.specs.Laws.{InRange}

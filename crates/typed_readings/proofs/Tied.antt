@@ -13,11 +13,12 @@ use Rattle.thousandths.proofs.Words.{twos-complement}
 use Rattle.typed.specs.Typed.{typed}
 use Rattle.fields.specs.declared.fields.Value.{Value}
 use Rattle.fields.specs.declared.fields.Value.the-variants.{Count}
-use Rattle.record.specs.declared.readings.Entry.the-variants as entry
-use Rattle.record.specs.declared.readings.Stored.{Stored}
-use Rattle.record.specs.declared.readings.Stored.the-variants.{Absent, Present}
-use Rattle.record.specs.declared.readings.Readings.{Readings}
-use Rattle.record.specs.Readings.{noReadings, entryFor, entryOf, storedOf, readRecord}
+use Rattle.entries.specs.declared.Entry.the-variants as entry
+use Rattle.entries.specs.declared.Stored.{Stored}
+use Rattle.entries.specs.declared.Stored.the-variants.{Absent, Present}
+use Rattle.entries.specs.declared.Readings.{Readings}
+use Rattle.record.specs.Readings.{readRecord}
+use Rattle.entries.specs.Entries.{noReadings, entryFor, entryOf, storedOf}
 use Rattle.record.proofs.Strict.{same-where-rising, accepted-rising}
 use Rattle.writer.specs.Records.{recordOf}
 use Rattle.writer.specs.Laws.{IsHeld}

@@ -1,20 +1,19 @@
 -- What is typed and what is judged are tied: each word's decimal is a reading, each reading a word's decimal, and the record that a new mast would send of
 -- them is judged as they are. Definitions only.
-use Prim.Native.Nat.{ℕ, _<_}
+use Prim.Native.Nat.{ℕ}
 use mathlib.Core.Path.{_≡_}
 use mathlib.Core.Bool.{true, false}
-use mathlib.Core.List.{List, [], _∷_, _++_, List·Memᴰ}
+use mathlib.Core.List.{List, List·Memᴰ}
 use lib.IntN.{ℤ}
 use lib.Ieee.{Float}
-use lib.ListN.{getD}
 use Rattle.refusal.specs.Outcomes.{accepted}
 use Rattle.thousandths.specs.Thousandths.{thousandths}
 use Rattle.typed.specs.declared.Typed.the-variants.{Count}
 use Rattle.typed.specs.Typed.{typed}
-use Rattle.record.specs.declared.readings.Entry.the-variants.{Present}
-use Rattle.record.specs.declared.readings.Readings.{Readings}
-use Rattle.fields.specs.Fields.{meanings}
-use Rattle.record.specs.Readings.{entryOf, readRecord}
+use Rattle.entries.specs.declared.Entry.the-variants.{Present}
+use Rattle.entries.specs.declared.Readings.{Readings}
+use Rattle.record.specs.Readings.{readRecord}
+use Rattle.entries.specs.Entries.{entryOf}
 use Rattle.writer.specs.Records.{recordOf}
 use Rattle.mast.specs.Judge.{judged, judge}
 use Rattle.typed_word.specs.Word.{Says}

@@ -3,8 +3,8 @@ use Prim.Native.Nat.{ℕ, _+_}
 use mathlib.Core.Bool.{cond}
 use mathlib.Core.List.{List, [], _∷_}
 use Rattle.fields.specs.declared.fields.Value.the-variants.{Count}
-use Rattle.record.specs.declared.readings.Readings.{Readings}
-use Rattle.record.specs.Readings.{noReadings, isPresent, entryOf, withValue}
+use Rattle.entries.specs.declared.Readings.{Readings}
+use Rattle.entries.specs.Entries.{noReadings, isPresent, entryOf, withValue}
 use Rattle.typed_word.specs.declared.Problem.{Problem}
 use Rattle.typed_word.specs.declared.Problem.the-variants.{RepeatedWord}
 use Rattle.typed_word.specs.declared.Word.{Word}

@@ -4,11 +4,11 @@ use mathlib.Core.Logic.{_≢_, _⊎_, inl, inr}
 use Prim.Native.Nat.{ℕ, zero, suc, _≤_, _<_}
 use native.Mathlib.Nat.{eq-or-lt-of-le, le-of-suc-le-suc}
 use native.Mathlib.Omega.{arith}
-use Rattle.record.specs.declared.readings.Entry.{Entry}
-use Rattle.record.specs.declared.readings.Entry.the-variants.{Absent, Present}
-use Rattle.record.specs.declared.readings.Readings.{Readings}
+use Rattle.entries.specs.declared.Entry.{Entry}
+use Rattle.entries.specs.declared.Entry.the-variants.{Absent, Present}
+use Rattle.entries.specs.declared.Readings.{Readings}
 use Rattle.fields.specs.Fields.{meanings}
-use Rattle.record.specs.Readings.{entryOf}
+use Rattle.entries.specs.Entries.{entryOf}
 use Rattle.record.proofs.ByMeaning.{Whole, none-whole, with-whole, none-there, entry-set, entry-left}
 use Rattle.middle.specs.Middle.{middle}
 use Rattle.voted.specs.Fields.{withMiddle, votedOf}

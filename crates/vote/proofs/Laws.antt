@@ -5,11 +5,10 @@ use Prim.Native.Nat.{ℕ}
 use native.Mathlib.Omega.{arith}
 use lib.Ieee.{Float}
 use Rattle.refusal.specs.Outcomes.{Outcome, accepted, refused, _⟫_}
-use Rattle.record.specs.declared.readings.Readings.{Readings}
-use Rattle.station.specs.declared.figures.Figures.{Figures}
+use Rattle.entries.specs.declared.Readings.{Readings}
+use Rattle.answered.specs.declared.judge.Figures.{Figures}
 use Rattle.mast.specs.Judge.{judged, judge}
-use Rattle.voted.specs.Fields.{votedOutcome}
-use Rattle.vote.specs.Vote.{VoteOutcome, byNoMast, acceptedReadings, afterMast, vote}
+use Rattle.vote.specs.Vote.{VoteOutcome, byNoMast, acceptedReadings, afterMast, vote, votedOutcome}
 use Rattle.vote.specs.Laws.{Accepts, MastsInOrder, Votes, ExchangeOfMasts, ThreeEqual, TwoEqual}
 use Rattle.vote.proofs.Readings.{after, is-accepted, by-the-judge, numbers, exchange-first, exchange-last, outvoted}
 

@@ -4,22 +4,22 @@ use mathlib.Core.Bool.{Bool, true, false, not, _&&_, _||_, cond, false≢true}
 use mathlib.Core.List.{List, []}
 use Prim.Native.Nat.{ℕ, zero, suc, _≤_, _<_}
 use native.Mathlib.Omega.{arith}
-use lib.Ieee.{Float}
 use Rattle.refusal.specs.Outcomes.{Outcome, accepted, refused, _⟫_}
-use Rattle.record.specs.declared.readings.Entry.{Entry}
-use Rattle.record.specs.declared.readings.Entry.the-variants.{Absent, Present}
-use Rattle.record.specs.declared.readings.Readings.{Readings}
+use Rattle.entries.specs.declared.Entry.{Entry}
+use Rattle.entries.specs.declared.Entry.the-variants.{Absent, Present}
+use Rattle.entries.specs.declared.Readings.{Readings}
 use Rattle.fields.specs.Fields.{meanings}
-use Rattle.record.specs.Readings.{entryOf, withEntry, isPresent, readRecord}
+use Rattle.record.specs.Readings.{readRecord}
+use Rattle.entries.specs.Entries.{entryOf, withEntry, isPresent}
 use Rattle.record.proofs.ByMeaning.{reads-doubles}
-use Rattle.station.specs.declared.figures.Figures.{Figures}
+use Rattle.answered.specs.declared.judge.Figures.{Figures}
 use Rattle.mast.specs.Entries.{FiniteEntry}
 use Rattle.mast.specs.Judge.{judged, judge}
 use Rattle.mast.proofs.Entries.{judged-by-entries, accepted-is-finite}
 use Rattle.doubles.proofs.NotANumber.{is-number}
-use Rattle.middle.specs.Middle.{middle, IsNumber}
-use Rattle.voted.specs.Fields.{isNotInAll, notInAllOf, withMiddle, votedOf, voted, votedOutcome}
-use Rattle.vote.specs.Vote.{acceptedReadings}
+use Rattle.middle.specs.Middle.{IsNumber}
+use Rattle.voted.specs.Fields.{isNotInAll, notInAllOf, withMiddle, votedOf, voted}
+use Rattle.vote.specs.Vote.{acceptedReadings, votedOutcome}
 use Rattle.vote.specs.Laws.{ByTheJudge, middleEntry, SameFields, TwoEqualValues}
 use Rattle.middle.proofs.OfThree.{middle-in-every-order, two-equal}
 use Rattle.vote.proofs.ByMeaning.{voted-by-meaning}

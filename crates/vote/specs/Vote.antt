@@ -3,14 +3,14 @@
 use Prim.Native.Nat.{ℕ}
 use mathlib.Core.Bool.{false}
 use mathlib.Core.List.{List}
-use Rattle.refusal.specs.Outcomes.{Outcome, accepted, refused, refusal, _⟫_}
-use Rattle.record.specs.declared.readings.Readings.{Readings}
+use Rattle.refusal.specs.Outcomes.{Outcome, accepted, refused, refusal, _then_, _⟫_}
+use Rattle.entries.specs.declared.Readings.{Readings}
 use Rattle.record.specs.Readings.{readRecord}
-use Rattle.station.specs.declared.figures.Figures.{Figures}
+use Rattle.answered.specs.declared.judge.Figures.{Figures}
 use Rattle.mast.specs.Judge.{judged}
 use Rattle.vote.specs.declared.answer.Vote.{Vote}
 use Rattle.vote.specs.declared.answer.Vote.the-variants as answer
-use Rattle.voted.specs.Fields.{votedOutcome}
+use Rattle.voted.specs.Fields.{sharedRows, voted}
 
 -- ---- an outcome with the mast whose record is refused, 1 to 3, and 0 where there is none
 pub record VoteOutcome : Type 0 where
@@ -38,6 +38,10 @@ acceptedReadings s = readRecord false s ⟫ (λ r. judged r ⟫ (λ _. accepted 
 abbrev pub afterMast : {A : Type 0} → ℕ → Outcome A → (A → VoteOutcome) → VoteOutcome
 afterMast n (accepted x) next = next x
 afterMast n (refused number values) next = byMast n (refused number values)
+
+-- the readings that the three records share are judged as any record's are
+unfoldable pub votedOutcome : Readings → Readings → Readings → Outcome Figures
+votedOutcome a b c = sharedRows a b c then judged (voted a b c)
 
 unfoldable pub vote : List ℕ → List ℕ → List ℕ → VoteOutcome
 vote a b c =

@@ -1,6 +1,6 @@
 // The answer of a vote.
+use answered::judge::Figures;
 use refusal::Refusal;
-use station::figures::Figures;
 
 pub enum Vote {
     Figures(Figures),

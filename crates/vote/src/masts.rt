@@ -1,15 +1,19 @@
 // The vote of three masts: the masts one after the other, then the fields that they share, then the
 // judge.
 ghost use mathlib.Core.Path.{_≡_};
+ghost use Rattle.answered.specs.Judged.{outcome};
 ghost use Rattle.record.specs.Readings.{readOutcome};
-ghost use Rattle.vote.specs.Vote.{acceptedReadings, voteOutcome, vote};
+ghost use Rattle.vote.specs.Vote.{acceptedReadings, votedOutcome, voteOutcome, vote};
 use super::answer::Vote;
-use mast::judge::Answer;
+use answered::judge::Answer;
+use entries::Readings;
 use mast::judge::judge_readings;
 use record::readings::Read;
 use record::readings::read_record;
 use refusal::Check;
-use voted::by_field::vote_readings;
+use refusal::Refusal;
+use voted::by_field::any_not_in_all;
+use voted::by_field::voted;
 
 // The readings of a record that is accepted by itself, or its refusal.
 fn accepted_readings(bytes: &[u8]) -> Read
@@ -32,6 +36,17 @@ fn accepted_readings(bytes: &[u8]) -> Read
             readings,
         },
     }
+}
+
+// What the readings of three records give together: that a field is not in all of them, or what the
+// judge says of the voted readings.
+fn vote_readings(a: Readings, b: Readings, c: Readings) -> Answer
+    ensures { λ r. ⌜ outcome r ≡ votedOutcome a b c ⌝ }
+{
+    if any_not_in_all(a, b, c) {
+        return Answer::Refused(Refusal::FieldNotInAll);
+    }
+    judge_readings(voted(a, b, c))
 }
 
 // What three records give together: the figures of the voted readings, or the refusal of the first

@@ -2,14 +2,12 @@
 use Prim.Native.Nat.{ℕ, zero, suc}
 use mathlib.Core.Bool.{Bool, false, not, _&&_, _||_}
 use mathlib.Core.List.{List, [], _∷_}
-use Rattle.refusal.specs.Outcomes.{Outcome, Row, row, _then_}
-use Rattle.record.specs.declared.readings.Entry.{Entry}
-use Rattle.record.specs.declared.readings.Entry.the-variants.{Absent, Present}
-use Rattle.record.specs.declared.readings.Readings.{Readings}
+use Rattle.refusal.specs.Outcomes.{Row, row}
+use Rattle.entries.specs.declared.Entry.{Entry}
+use Rattle.entries.specs.declared.Entry.the-variants.{Absent, Present}
+use Rattle.entries.specs.declared.Readings.{Readings}
 use Rattle.fields.specs.Fields.{meanings}
-use Rattle.record.specs.Readings.{noReadings, entryOf, withEntry, isPresent}
-use Rattle.station.specs.declared.figures.Figures.{Figures}
-use Rattle.mast.specs.Judge.{judged}
+use Rattle.entries.specs.Entries.{noReadings, entryOf, withEntry, isPresent}
 use Rattle.middle.specs.Middle.{middle}
 
 -- ---- 21: a field is in one or two of the three records
@@ -41,7 +39,3 @@ votedOf (suc m) a b c = withMiddle (votedOf m a b c) m (entryOf a m) (entryOf b 
 
 abbrev pub voted : Readings → Readings → Readings → Readings
 voted a b c = votedOf meanings a b c
-
--- ---- the voted readings are judged as any record's are
-unfoldable pub votedOutcome : Readings → Readings → Readings → Outcome Figures
-votedOutcome a b c = sharedRows a b c then judged (voted a b c)

@@ -1,18 +1,14 @@
 // The vote on the fields of three records, by meaning: each takes the middle of the three values.
 ghost use mathlib.Core.Path.{_≡_};
-ghost use Rattle.mast.specs.Judge.{outcome};
-ghost use Rattle.voted.specs.Fields.{isNotInAll, anyNotInAll, withMiddle, voted, votedOutcome};
+ghost use Rattle.voted.specs.Fields.{isNotInAll, anyNotInAll, withMiddle, voted};
+use entries::Entry;
+use entries::Readings;
+use entries::entry_of;
+use entries::is_present;
+use entries::no_readings;
+use entries::with_entry;
 use fields::fields::MEANINGS;
-use mast::judge::Answer;
-use mast::judge::judge_readings;
 use middle::middle::middle;
-use record::readings::Entry;
-use record::readings::Readings;
-use record::readings::entry_of;
-use record::readings::is_present;
-use record::readings::no_readings;
-use record::readings::with_entry;
-use refusal::Refusal;
 
 // Whether one or two of three entries are there.
 fn is_not_in_all(a: Entry, b: Entry, c: Entry) -> bool
@@ -25,7 +21,7 @@ fn is_not_in_all(a: Entry, b: Entry, c: Entry) -> bool
 }
 
 // Whether some field is in one or two of three records.
-fn any_not_in_all(a: Readings, b: Readings, c: Readings) -> bool
+pub fn any_not_in_all(a: Readings, b: Readings, c: Readings) -> bool
     ensures { λ r. ⌜ r ≡ anyNotInAll a b c ⌝ }
 {
     let mut found = false;
@@ -59,7 +55,7 @@ fn with_middle(readings: Readings, meaning: usize, a: Entry, b: Entry, c: Entry)
 }
 
 // The middle of each field that is in all three.
-fn voted(a: Readings, b: Readings, c: Readings) -> Readings
+pub fn voted(a: Readings, b: Readings, c: Readings) -> Readings
     ensures { λ r. ⌜ r ≡ voted a b c ⌝ }
 {
     let mut readings = no_readings();
@@ -75,15 +71,4 @@ fn voted(a: Readings, b: Readings, c: Readings) -> Readings
         meaning += 1;
     }
     readings
-}
-
-// What the readings of three records give together: that a field is not in all of them, or what the
-// judge says of the voted readings.
-pub fn vote_readings(a: Readings, b: Readings, c: Readings) -> Answer
-    ensures { λ r. ⌜ outcome r ≡ votedOutcome a b c ⌝ }
-{
-    if any_not_in_all(a, b, c) {
-        return Answer::Refused(Refusal::FieldNotInAll);
-    }
-    judge_readings(voted(a, b, c))
 }

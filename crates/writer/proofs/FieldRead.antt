@@ -14,10 +14,11 @@ use Rattle.refusal.specs.Causes.{NoneHolds}
 use Rattle.refusal.proofs.Rows.{then-none, none-both}
 use Rattle.fields.specs.declared.fields.Value.{Value}
 use Rattle.fields.specs.declared.fields.Value.the-variants.{Double, Count}
-use Rattle.record.specs.declared.readings.Readings.{Readings}
+use Rattle.entries.specs.declared.Readings.{Readings}
 use Rattle.fields.specs.Bytes.{wordAt, doubleAt}
 use Rattle.fields.specs.Fields.{isCountTag, isTag, meaningOf, isCount, dataSize, tagOf, lengthOf, sizeOf, valueOf, field, headRows}
-use Rattle.record.specs.Readings.{withValue, entryOf, isPresent, orderRows, noted}
+use Rattle.record.specs.Readings.{orderRows, noted}
+use Rattle.entries.specs.Entries.{withValue, entryOf, isPresent}
 use Rattle.fields.proofs.Forms.{size-by, at-most}
 use Rattle.record.proofs.Walk.{fieldRows, read}
 use Rattle.record.proofs.Followed.{read-whole}

@@ -7,11 +7,11 @@ use native.Mathlib.Omega.{arith}
 use native.Mathlib.Numerals.{add-one}
 use lib.ListN.{length, length-append}
 use Rattle.fields.specs.declared.fields.Value.{Value}
-use Rattle.record.specs.declared.readings.Stored.{Stored}
-use Rattle.record.specs.declared.readings.Stored.the-variants.{Absent, Present}
-use Rattle.record.specs.declared.readings.Readings.{Readings}
+use Rattle.entries.specs.declared.Stored.{Stored}
+use Rattle.entries.specs.declared.Stored.the-variants.{Absent, Present}
+use Rattle.entries.specs.declared.Readings.{Readings}
 use Rattle.fields.specs.Fields.{meanings, meaningOf, dataSize}
-use Rattle.record.specs.Readings.{storedOf}
+use Rattle.entries.specs.Entries.{storedOf}
 use Rattle.fields.proofs.Forms.{at-most}
 use Rattle.writer.specs.Records.{bytes, dataOf, fieldWith, hasForm, storedField, fieldsFrom}
 use Rattle.writer.proofs.Bytes.{length-bytes}

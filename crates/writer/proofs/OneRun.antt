@@ -6,11 +6,11 @@ use Prim.Native.Nat.{ℕ, zero, suc, _+_, _≤_, _<_}
 use native.Mathlib.Omega.{arith}
 use native.Mathlib.Numerals.{add-one}
 use lib.ListN.{length}
-use Rattle.record.specs.declared.readings.Stored.{Stored}
-use Rattle.record.specs.declared.readings.Stored.the-variants.{Absent, Present}
-use Rattle.record.specs.declared.readings.Readings.{Readings}
+use Rattle.entries.specs.declared.Stored.{Stored}
+use Rattle.entries.specs.declared.Stored.the-variants.{Absent, Present}
+use Rattle.entries.specs.declared.Readings.{Readings}
 use Rattle.fields.specs.Fields.{meanings, meaningOf, isCount, tagIn}
-use Rattle.record.specs.Readings.{storedOf}
+use Rattle.entries.specs.Entries.{storedOf}
 use Rattle.writer.specs.Records.{fieldWith, hasForm, storedField, fieldsFrom, recordOf}
 use Rattle.writer.proofs.Fields.{rest, next-field}
 use Rattle.writer.proofs.Passed.{NoField, is-meant, form-tag}

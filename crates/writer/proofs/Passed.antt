@@ -10,12 +10,12 @@ use lib.ListN.{length, length-set, getD-replicate, List·getD-eq-default}
 use lib.Seq.{getD-set-same, getD-set-other, ext-getD}
 use Rattle.fields.specs.declared.fields.Value.{Value}
 use Rattle.fields.specs.declared.fields.Value.the-variants.{Double, Count}
-use Rattle.record.specs.declared.readings.Stored.{Stored}
-use Rattle.record.specs.declared.readings.Stored.the-variants.{Absent, Present}
-use Rattle.record.specs.declared.readings.Slot.{Slot}
-use Rattle.record.specs.declared.readings.Readings.{Readings}
+use Rattle.entries.specs.declared.Stored.{Stored}
+use Rattle.entries.specs.declared.Stored.the-variants.{Absent, Present}
+use Rattle.entries.specs.declared.Slot.{Slot}
+use Rattle.entries.specs.declared.Readings.{Readings}
 use Rattle.fields.specs.Fields.{meanings, isCountTag, meaningOf, tagIn, isCount}
-use Rattle.record.specs.Readings.{slotOf, noReadings, storedOf, withValue}
+use Rattle.entries.specs.Entries.{slotOf, noReadings, storedOf, withValue}
 use Rattle.fields.proofs.Forms.{from-first, tag-form, tag-meaning}
 use Rattle.writer.specs.Records.{hasForm}
 use Rattle.writer.proofs.FieldRead.{one-form}

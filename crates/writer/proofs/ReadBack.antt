@@ -7,11 +7,12 @@ use native.Mathlib.Omega.{arith}
 use borrow.Author.Tests.{le-ltb}
 use Rattle.refusal.specs.Outcomes.{accepted}
 use Rattle.fields.specs.declared.fields.Value.{Value}
-use Rattle.record.specs.declared.readings.Stored.{Stored}
-use Rattle.record.specs.declared.readings.Stored.the-variants.{Absent, Present}
-use Rattle.record.specs.declared.readings.Readings.{Readings}
+use Rattle.entries.specs.declared.Stored.{Stored}
+use Rattle.entries.specs.declared.Stored.the-variants.{Absent, Present}
+use Rattle.entries.specs.declared.Readings.{Readings}
 use Rattle.fields.specs.Fields.{meanings, isTag, meaningOf, isCount}
-use Rattle.record.specs.Readings.{noReadings, storedOf, withValue, entryFor, entryOf, isPresent, readRecord}
+use Rattle.record.specs.Readings.{readRecord}
+use Rattle.entries.specs.Entries.{noReadings, storedOf, withValue, entryFor, entryOf, isPresent}
 use Rattle.fields.proofs.Forms.{tag-known}
 use Rattle.record.proofs.Walk.{no-bytes, read}
 use Rattle.writer.specs.Records.{fieldWith, hasForm, storedField, fieldsFrom}

@@ -14,11 +14,12 @@ use Rattle.refusal.specs.Outcomes.{accepted}
 use Rattle.refusal.specs.Causes.{NoneHolds}
 use Rattle.refusal.proofs.Rows.{then-accepted, none-before}
 use Rattle.fields.specs.declared.fields.Value.{Value}
-use Rattle.record.specs.declared.readings.Stored.{Stored}
-use Rattle.record.specs.declared.readings.Stored.the-variants.{Present}
-use Rattle.record.specs.declared.readings.Readings.{Readings}
+use Rattle.entries.specs.declared.Stored.{Stored}
+use Rattle.entries.specs.declared.Stored.the-variants.{Present}
+use Rattle.entries.specs.declared.Readings.{Readings}
 use Rattle.fields.specs.Fields.{meanings, meaningOf, tagIn, isCount, tagOf, sizeOf, valueOf, field, headRows}
-use Rattle.record.specs.Readings.{slotOf, noReadings, storedOf, withValue, entryFor, entryOf, isPresent, orderRows, noted}
+use Rattle.record.specs.Readings.{orderRows, noted}
+use Rattle.entries.specs.Entries.{slotOf, noReadings, storedOf, withValue, entryFor, entryOf, isPresent}
 use Rattle.fields.proofs.Forms.{Tagged}
 use Rattle.record.proofs.Walk.{fieldRows, no-bytes, read, read-step}
 use Rattle.record.proofs.Entries.{is-new, in-order}

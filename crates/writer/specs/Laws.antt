@@ -9,10 +9,11 @@ use lib.ListN.{length, getD}
 use Rattle.refusal.specs.Outcomes.{accepted}
 use Rattle.fields.specs.declared.fields.Value.{Value}
 use Rattle.fields.specs.declared.fields.Value.the-variants.{Double, Count}
-use Rattle.record.specs.declared.readings.Stored.the-variants.{Present}
-use Rattle.record.specs.declared.readings.Readings.{Readings}
+use Rattle.entries.specs.declared.Stored.the-variants.{Present}
+use Rattle.entries.specs.declared.Readings.{Readings}
 use Rattle.fields.specs.Fields.{meanings}
-use Rattle.record.specs.Readings.{storedOf, readRecord}
+use Rattle.record.specs.Readings.{readRecord}
+use Rattle.entries.specs.Entries.{storedOf}
 use Rattle.writer.specs.Records.{recordOf}
 
 -- a value as the code holds it: a double, or a count's word of 32 bits

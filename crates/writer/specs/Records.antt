@@ -5,11 +5,11 @@ use mathlib.Core.List.{List, [], _∷_, _++_}
 use lib.Ieee.{binary64, toBits}
 use Rattle.fields.specs.declared.fields.Value.{Value}
 use Rattle.fields.specs.declared.fields.Value.the-variants.{Double, Count}
-use Rattle.record.specs.declared.readings.Stored.{Stored}
-use Rattle.record.specs.declared.readings.Stored.the-variants.{Absent, Present}
-use Rattle.record.specs.declared.readings.Readings.{Readings}
+use Rattle.entries.specs.declared.Stored.{Stored}
+use Rattle.entries.specs.declared.Stored.the-variants.{Absent, Present}
+use Rattle.entries.specs.declared.Readings.{Readings}
 use Rattle.fields.specs.Fields.{meanings, isCountTag, meaningOf, dataSize}
-use Rattle.record.specs.Readings.{storedOf}
+use Rattle.entries.specs.Entries.{storedOf}
 
 -- the last k bytes of n, the highest first
 unfoldable pub bytes : ℕ → ℕ → List ℕ

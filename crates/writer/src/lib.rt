@@ -7,6 +7,9 @@ ghost use lib.Seq.{sets};
 ghost use Rattle.fields.specs.Fields.{meanings};
 ghost use Rattle.writer.specs.Records.{bytes, dataOf, fieldWith, hasForm, storedField, fieldsFrom, recordOf};
 ghost use Rattle.writer.specs.Written.{written, lengthWritten, overwritten};
+use entries::Readings;
+use entries::Stored;
+use entries::stored_of;
 use fields::bits::pattern;
 use fields::fields::FIRST_COUNT;
 use fields::fields::FIRST_DOUBLE;
@@ -16,9 +19,6 @@ use fields::fields::Value;
 use fields::fields::data_size;
 use fields::fields::is_count_tag;
 use fields::fields::meaning_of;
-use record::readings::Readings;
-use record::readings::Stored;
-use record::readings::stored_of;
 use refusal::Refusal;
 
 // How many bytes were written, or why none was.

@@ -1,6 +1,6 @@
 -- `estimate::multiplied` meets its contract: the shifted upper word of the product is what the division adds to a. Assumes nothing.
 use mathlib.Core.Path.{_≡_, sym, ap, _∙_, subst}
-use Prim.Native.Nat.{ℕ, _+_, _*_, _/_, _%_, _^_, _≤_, _<_}
+use Prim.Native.Nat.{ℕ, _+_, _*_, _/_, _^_, _<_}
 use native.Mathlib.Nat.{add-zero, mul-add, div-div-eq-div-mul, div-eq-of-lt, mul-add-div-right}
 use borrow.Author.Needs.{needs}
 use lib.Pow.{pow-pos, pow-add}

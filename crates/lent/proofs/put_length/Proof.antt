@@ -1,5 +1,5 @@
 -- `lent::put_length` meets its contract, by the writer's answer. Assumes nothing.
-use mathlib.Core.Path.{_≡_, refl, _∙_}
+use mathlib.Core.Path.{refl, _∙_}
 use borrow.Author.Needs.{needs}
 use Rattle.lent.proofs.put_length.Statement.{statement}
 use Rattle.lent.proofs.put_length.Tie as tie

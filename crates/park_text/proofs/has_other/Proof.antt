@@ -1,7 +1,7 @@
 -- `park_text::has_other` meets its contract. Assumes nothing.
 use mathlib.Core.Path.{ap, _∙_}
 use mathlib.Core.Bool.{_||_}
-use Rattle.record.specs.Readings.{isPresent}
+use Rattle.entries.specs.Entries.{isPresent}
 use borrow.Author.Needs.{needs}
 use Rattle.park_text.proofs.has_other.Statement.{statement}
 use Rattle.park_text.proofs.has_other.Tie as tie

@@ -1,7 +1,7 @@
 -- `park_text::sheet_for` meets its contract. Assumes nothing.
 use mathlib.Core.Path.{sym, ap, ap₂, _∙_}
 use borrow.Author.Needs.{needs}
-use Rattle.record.specs.declared.readings.Entry.{Entry}
+use Rattle.entries.specs.declared.Entry.{Entry}
 use Rattle.park_text.specs.ParkText.{sheetPage, sheetFor}
 use Rattle.park_text.proofs.Held.{same-text}
 use Rattle.park_text.proofs.sheet_for.Statement.{statement}

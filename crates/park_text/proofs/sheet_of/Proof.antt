@@ -1,9 +1,9 @@
 -- `park_text::sheet_of` meets its contract. Assumes nothing.
 use mathlib.Core.Path.{_≡_, sym, ap, _∙_}
 use mathlib.Core.Bool.{Bool, cond}
-use Rattle.record.specs.declared.readings.Readings.{Readings}
+use Rattle.entries.specs.declared.Readings.{Readings}
 use Rattle.fields.specs.Fields.{altitude, humidity, measuredPressure}
-use Rattle.record.specs.Readings.{entryOf}
+use Rattle.entries.specs.Entries.{entryOf}
 use Rattle.park_text.specs.ParkText.{sheetOnly, hasOther, sheetFor, sheetOf}
 use Rattle.park_text.proofs.Held.{same-text}
 use borrow.Author.Needs.{needs}

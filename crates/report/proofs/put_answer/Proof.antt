@@ -1,7 +1,7 @@
 -- `report::put_answer` meets its contract. Assumes nothing.
 use mathlib.Core.Path.{sym, ap, _∙_}
 use borrow.Author.Needs.{needs}
-use Rattle.mast.specs.Judge.{outcome}
+use Rattle.answered.specs.Judged.{outcome}
 use Rattle.pieces.proofs.Growing.{same-more}
 use Rattle.report.specs.Report.{answerLines}
 use Rattle.report.proofs.put_answer.Statement.{statement}

@@ -1,7 +1,7 @@
 -- `text::answer_text` meets its contract. Assumes nothing.
 use mathlib.Core.Path.{sym, ap}
 use borrow.Author.Needs.{needs}
-use Rattle.mast.specs.Judge.{outcome}
+use Rattle.answered.specs.Judged.{outcome}
 use Rattle.text.proofs.Outcomes.{of-outcome}
 use Rattle.text.proofs.answer_text.Statement.{statement}
 use Rattle.text.proofs.answer_text.Tie as tie

@@ -5,8 +5,8 @@ use lib.Dec.{T, leb}
 use lib.Ieee.{Float, nan, binary64, fits, round, toBits}
 use lib.Ieee.Compare.{differs-from-itself}
 use borrow.Author.Needs.{needs}
-use Rattle.rounding.specs.Whole.{signed}
-use Rattle.rounding.proofs.Parts.{not-nan}
+use Rattle.arithmetic.specs.Whole.{signed}
+use Rattle.arithmetic.proofs.Parts.{not-nan}
 use Rattle.thousandths.specs.declared.Counted.the-variants.{Missing}
 use Rattle.thousandths.specs.Thousandths.{thousandths, nearestCount, counted, tried, countFor}
 use Rattle.thousandths.proofs.Fields.{small-count, digits-count, great-count}

@@ -15,7 +15,7 @@ use mir.Syntax.{w32}
 use mir.Val.{SFits}
 use mir.ValLaws.{toZ-ofZ}
 use borrow.Author.Needs.{needs}
-use Rattle.elementary.proofs.Products.{unlike-plus}
+use Rattle.arithmetic.proofs.Products.{unlike-plus}
 use Rattle.thousandths.specs.Thousandths.{thousandths}
 use Rattle.thousandths.proofs.double_of.Statement.{statement}
 use Rattle.thousandths.proofs.double_of.Tie as tie

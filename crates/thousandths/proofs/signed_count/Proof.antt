@@ -7,7 +7,7 @@ use lib.IntN.{ℤ}
 use mir.Syntax.{w32}
 use mir.Val.{ofZ, toZ}
 use borrow.Author.Needs.{needs}
-use Rattle.rounding.specs.Whole.{signed}
+use Rattle.arithmetic.specs.Whole.{signed}
 use Rattle.thousandths.specs.declared.Counted.the-variants.{Count}
 use Rattle.thousandths.specs.Thousandths.{countOf, counted}
 use Rattle.thousandths.specs.Laws.{InRange}

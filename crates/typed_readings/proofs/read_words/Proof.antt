@@ -6,7 +6,7 @@ use Prim.Native.Nat.{ℕ, _+_, _-_, _≤_, min}
 use native.Mathlib.Omega.{arith}
 use borrow.Author.Needs.{needs}
 use lib.ListN.{length, drop, drop-of-length-le}
-use Rattle.record.specs.declared.readings.Readings.{Readings}
+use Rattle.entries.specs.declared.Readings.{Readings}
 use Rattle.typed_readings.specs.declared.WordCheck.{WordCheck}
 use Rattle.typed_readings.specs.Words.{words}
 use Rattle.typed_readings.specs.Understood.{Understood, _⟫_, noted, understandFrom, understand, checked, understood}

@@ -4,8 +4,8 @@ use mathlib.Core.Bool.{Bool, cond}
 use Prim.Native.Nat.{ℕ}
 use borrow.Author.Needs.{needs}
 use Rattle.fields.specs.declared.fields.Value.the-variants.{Count}
-use Rattle.record.specs.declared.readings.Readings.{Readings}
-use Rattle.record.specs.Readings.{isPresent, entryOf, withValue}
+use Rattle.entries.specs.declared.Readings.{Readings}
+use Rattle.entries.specs.Entries.{isPresent, entryOf, withValue}
 use Rattle.typed_word.specs.declared.Problem.the-variants.{RepeatedWord}
 use Rattle.typed_word.specs.declared.Word.{Word}
 use Rattle.typed_word.specs.declared.Word.the-variants.{Reading}

@@ -5,9 +5,9 @@ use Prim.Native.Nat.{ℕ, _+_, _-_, _≤_}
 use native.Mathlib.Omega.{arith}
 use borrow.Author.Needs.{needs}
 use lib.ListN.{length, length-append}
-use Rattle.record.specs.declared.readings.Stored.{Stored}
+use Rattle.entries.specs.declared.Stored.{Stored}
 use Rattle.fields.specs.Fields.{meanings, meaningOf}
-use Rattle.record.specs.Readings.{storedOf}
+use Rattle.entries.specs.Entries.{storedOf}
 use Rattle.writer.specs.Records.{storedField, fieldsFrom}
 use Rattle.writer.proofs.Fields.{rest, all-fields, next-field, no-field, few}
 use Rattle.writer.proofs.fields_length.Statement.{statement}

@@ -7,9 +7,9 @@ use native.Mathlib.Omega.{arith}
 use borrow.Author.Needs.{needs}
 use lib.ListN.{length, length-append}
 use lib.Seq.{sets}
-use Rattle.record.specs.declared.readings.Stored.{Stored}
+use Rattle.entries.specs.declared.Stored.{Stored}
 use Rattle.fields.specs.Fields.{meanings}
-use Rattle.record.specs.Readings.{storedOf}
+use Rattle.entries.specs.Entries.{storedOf}
 use Rattle.writer.specs.Records.{storedField, fieldsFrom}
 use Rattle.writer.proofs.Bytes.{sets-append}
 use Rattle.writer.proofs.Fields.{rest, all-fields, next-field, no-field}

@@ -1,11 +1,12 @@
 -- `air::figures::air_figures` meets its contract. Assumes nothing.
-use mathlib.Core.Path.{_≡_, ap, ap₂, _∙_}
+use mathlib.Core.Path.{ap, _∙_}
 use borrow.Author.Needs.{needs}
 use lib.Ieee.{Float}
-use Rattle.elementary.specs.Decimals.{hundred}
-use Rattle.elementary.specs.Operators.{_⊕_, _⊗_}
-use Rattle.rounding.specs.Places.{places}
-use Rattle.humid_air.specs.MoistAir.{icePoint, moleFractionCelsius}
+use Rattle.arithmetic.specs.Decimals.{hundred}
+use Rattle.arithmetic.specs.Operators.{_⊕_, _⊗_}
+use Rattle.arithmetic.specs.Places.{places}
+use Rattle.moist_air.specs.MoistAir.{icePoint}
+use Rattle.humid_air.specs.Humidity.{moleFractionCelsius}
 use Rattle.air.specs.declared.station.Air.{Air}
 use Rattle.air.specs.declared.station.Conditions.{Conditions}
 use Rattle.air.specs.Moist.{densityOf}

@@ -2,7 +2,7 @@
 use mathlib.Core.Path.{ap, ap₂, _∙_}
 use borrow.Author.Needs.{needs}
 use lib.Ieee.{Float}
-use Rattle.rounding.specs.Places.{places}
+use Rattle.arithmetic.specs.Places.{places}
 use Rattle.air.specs.declared.moist.MoistDensity.{MoistDensity}
 use Rattle.air.specs.Moist.{densityOf}
 use Rattle.air.proofs.figures.shown_density.Statement.{statement}

@@ -1,7 +1,7 @@
 -- `air::matched::density_matched_altitude_m` meets its contract. Assumes nothing.
 use mathlib.Core.Path.{ap, _∙_}
 use borrow.Author.Needs.{needs}
-use Rattle.rounding.specs.Places.{places}
+use Rattle.arithmetic.specs.Places.{places}
 use Rattle.air.specs.declared.moist.MoistDensity.{MoistDensity}
 use Rattle.air.specs.Station.{atmosphere}
 use Rattle.air.specs.Matched.{heightOfDensity, densityMatchedAltitude}

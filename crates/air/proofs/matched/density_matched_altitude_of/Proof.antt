@@ -4,11 +4,11 @@ use mathlib.Core.Bool.{Bool, true, false, _||_, cond}
 use mathlib.Core.Logic.{⊎-elim}
 use borrow.Author.Needs.{needs}
 use lib.Ieee.{Float, ofBits, add, sub, mul, div, lt, le, eq, ne, isNan}
-use Rattle.elementary.specs.Decimals.{decimal, one}
-use Rattle.elementary.specs.Operators.{_⊖_, _⊗_, _⊘_}
+use Rattle.arithmetic.specs.Decimals.{decimal, one}
+use Rattle.arithmetic.specs.Operators.{_⊖_, _⊗_, _⊘_}
 use Rattle.elementary.specs.Exponents.{lapse}
 use Rattle.elementary.specs.Power.{powerAt}
-use Rattle.humid_air.specs.MoistAir.{moleFraction, compressibilityFactor, airDensityAt}
+use Rattle.moist_air.specs.MoistAir.{moleFraction, compressibilityFactor, airDensityAt}
 use Rattle.doubles.proofs.NotANumber.{ne-self}
 use Rattle.atmosphere.specs.Layers.{layers, baseTemperature}
 use Rattle.air.specs.Moist.{densityOf}
@@ -17,7 +17,7 @@ use Rattle.altitudes.specs.Altitudes.{tropopause, heightOfRatio, troposphereHei
 use Rattle.air.specs.Matched.{seaLevelDensity, heightOfDensity}
 use Rattle.air.proofs.matched.density_matched_altitude_of.Statement.{statement}
 use Rattle.air.proofs.matched.density_matched_altitude_of.Tie as tie
-use Rattle.rounding.specs.Places.{places}
+use Rattle.arithmetic.specs.Places.{places}
 
 -- the code's constant
 abbrev reference : Float

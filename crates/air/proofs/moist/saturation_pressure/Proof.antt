@@ -2,8 +2,8 @@
 use mathlib.Core.Path.{ap, sym, _∙_}
 use borrow.Author.Needs.{needs}
 use lib.Ieee.{Float}
-use Rattle.rounding.specs.Places.{places}
-use Rattle.humid_air.specs.MoistAir.{neededPressure}
+use Rattle.arithmetic.specs.Places.{places}
+use Rattle.humid_air.specs.Humidity.{neededPressure}
 use Rattle.air.proofs.moist.saturation_pressure.Statement.{statement}
 use Rattle.air.proofs.moist.saturation_pressure.Tie as tie
 

@@ -1,7 +1,7 @@
 -- `air::station::calculate_atmosphere` meets its contract. Assumes nothing.
 use mathlib.Core.Path.{ap, _∙_}
 use borrow.Author.Needs.{needs}
-use Rattle.rounding.specs.Places.{places}
+use Rattle.arithmetic.specs.Places.{places}
 use Rattle.air.specs.declared.station.Conditions.{Conditions}
 use Rattle.air.specs.Station.{airOf, atmosphere}
 use Rattle.air.proofs.Served.{served}

@@ -2,10 +2,10 @@
 use mathlib.Core.Path.{_≡_, refl, ap}
 use borrow.Author.Needs.{needs}
 use lib.Ieee.{Float}
-use Rattle.elementary.specs.Decimals.{hundred}
-use Rattle.elementary.specs.Operators.{_⊖_, _⊘_}
-use Rattle.rounding.specs.Places.{places}
-use Rattle.humid_air.specs.MoistAir.{icePoint}
+use Rattle.arithmetic.specs.Decimals.{hundred}
+use Rattle.arithmetic.specs.Operators.{_⊖_, _⊘_}
+use Rattle.arithmetic.specs.Places.{places}
+use Rattle.moist_air.specs.MoistAir.{icePoint}
 use Rattle.atmosphere.specs.declared.layers.StandardAir.{StandardAir}
 use Rattle.atmosphere.specs.declared.station.Reading.{Reading}
 use Rattle.atmosphere.specs.declared.station.Reading.the-variants.{FromLayer}

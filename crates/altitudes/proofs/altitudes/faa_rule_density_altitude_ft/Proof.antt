@@ -2,7 +2,7 @@
 use mathlib.Core.Path.{ap}
 use borrow.Author.Needs.{needs}
 use lib.Ieee.{Float, ofBits, mul, div}
-use Rattle.elementary.specs.Operators.{_⊕_, _⊖_, _⊗_}
+use Rattle.arithmetic.specs.Operators.{_⊕_, _⊖_, _⊗_}
 use Rattle.altitudes.specs.Altitudes.{standardFahrenheit, feetPerDegree}
 use Rattle.altitudes.proofs.altitudes.faa_rule_density_altitude_ft.Statement.{statement}
 use Rattle.altitudes.proofs.altitudes.faa_rule_density_altitude_ft.Tie as tie

@@ -5,7 +5,7 @@ use mathlib.Core.Bool.{Bool, true, false, cond}
 use Prim.Native.Nat.{ℕ}
 use borrow.Author.Needs.{needs}
 use lib.Ieee.{Float, lt}
-use Rattle.elementary.specs.Operators.{_⊕_, _⊖_, _⊗_, _⊘_}
+use Rattle.arithmetic.specs.Operators.{_⊕_, _⊖_, _⊗_, _⊘_}
 use Rattle.atmosphere.specs.Layers.{layers, baseHeight, baseTemperature, gradient, negligible, isothermal}
 use Rattle.altitudes.specs.Altitudes.{scaleHeight}
 use Rattle.altitudes.proofs.altitudes.height_in.Statement.{statement}

@@ -2,8 +2,8 @@
 use mathlib.Core.Path.{ap}
 use borrow.Author.Needs.{needs}
 use lib.Ieee.{Float}
-use Rattle.elementary.specs.Decimals.{one}
-use Rattle.elementary.specs.Operators.{_⊖_, _⊗_}
+use Rattle.arithmetic.specs.Decimals.{one}
+use Rattle.arithmetic.specs.Operators.{_⊖_, _⊗_}
 use Rattle.elementary.specs.Power.{powerAt}
 use Rattle.altitudes.specs.Altitudes.{nwsFeet}
 use Rattle.altitudes.proofs.altitudes.nws_pressure_altitude_ft.Statement.{statement}

@@ -4,14 +4,14 @@ use mathlib.Core.Bool.{Bool, true, false, _&&_, _||_, cond}
 use mathlib.Core.Logic.{⊎-elim}
 use borrow.Author.Needs.{needs}
 use lib.Ieee.{Float, le, ne, isNan}
-use Rattle.elementary.specs.Decimals.{hundred}
-use Rattle.elementary.specs.Operators.{_⊗_}
+use Rattle.arithmetic.specs.Decimals.{hundred}
+use Rattle.arithmetic.specs.Operators.{_⊗_}
 use Rattle.doubles.proofs.NotANumber.{ne-self}
 use Rattle.atmosphere.specs.Layers.{lowestHeight}
 use Rattle.altitudes.specs.Altitudes.{nwsAltitude, foot, tropopause, heightOfPressure, pressureAltitude}
 use Rattle.altitudes.proofs.altitudes.pressure_altitude_m.Statement.{statement}
 use Rattle.altitudes.proofs.altitudes.pressure_altitude_m.Tie as tie
-use Rattle.rounding.specs.Places.{places}
+use Rattle.arithmetic.specs.Places.{places}
 
 abbrev within : Float → Bool
 within h = le lowestHeight h && le h tropopause

@@ -4,8 +4,8 @@ use Prim.Native.Nat.{ℕ, suc, _<_}
 use native.Mathlib.Omega.{arith}
 use lib.ListN.{getD}
 use lib.Ieee.{Float, nan, le}
-use Rattle.elementary.specs.Decimals.{one}
-use Rattle.elementary.specs.Operators.{_⊘_}
+use Rattle.arithmetic.specs.Decimals.{one}
+use Rattle.arithmetic.specs.Operators.{_⊘_}
 use Rattle.elementary.specs.Exponents.{ofDouble, densityExponent}
 use Rattle.elementary.specs.Power.{power, powerAt}
 use Rattle.atmosphere.specs.Layers.{gradient}
@@ -15,7 +15,7 @@ use Rattle.altitudes.proofs.HeightFrom.{height-from-same}
 use Rattle.altitudes.proofs.Chained.{ratios, ratioNumbers, ratio-at, ratio-power}
 use Rattle.altitudes.proofs.altitudes.standard_altitude_above_tropopause_m.Statement.{statement}
 use Rattle.altitudes.proofs.altitudes.standard_altitude_above_tropopause_m.Tie as tie
-use Rattle.rounding.specs.Places.{places}
+use Rattle.arithmetic.specs.Places.{places}
 
 in-table : (c : tie.After-layer-from) → c .layer-from .result < 7
 unfolding ratios

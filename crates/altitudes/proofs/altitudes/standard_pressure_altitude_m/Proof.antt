@@ -13,7 +13,7 @@ use Rattle.altitudes.proofs.HeightFrom.{height-from-same}
 use Rattle.altitudes.proofs.Chained.{pressures, temperatureNumbers, pressure-at, temperature-power}
 use Rattle.altitudes.proofs.altitudes.standard_pressure_altitude_m.Statement.{statement}
 use Rattle.altitudes.proofs.altitudes.standard_pressure_altitude_m.Tie as tie
-use Rattle.rounding.specs.Places.{places}
+use Rattle.arithmetic.specs.Places.{places}
 
 in-table : (c : tie.After-layer-from) → c .layer-from .result < 7
 unfolding pressures

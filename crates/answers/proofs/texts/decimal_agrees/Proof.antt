@@ -5,11 +5,10 @@ use mathlib.Core.List.{List}
 use native.Mathlib.Omega.{arith}
 use borrow.Author.Tests.{le-leb, lt-leb}
 use lib.ListN.{getD, take, drop}
-use Rattle.decimals.specs.declared.text.DecimalText.{DecimalText}
 use Rattle.decimals.specs.Decimal.{decimalText}
 use Rattle.lines.specs.Doubles.{doubleAt}
 use Rattle.lines.specs.Text.{isText}
-use Rattle.answers.specs.Decimals.{startOf, shown}
+use Rattle.answers.specs.Decimals.{shown}
 use Rattle.answers.proofs.Sixteen.{at-most, stands}
 use borrow.Author.Needs.{needs}
 use Rattle.answers.proofs.texts.decimal_agrees.Statement.{statement}

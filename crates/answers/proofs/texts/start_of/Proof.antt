@@ -1,5 +1,4 @@
 -- `answers::texts::start_of` meets its contract. Assumes nothing.
-use borrow.Author.Needs.{needs}
 use borrow.Author.Tests.{lt-ltb, le-ltb}
 use Rattle.answers.proofs.texts.start_of.Statement.{statement}
 use Rattle.answers.proofs.texts.start_of.Tie as tie

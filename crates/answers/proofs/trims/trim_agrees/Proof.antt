@@ -7,7 +7,7 @@ use lib.Dec.{eqb}
 use lib.IntN.{ℤ, pos}
 use lib.ListN.{getD, drop, replicate}
 use borrow.Author.Tests.{ne-eqb}
-use Rattle.elementary.specs.Decimals.{nought}
+use Rattle.arithmetic.specs.Decimals.{nought}
 use Rattle.refusal.specs.Outcomes.{Outcome}
 use Rattle.trim.specs.Search.{Next, nextTrimClass}
 use Rattle.lent.specs.Lent.{statusOf, valuesAfter}

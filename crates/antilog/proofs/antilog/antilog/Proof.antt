@@ -5,10 +5,10 @@ use Prim.Native.Nat.{ℕ, _+_, _-_, _*_, _/_, _%_, _^_}
 use native.Mathlib.Omega.{arith}
 use borrow.Author.Needs.{needs}
 use lib.IntN.{ℤ, pos, negsuc, _-ℤ_}
-use Rattle.rounding.specs.Whole.{floorDiv, floorMod, digits}
-use Rattle.rounding.specs.Nearest.{nearestScaled}
+use Rattle.arithmetic.specs.Whole.{floorDiv, floorMod}
+use Rattle.arithmetic.specs.Nearest.{nearestScaled}
 use Rattle.antilog.specs.Antilog.{antilogRoot, antilog}
-use Rattle.rounding.specs.Places.{places}
+use Rattle.arithmetic.specs.Places.{places}
 use Rattle.antilog.proofs.antilog.antilog.Statement.{statement}
 use Rattle.antilog.proofs.antilog.antilog.Tie as tie
 

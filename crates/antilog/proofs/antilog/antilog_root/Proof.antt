@@ -9,7 +9,7 @@ use borrow.Author.Needs.{needs}
 use lib.Pow.{pow-pos, pow-add, shr-shr, field, mod-mod-pow}
 use Rattle.wide.specs.Root.{root}
 use Rattle.antilog.specs.Antilog.{antilogRoot}
-use Rattle.rounding.specs.Places.{places}
+use Rattle.arithmetic.specs.Places.{places}
 use Rattle.antilog.proofs.antilog.antilog_root.Statement.{statement}
 use Rattle.antilog.proofs.antilog.antilog_root.Tie as tie
 

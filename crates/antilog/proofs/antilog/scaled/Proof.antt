@@ -1,16 +1,16 @@
 -- `antilog::antilog::scaled` meets its contract: the nearest double of a quotient or of a product, by k's sign and size. Assumes nothing.
 use mathlib.Core.Path.{_≡_, sym, ap, ap₂, _∙_}
 use mathlib.Core.Bool.{Bool, false, cond}
-use Prim.Native.Nat.{ℕ, suc, _+_, _-_, _^_, _≤_, _<_}
+use Prim.Native.Nat.{ℕ, suc, _-_, _^_, _≤_, _<_}
 use native.Mathlib.Nat.{mul-one}
 use native.Mathlib.Omega.{arith}
 use borrow.Author.Needs.{needs}
-use lib.IntN.{ℤ, pos, negsuc, _-ℤ_}
+use lib.IntN.{pos, negsuc, _-ℤ_}
 use lib.Dec.{ltb, lt→ltb}
 use lib.Arith.{le→nltb}
 use lib.Ieee.{binary64, round}
 use lib.Ieee.Bits.{is-true, is-false}
-use Rattle.rounding.specs.Nearest.{nearestScaled, nearestRatio}
+use Rattle.arithmetic.specs.Nearest.{nearestScaled, nearestRatio}
 use Rattle.antilog.proofs.antilog.scaled.Statement.{statement}
 use Rattle.antilog.proofs.antilog.scaled.Tie as tie
 

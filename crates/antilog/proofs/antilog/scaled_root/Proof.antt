@@ -7,9 +7,8 @@ use borrow.Author.Needs.{needs}
 use lib.IntN.{ℤ, pos, negsuc, _-ℤ_}
 use lib.Dec.{T}
 use lib.Ieee.{Float, le}
-use Rattle.rounding.specs.Nearest.{nearestScaled}
-use Rattle.antilog.specs.Antilog.{antilogRoot}
-use Rattle.rounding.specs.Places.{places}
+use Rattle.arithmetic.specs.Nearest.{nearestScaled}
+use Rattle.arithmetic.specs.Places.{places}
 use Rattle.antilog.proofs.Range.{antilogRoot-mantissa}
 use Rattle.antilog.proofs.Window.{Window, window, rounds-alike}
 use Rattle.antilog.proofs.antilog.scaled_root.Statement.{statement}

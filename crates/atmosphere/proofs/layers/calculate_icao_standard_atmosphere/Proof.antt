@@ -4,8 +4,8 @@ use native.Mathlib.Omega.{arith}
 use Prim.Native.Nat.{ℕ, _<_}
 use borrow.Author.Needs.{needs}
 use lib.Ieee.{Float}
-use Rattle.elementary.specs.Operators.{_⊖_}
-use Rattle.rounding.specs.Places.{places}
+use Rattle.arithmetic.specs.Operators.{_⊖_}
+use Rattle.arithmetic.specs.Places.{places}
 use Rattle.atmosphere.specs.Layers.{layers, baseHeight, standardHeight, layerAt, layerTemperature, layerAir, standardAir}
 use Rattle.atmosphere.proofs.LayerNumber.{layer-lt}
 use Rattle.atmosphere.proofs.layers.calculate_icao_standard_atmosphere.Statement.{statement}

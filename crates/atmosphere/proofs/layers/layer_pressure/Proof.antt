@@ -7,14 +7,14 @@ use native.Mathlib.Omega.{arith}
 use borrow.Author.Needs.{needs}
 use lib.ListN.{getD}
 use lib.Ieee.{Float, ofBits, lt}
-use Rattle.elementary.specs.Operators.{_⊗_}
+use Rattle.arithmetic.specs.Operators.{_⊗_}
 use Rattle.elementary.specs.Exponents.{ofDouble, pressureExponent}
 use Rattle.elementary.specs.Power.{power, powerAt}
 use Rattle.doubles.specs.Doubles.{absDouble}
 use Rattle.atmosphere.specs.Layers.{layers, basePressure, gradient, negligible, isothermal, isothermalPressure, gradientPressure, layerPressure}
 use Rattle.atmosphere.proofs.layers.layer_pressure.Statement.{statement}
 use Rattle.atmosphere.proofs.layers.layer_pressure.Tie as tie
-use Rattle.rounding.specs.Places.{places}
+use Rattle.arithmetic.specs.Places.{places}
 
 -- the code's numbers of the layers' exponents
 numbers : List ℕ

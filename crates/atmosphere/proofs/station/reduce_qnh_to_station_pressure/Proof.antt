@@ -2,13 +2,13 @@
 use mathlib.Core.Path.{ap, ap₂, _∙_}
 use borrow.Author.Needs.{needs}
 use lib.Ieee.{Float, ofBits}
-use Rattle.elementary.specs.Decimals.{one}
-use Rattle.elementary.specs.Operators.{_⊕_, _⊗_, _⊘_}
+use Rattle.arithmetic.specs.Decimals.{one}
+use Rattle.arithmetic.specs.Operators.{_⊕_, _⊗_, _⊘_}
 use Rattle.elementary.specs.Power.{powerAt}
 use Rattle.atmosphere.specs.Layers.{layers, baseTemperature, gradient}
 use Rattle.atmosphere.proofs.station.reduce_qnh_to_station_pressure.Statement.{statement}
 use Rattle.atmosphere.proofs.station.reduce_qnh_to_station_pressure.Tie as tie
-use Rattle.rounding.specs.Places.{places}
+use Rattle.arithmetic.specs.Places.{places}
 
 returns : tie.Need-returns
 unfolding layers ofBits powerAt

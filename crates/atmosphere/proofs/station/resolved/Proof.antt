@@ -3,7 +3,7 @@ use mathlib.Core.Path.{_≡_, sym, ap, ap₂, _∙_}
 use mathlib.Core.Bool.{Bool, _&&_, cond}
 use borrow.Author.Needs.{needs}
 use lib.Ieee.{Float, lt}
-use Rattle.elementary.specs.Decimals.{one}
+use Rattle.arithmetic.specs.Decimals.{one}
 use Rattle.doubles.specs.Doubles.{absDouble}
 use Rattle.atmosphere.specs.declared.station.Reading.the-variants.{Given, FromLayer}
 use Rattle.atmosphere.specs.Station.{resolved}

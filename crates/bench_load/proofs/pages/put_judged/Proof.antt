@@ -8,7 +8,7 @@ use borrow.Author.Needs.{needs}
 use lib.ListN.{length, take, set, length-set, length-append, length-map}
 use lib.Seq.{sets}
 use Rattle.refusal.specs.Outcomes.{Outcome}
-use Rattle.station.specs.declared.figures.Figures.{Figures}
+use Rattle.answered.specs.declared.judge.Figures.{Figures}
 use Rattle.writer.proofs.Bytes.{sets-append}
 use Rattle.text.specs.Text.{answerText}
 use Rattle.mast.specs.Judge.{judge}

@@ -10,7 +10,7 @@ use lib.Seq.{sets, take-at}
 use Rattle.refusal.specs.Outcomes.{Outcome}
 use Rattle.writer.specs.Written.{lengthWritten, overwritten}
 use Rattle.writer.proofs.Room.{room}
-use Rattle.bench_load.specs.Records.{loadRecord}
+use Rattle.load_writer.specs.Records.{loadRecord}
 use Rattle.bench_load.specs.Text.{judgedText, recordText, lengthOf}
 use Rattle.bench_load.proofs.Every.{short}
 use Rattle.bench_load.proofs.pages.put_record.Statement.{statement}

@@ -8,10 +8,10 @@ use borrow.Author.Needs.{needs}
 use lib.Dec.{lit<}
 use lib.IntN.{pos}
 use lib.Ieee.{Float, fin}
-use Rattle.rounding.specs.declared.nearest.Parts.the-variants.{Finite}
-use Rattle.rounding.specs.Nearest.{unitsOf}
-use Rattle.rounding.specs.Parts.{TakenApart}
-use Rattle.rounding.proofs.Parts.{told, finite-of-parts, units-of-parts}
+use Rattle.arithmetic.specs.declared.double.Parts.the-variants.{Finite}
+use Rattle.arithmetic.specs.Nearest.{unitsOf}
+use Rattle.arithmetic.specs.Parts.{TakenApart}
+use Rattle.arithmetic.proofs.Parts.{told, finite-of-parts, units-of-parts}
 use Rattle.decimals.specs.Decimal.{nearestCount, countText, decimalText}
 use Rattle.decimals.specs.Places.{inSixteen}
 use Rattle.decimals.proofs.TooLong.{as-if}

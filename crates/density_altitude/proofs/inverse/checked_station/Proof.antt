@@ -4,8 +4,8 @@ use mathlib.Core.Bool.{Bool, not}
 use mathlib.Core.List.{[], _∷_}
 use borrow.Author.Needs.{needs}
 use lib.Ieee.{Float}
-use Rattle.refusal.specs.Outcomes.{Outcome, accepted, row, _then_}
-use Rattle.density_altitude.specs.declared.inverse.Station.{Station}
+use Rattle.refusal.specs.Outcomes.{accepted, row, _then_}
+use Rattle.answered.specs.declared.inverse.Station.{Station}
 use Rattle.density_altitude.specs.Inverse.{hasAir, airRows}
 use Rattle.density_altitude.proofs.inverse.checked_station.Statement.{statement}
 use Rattle.density_altitude.proofs.inverse.checked_station.Tie as tie

@@ -2,8 +2,8 @@
 use mathlib.Core.Path.{_≡_, sym, ap, ap₂, _∙_}
 use mathlib.Core.Bool.{Bool, not, _&&_, Bool·not-not}
 use borrow.Author.Needs.{needs}
-use Rattle.elementary.specs.Decimals.{nought}
-use Rattle.density_altitude.specs.declared.inverse.Station.{Station}
+use Rattle.arithmetic.specs.Decimals.{nought}
+use Rattle.answered.specs.declared.inverse.Station.{Station}
 use Rattle.density_altitude.specs.Inverse.{isFiniteAbove, absoluteZero}
 use Rattle.density_altitude.proofs.inverse.has_air.Statement.{statement}
 use Rattle.density_altitude.proofs.inverse.has_air.Tie as tie

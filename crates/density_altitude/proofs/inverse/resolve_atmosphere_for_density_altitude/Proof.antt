@@ -5,7 +5,7 @@ use lib.Ieee.{ofBits, add, mul, div}
 use Rattle.density_altitude.specs.Inverse.{resolve}
 use Rattle.density_altitude.proofs.inverse.resolve_atmosphere_for_density_altitude.Statement.{statement}
 use Rattle.density_altitude.proofs.inverse.resolve_atmosphere_for_density_altitude.Tie as tie
-use Rattle.rounding.specs.Places.{places}
+use Rattle.arithmetic.specs.Places.{places}
 
 returns : tie.Need-returns
 unfolding ofBits add mul div

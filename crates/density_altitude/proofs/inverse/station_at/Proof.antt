@@ -2,7 +2,7 @@
 use mathlib.Core.Path.{ap}
 use borrow.Author.Needs.{needs}
 use lib.Ieee.{Float, ofBits, div}
-use Rattle.elementary.specs.Operators.{_⊗_}
+use Rattle.arithmetic.specs.Operators.{_⊗_}
 use Rattle.elementary.specs.Power.{powerAt}
 use Rattle.atmosphere.specs.Station.{standardPressure}
 use Rattle.altitudes.specs.Altitudes.{foot}

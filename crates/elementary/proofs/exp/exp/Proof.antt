@@ -8,19 +8,19 @@ use lib.IntN.{ℤ, pos, _*ℤ_}
 use lib.Dec.{T, lit<, lit≤}
 use lib.Ieee.{Float, nan, inf, fin, binary64, ofBits, neg, odd, fits, le, isNan}
 use lib.Ieee.Bits.{is-true}
-use Rattle.rounding.specs.declared.nearest.Parts.the-variants.{Finite}
-use Rattle.rounding.specs.declared.word.Word.{Word}
-use Rattle.rounding.specs.Whole.{signed, floorDiv, wordValue}
-use Rattle.rounding.specs.Nearest.{unitsOf}
-use Rattle.rounding.specs.Parts.{TakenApart, Digits}
+use Rattle.arithmetic.specs.declared.double.Parts.the-variants.{Finite}
+use Rattle.arithmetic.specs.declared.word.Word.{Word}
+use Rattle.arithmetic.specs.Whole.{signed, floorDiv, wordValue}
+use Rattle.arithmetic.specs.Nearest.{unitsOf}
+use Rattle.arithmetic.specs.Parts.{TakenApart, Digits}
 use Rattle.elementary.specs.Power.{infinityOrZero}
 use Rattle.antilog.specs.Antilog.{antilog}
 use Rattle.elementary.specs.Exp.{log2e, expTop, expBottom, expWithin, exp}
-use Rattle.rounding.specs.Places.{places}
-use Rattle.rounding.proofs.Integers.{pos-le, opposites}
-use Rattle.rounding.proofs.Order.{le-of-count}
-use Rattle.rounding.proofs.Parts.{told, finite-of-parts, units-of-parts, parts-fit}
-use Rattle.rounding.proofs.Times.{word-value, word-short}
+use Rattle.arithmetic.specs.Places.{places}
+use Rattle.arithmetic.proofs.Integers.{pos-le, opposites}
+use Rattle.arithmetic.proofs.Order.{le-of-count}
+use Rattle.arithmetic.proofs.Parts.{told, finite-of-parts, units-of-parts, parts-fit}
+use Rattle.arithmetic.proofs.Times.{word-value, word-short}
 use Rattle.elementary.proofs.exp.exp.Statement.{statement}
 use Rattle.elementary.proofs.exp.exp.Tie as tie
 

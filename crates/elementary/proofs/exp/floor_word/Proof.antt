@@ -11,13 +11,13 @@ use lib.Dec.{lit≤}
 use lib.IntN.{ℤ}
 use Rattle.wide.specs.declared.words.Wide.{Wide}
 use Rattle.wide.specs.Value.{value}
-use Rattle.rounding.specs.declared.word.Word.{Word}
-use Rattle.rounding.specs.Whole.{signed, floorDiv, asWord}
-use Rattle.rounding.specs.Parts.{Digits}
-use Rattle.rounding.specs.Places.{places}
+use Rattle.arithmetic.specs.declared.word.Word.{Word}
+use Rattle.arithmetic.specs.Whole.{signed, floorDiv, asWord}
+use Rattle.arithmetic.specs.Parts.{Digits}
+use Rattle.arithmetic.specs.Places.{places}
 use Rattle.rounding.proofs.Carried.{low-word, low-remainder}
-use Rattle.rounding.proofs.Times.{same-word}
-use Rattle.rounding.proofs.Floor.{moved-by, floor-is, floor-below, opposite-is, quotient-lt, one-less}
+use Rattle.arithmetic.proofs.Times.{same-word}
+use Rattle.arithmetic.proofs.Floor.{moved-by, floor-is, floor-below, opposite-is, quotient-lt, one-less}
 use Rattle.elementary.proofs.exp.floor_word.Statement.{statement}
 use Rattle.elementary.proofs.exp.floor_word.Tie as tie
 

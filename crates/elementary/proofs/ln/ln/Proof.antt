@@ -4,11 +4,11 @@ use mathlib.Core.Bool.{Bool, true, false}
 use Prim.Native.Nat.{ℕ}
 use borrow.Author.Needs.{needs}
 use lib.Ieee.{Float, nan, inf, ofBits, nanBits, div, odd}
-use Rattle.rounding.specs.declared.nearest.Parts.the-variants.{Infinite, Finite}
-use Rattle.rounding.specs.Parts.{TakenApart}
+use Rattle.arithmetic.specs.declared.double.Parts.the-variants.{Infinite, Finite}
+use Rattle.arithmetic.specs.Parts.{TakenApart}
 use Rattle.elementary.specs.Ln.{lnPositive, ln}
-use Rattle.rounding.specs.Places.{places}
-use Rattle.rounding.proofs.Parts.{told, signed-parts, finite-of-parts}
+use Rattle.arithmetic.specs.Places.{places}
+use Rattle.arithmetic.proofs.Parts.{told, signed-parts, finite-of-parts}
 use Rattle.elementary.proofs.ln.ln.Statement.{statement}
 use Rattle.elementary.proofs.ln.ln.Tie as tie
 

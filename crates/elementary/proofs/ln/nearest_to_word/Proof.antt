@@ -6,10 +6,10 @@ use native.Mathlib.Omega.{arith}
 use borrow.Author.Needs.{needs}
 use lib.IntN.{pos, negsuc}
 use lib.Ieee.{binary64, neg}
-use Rattle.rounding.specs.Whole.{digits}
-use Rattle.rounding.specs.Nearest.{nearestRatio}
-use Rattle.rounding.specs.Places.{places}
-use Rattle.rounding.proofs.Rounding.{round-opposite}
+use Rattle.arithmetic.specs.Whole.{digits}
+use Rattle.arithmetic.specs.Nearest.{nearestRatio}
+use Rattle.arithmetic.specs.Places.{places}
+use Rattle.arithmetic.proofs.Rounding.{round-opposite}
 use Rattle.elementary.proofs.ln.nearest_to_word.Statement.{statement}
 use Rattle.elementary.proofs.ln.nearest_to_word.Tie as tie
 

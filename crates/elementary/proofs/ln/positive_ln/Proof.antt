@@ -6,14 +6,14 @@ use native.Mathlib.Nat.{lt-of-lt-of-le}
 use borrow.Author.Needs.{needs}
 use lib.Dec.{lit<, lit≤}
 use lib.IntN.{ℤ, pos, _*ℤ_}
-use Rattle.rounding.specs.declared.word.Word.{Word}
-use Rattle.rounding.specs.Whole.{floorDiv, wordValue}
-use Rattle.rounding.specs.Nearest.{nearestRatio}
+use Rattle.arithmetic.specs.declared.word.Word.{Word}
+use Rattle.arithmetic.specs.Whole.{floorDiv, wordValue}
+use Rattle.arithmetic.specs.Nearest.{nearestRatio}
 use Rattle.antilog.specs.Log.{wordOfUnits}
 use Rattle.elementary.specs.Ln.{ln2}
-use Rattle.rounding.specs.Places.{places}
-use Rattle.rounding.proofs.Parts.{units-of-parts}
-use Rattle.rounding.proofs.Times.{word-value, word-short, times-small}
+use Rattle.arithmetic.specs.Places.{places}
+use Rattle.arithmetic.proofs.Parts.{units-of-parts}
+use Rattle.arithmetic.proofs.Times.{word-value, word-short, times-small}
 use Rattle.elementary.proofs.ln.positive_ln.Statement.{statement}
 use Rattle.elementary.proofs.ln.positive_ln.Tie as tie
 

@@ -6,7 +6,7 @@ use native.Mathlib.Nat.{le-refl, le-trans, le-of-eq, zero-add, add-zero, mul-one
 use native.Mathlib.Omega.{arith}
 use lib.Pow.{pow-pos}
 use Rattle.antilog.specs.Log.{squared, bitOf, nextOf, logBits}
-use Rattle.rounding.specs.Places.{places}
+use Rattle.arithmetic.specs.Places.{places}
 use Rattle.antilog.proofs.Range.{Mantissa, bit-cases, bit-le, squared-lt, next-mantissa}
 use Rattle.elementary.proofs.log.log_bits.Statement.{statement}
 use Rattle.elementary.proofs.log.log_bits.Tie as tie

@@ -1,15 +1,15 @@
 -- `elementary::log::log_of_digits` meets its contract: the significand moved up is the mantissa, and the place of its highest digit the exponent.
 -- Assumes nothing.
 use mathlib.Core.Path.{_≡_, refl, sym, ap, _∙_, subst}
-use Prim.Native.Nat.{ℕ, _-_, _*_, _^_, _≤_, _<_}
+use Prim.Native.Nat.{ℕ, _*_, _^_, _≤_, _<_}
 use native.Mathlib.Omega.{arith}
 use borrow.Author.Needs.{needs}
 use lib.Count.{leadingZeros}
 use mathlib.Core.Bool.{true, false}
 use Rattle.antilog.specs.Log.{logBits, mantissaOf}
-use Rattle.rounding.specs.Places.{places}
+use Rattle.arithmetic.specs.Places.{places}
 use Rattle.antilog.proofs.Range.{logBits-lt}
-use Rattle.rounding.proofs.Times.{same-word}
+use Rattle.arithmetic.proofs.Times.{same-word}
 use Rattle.antilog.proofs.LogDigits.{Leading, leading, moved-up, moved-mantissa, units-mantissa, units-above, units-below}
 use Rattle.elementary.proofs.log.log_of_digits.Statement.{statement}
 use Rattle.elementary.proofs.log.log_of_digits.Tie as tie

@@ -5,13 +5,11 @@ use Prim.Native.Nat.{ℕ, _+_, _*_, _^_}
 use lib.IntN.{pos, negℤ}
 use native.Mathlib.Omega.{arith}
 use borrow.Author.Needs.{needs}
-use Rattle.rounding.specs.Whole.{asWord}
-use Rattle.rounding.specs.Places.{places}
-use Rattle.rounding.proofs.Times.{same-word, opposite-positive}
+use Rattle.arithmetic.specs.Whole.{asWord}
+use Rattle.arithmetic.specs.Places.{places}
+use Rattle.arithmetic.proofs.Times.{same-word, opposite-positive}
 use Rattle.elementary.proofs.multiples.opposite.Statement.{statement}
 use Rattle.elementary.proofs.multiples.opposite.Tie as tie
-use Rattle.elementary.proofs.multiples.opposite.Reads as reads
-use Rattle.elementary.proofs.multiples.opposite.Lts as lts
 
 add-t9 : tie.Need-add-t9
 add-t9 c = search needs

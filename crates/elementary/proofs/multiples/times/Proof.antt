@@ -7,9 +7,9 @@ use native.Mathlib.Omega.{arith}
 use borrow.Author.Needs.{needs}
 use lib.Dec.{lit≤}
 use lib.Pow.{pow-pos, pow-add}
-use Rattle.rounding.specs.Whole.{digits}
-use Rattle.rounding.specs.Places.{places}
-use Rattle.rounding.proofs.Times.{remaining, extraOf, above-point, below-point, times-word, same-word}
+use Rattle.arithmetic.specs.Whole.{digits}
+use Rattle.arithmetic.specs.Places.{places}
+use Rattle.arithmetic.proofs.Times.{remaining, extraOf, above-point, below-point, times-word, same-word}
 use Rattle.rounding.proofs.Carried.{one-moved, Quotients, quotients}
 use Rattle.elementary.proofs.multiples.times.Statement.{statement}
 use Rattle.elementary.proofs.multiples.times.Tie as tie

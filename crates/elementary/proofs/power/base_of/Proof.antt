@@ -2,9 +2,9 @@
 use mathlib.Core.Path.{sym, subst}
 use mathlib.Core.Bool.{false}
 use borrow.Author.Needs.{needs}
-use Rattle.rounding.specs.declared.word.Word.{Word}
+use Rattle.arithmetic.specs.declared.word.Word.{Word}
 use Rattle.elementary.specs.Base.{LoggedParts}
-use Rattle.rounding.proofs.Parts.{told}
+use Rattle.arithmetic.proofs.Parts.{told}
 use Rattle.elementary.proofs.power.base_of.Statement.{statement}
 use Rattle.elementary.proofs.power.base_of.Tie as tie
 

@@ -7,13 +7,13 @@ use lib.Dec.{ltb}
 use lib.Arith.{le→nltb}
 use lib.Ieee.{Float, nan, ofBits, div}
 use lib.Ieee.Bits.{is-false}
-use Rattle.rounding.specs.declared.nearest.Parts.{Parts}
+use Rattle.arithmetic.specs.declared.double.Parts.{Parts}
 use Rattle.elementary.specs.Base.{LoggedParts}
 use Rattle.elementary.specs.Exponents.{exponentAt}
-use Rattle.rounding.specs.Parts.{fromParts, TakenApart}
+use Rattle.arithmetic.specs.Parts.{fromParts, TakenApart}
 use Rattle.elementary.specs.Power.{power, powerAt}
-use Rattle.rounding.specs.Places.{places}
-use Rattle.rounding.proofs.Parts.{told}
+use Rattle.arithmetic.specs.Places.{places}
+use Rattle.arithmetic.proofs.Parts.{told}
 use Rattle.elementary.proofs.PowerCases.{in-table}
 use Rattle.elementary.proofs.power.base_power.Statement.{statement}
 use Rattle.elementary.proofs.power.base_power.Tie as tie

@@ -5,7 +5,7 @@ use borrow.Author.Needs.{needs}
 use lib.Ieee.{Float, nan, ofBits, neg, div, odd}
 use Rattle.elementary.specs.Exponents.{exponentAt, isThree, isFour}
 use Rattle.elementary.specs.Power.{positivePower, power}
-use Rattle.rounding.specs.Places.{places}
+use Rattle.arithmetic.specs.Places.{places}
 use Rattle.elementary.proofs.Exponents.{is-three, not-three, is-four, not-four}
 use Rattle.elementary.proofs.PowerCases.{finite-positive, finite-negative}
 use Rattle.elementary.proofs.power.finite_power.Statement.{statement}

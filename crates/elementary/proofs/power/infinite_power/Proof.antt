@@ -5,7 +5,7 @@ use borrow.Author.Needs.{needs}
 use lib.Ieee.{inf, neg}
 use Rattle.elementary.specs.Exponents.{exponentAt}
 use Rattle.elementary.specs.Power.{infinityOrZero, power}
-use Rattle.rounding.specs.Places.{places}
+use Rattle.arithmetic.specs.Places.{places}
 use Rattle.elementary.proofs.Exponents.{is-three, not-three}
 use Rattle.elementary.proofs.PowerCases.{infinite-three, infinite-other, infinite-positive}
 use Rattle.elementary.proofs.power.infinite_power.Statement.{statement}

@@ -7,15 +7,15 @@ use native.Mathlib.Nat.{lt-of-lt-of-le, lt-of-le-of-lt}
 use borrow.Author.Needs.{needs}
 use lib.Dec.{lit<, lit≤}
 use lib.IntN.{ℤ, pos, negℤ, _*ℤ_}
-use Rattle.rounding.specs.declared.word.Word.{Word}
-use Rattle.rounding.specs.Whole.{signed, floorDiv, wordValue, asWord}
+use Rattle.arithmetic.specs.declared.word.Word.{Word}
+use Rattle.arithmetic.specs.Whole.{signed, floorDiv, wordValue, asWord}
 use Rattle.antilog.specs.Log.{wordOfUnits}
 use Rattle.antilog.specs.Antilog.{antilog}
 use Rattle.elementary.specs.Exponents.{exponentAt}
-use Rattle.rounding.specs.Places.{places}
+use Rattle.arithmetic.specs.Places.{places}
 use Rattle.elementary.proofs.Exponents.{magnitude-pos}
-use Rattle.rounding.proofs.Parts.{units-of-parts}
-use Rattle.rounding.proofs.Times.{word-value, word-short, opposite-small, times-sign}
+use Rattle.arithmetic.proofs.Parts.{units-of-parts}
+use Rattle.arithmetic.proofs.Times.{word-value, word-short, opposite-small, times-sign}
 use Rattle.elementary.proofs.power.positive_power.Statement.{statement}
 use Rattle.elementary.proofs.power.positive_power.Tie as tie
 

@@ -6,7 +6,7 @@ use lib.IntN.{pos}
 use lib.Ieee.{fin, neg}
 use Rattle.elementary.specs.Exponents.{exponentAt}
 use Rattle.elementary.specs.Power.{infinityOrZero, power}
-use Rattle.rounding.specs.Places.{places}
+use Rattle.arithmetic.specs.Places.{places}
 use Rattle.elementary.proofs.Exponents.{is-three, not-three}
 use Rattle.elementary.proofs.PowerCases.{zero-three, zero-other, zero-positive}
 use Rattle.elementary.proofs.power.zero_power.Statement.{statement}

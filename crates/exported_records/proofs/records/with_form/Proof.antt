@@ -1,5 +1,5 @@
 -- `exported_records::records::with_form` meets its contract, by the form. Assumes nothing.
-use mathlib.Core.Path.{_≡_, refl}
+use mathlib.Core.Path.{refl}
 use borrow.Author.Needs.{needs}
 use borrow.Author.Tests.{eq-eqb, ne-eqb}
 use Rattle.exported_records.specs.Records.{withForm}

@@ -4,7 +4,7 @@ use borrow.Author.Needs.{needs}
 use lib.Dec.{T}
 use lib.Ieee.{binary64, toBits}
 use lib.Ieee.Compare.{differs-from-itself}
-use Rattle.rounding.proofs.Parts.{not-nan}
+use Rattle.arithmetic.proofs.Parts.{not-nan}
 use Rattle.fields.proofs.bits.pattern.Statement.{statement}
 use Rattle.fields.proofs.bits.pattern.Tie as tie
 

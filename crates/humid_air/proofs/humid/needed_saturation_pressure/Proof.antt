@@ -1,7 +1,7 @@
 -- `humid_air::humid::needed_saturation_pressure` meets its contract, in dry air and in humid air. Assumes nothing.
 use mathlib.Core.Path.{sym}
 use borrow.Author.Needs.{needs}
-use Rattle.humid_air.specs.MoistAir.{neededPressure}
+use Rattle.humid_air.specs.Humidity.{neededPressure}
 use Rattle.humid_air.proofs.humid.needed_saturation_pressure.Statement.{statement}
 use Rattle.humid_air.proofs.humid.needed_saturation_pressure.Tie as tie
 

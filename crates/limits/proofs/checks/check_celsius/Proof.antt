@@ -1,6 +1,6 @@
 -- `limits::checks::check_celsius` meets its contract. Assumes nothing.
 use mathlib.Core.Path.{sym, ap, _∙_}
-use Rattle.record.specs.declared.readings.Entry.{Entry}
+use Rattle.entries.specs.declared.Entry.{Entry}
 use Rattle.refusal.specs.Outcomes.{passed}
 use Rattle.limits.specs.Checks.{present}
 use Rattle.density_altitude.specs.Inverse.{temperatureRows}

@@ -1,9 +1,9 @@
 -- `limits::checks::check_humidity` meets its contract. Assumes nothing.
 use mathlib.Core.Path.{sym, ap, _∙_}
-use Rattle.record.specs.declared.readings.Entry.{Entry}
+use Rattle.entries.specs.declared.Entry.{Entry}
 use mathlib.Core.List.{[], _∷_}
 use lib.Ieee.{lt}
-use Rattle.elementary.specs.Decimals.{nought, hundred}
+use Rattle.arithmetic.specs.Decimals.{nought, hundred}
 use Rattle.refusal.specs.Outcomes.{row, passed}
 use Rattle.refusal.proofs.Rows.{first-passed}
 use Rattle.limits.specs.Checks.{finiteRows, humidityRows, present}

@@ -2,11 +2,10 @@
 use mathlib.Core.Path.{ap, _∙_}
 use mathlib.Core.Bool.{Bool, not}
 use mathlib.Core.List.{[], _∷_}
-use Rattle.record.specs.declared.readings.Entry.{Entry}
 use Rattle.refusal.specs.Outcomes.{row, passed}
 use Rattle.refusal.proofs.Rows.{first-passed}
 use Rattle.fields.specs.Fields.{altitude}
-use Rattle.record.specs.Readings.{isPresent}
+use Rattle.entries.specs.Entries.{isPresent}
 use Rattle.limits.specs.Checks.{has, valueRows}
 use borrow.Author.Needs.{needs}
 use Rattle.limits.proofs.checks.check_ordinary.Statement.{statement}

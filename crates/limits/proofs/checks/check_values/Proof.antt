@@ -2,12 +2,12 @@
 use mathlib.Core.Path.{_≡_, ap, _∙_}
 use mathlib.Core.List.{List, _++_}
 use lib.Ieee.{Float}
-use Rattle.record.specs.declared.readings.Entry.{Entry}
+use Rattle.entries.specs.declared.Entry.{Entry}
 use Rattle.refusal.specs.Outcomes.{Outcome, Row, passed}
 use Rattle.refusal.proofs.Rows.{first-passed}
 use Rattle.density_altitude.specs.Inverse.{temperatureRows}
 use Rattle.fields.specs.Fields.{altitude, temperature, stationPressure, qnh, humidity, measuredPressure}
-use Rattle.record.specs.Readings.{entryOf}
+use Rattle.entries.specs.Entries.{entryOf}
 use Rattle.limits.specs.Checks.{finiteRows, pressureRows, humidityRows, present}
 use borrow.Author.Needs.{needs}
 use Rattle.limits.proofs.checks.check_values.Statement.{statement}

@@ -1,6 +1,6 @@
 -- `lines::doubles::stand_on` meets its contract. The loop's invariant: `all` says whether the values passed stand on their words.
 -- Assumes nothing.
-use mathlib.Core.Path.{_≡_, sym}
+use mathlib.Core.Path.{sym}
 use Prim.Native.Nat.{_≤_, _-_}
 use native.Mathlib.Omega.{arith}
 use lib.Ieee.{nan}

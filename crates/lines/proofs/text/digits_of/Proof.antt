@@ -1,6 +1,6 @@
 -- `lines::text::digits_of` meets its contract. The loop's invariant: the places passed are filled with the word's digits.
 -- Assumes nothing.
-use Prim.Native.Nat.{ℕ, _-_}
+use Prim.Native.Nat.{_-_}
 use native.Mathlib.Nat.{mod-lt}
 use native.Mathlib.Omega.{arith}
 use lib.Dec.{lit<}

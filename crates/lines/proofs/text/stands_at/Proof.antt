@@ -1,6 +1,6 @@
 -- `lines::text::stands_at` meets its contract. The loop's invariant: all of the text matches where the bytes passed do and the others will.
 -- Assumes nothing.
-use mathlib.Core.Path.{_≡_, refl}
+use mathlib.Core.Path.{refl}
 use Prim.Native.Nat.{_≤_, _-_}
 use native.Mathlib.Omega.{arith}
 use lib.Dec.{eqb}

@@ -1,6 +1,6 @@
 -- `lines::whole::whole_stand_on` meets its contract. The loop's invariant: `all` says whether the values passed stand on their words.
 -- Assumes nothing.
-use mathlib.Core.Path.{_≡_, sym, ap, _∙_}
+use mathlib.Core.Path.{sym, ap, _∙_}
 use Prim.Native.Nat.{_≤_, _-_}
 use native.Mathlib.Omega.{arith}
 use lib.Dec.{eqb}

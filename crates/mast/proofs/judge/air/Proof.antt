@@ -3,9 +3,9 @@ use mathlib.Core.Path.{_≡_, refl, sym, ap, ap₂, _∙_}
 use mathlib.Core.Bool.{Bool, not, cond}
 use mathlib.Core.List.{[]}
 use lib.Ieee.{lt}
-use Rattle.elementary.specs.Decimals.{one}
+use Rattle.arithmetic.specs.Decimals.{one}
 use Rattle.refusal.specs.Outcomes.{Outcome, accepted, refused}
-use Rattle.station.specs.declared.figures.Figures.{Figures}
+use Rattle.answered.specs.declared.judge.Figures.{Figures}
 use Rattle.station.specs.declared.figures.StationFigures.{StationFigures}
 use Rattle.resolved.specs.declared.resolved.Resolved.{Resolved}
 use Rattle.station.specs.Figures.{stationFigures, isAir}

@@ -1,13 +1,13 @@
 -- `mast::judge::humid_air` meets its contract. Assumes nothing.
 use mathlib.Core.Path.{_≡_, ap, _∙_}
-use Rattle.record.specs.declared.readings.Entry.{Entry}
+use Rattle.entries.specs.declared.Entry.{Entry}
 use Rattle.refusal.specs.declared.Check.{Check}
 use Rattle.refusal.specs.Outcomes.{_⟫_, checked, passed}
 use Rattle.refusal.proofs.Rows.{after-check}
-use Rattle.density_altitude.specs.declared.inverse.Station.{Station}
-use Rattle.record.specs.declared.readings.Readings.{Readings}
+use Rattle.answered.specs.declared.inverse.Station.{Station}
+use Rattle.entries.specs.declared.Readings.{Readings}
 use Rattle.fields.specs.Fields.{humidity}
-use Rattle.record.specs.Readings.{entryOf}
+use Rattle.entries.specs.Entries.{entryOf}
 use Rattle.limits.specs.Checks.{humidityRows, present}
 use Rattle.resolved.specs.Resolved.{atStation}
 use Rattle.mast.specs.Judge.{airOutcome, humidOutcome}

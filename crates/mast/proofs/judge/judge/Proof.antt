@@ -2,7 +2,7 @@
 use mathlib.Core.Path.{refl, ap, _∙_}
 use borrow.Author.Needs.{needs}
 use Rattle.refusal.specs.Outcomes.{Outcome, _⟫_}
-use Rattle.record.specs.declared.readings.Readings.{Readings}
+use Rattle.entries.specs.declared.Readings.{Readings}
 use Rattle.mast.specs.Judge.{judged, judge}
 use Rattle.mast.proofs.judge.judge.Statement.{statement}
 use Rattle.mast.proofs.judge.judge.Tie as tie

@@ -2,19 +2,14 @@
 use mathlib.Core.Path.{_≡_, refl, sym, ap, _∙_}
 use mathlib.Core.Bool.{Bool, cond}
 use mathlib.Core.List.{[]}
-use lib.Ieee.{Float}
-use Rattle.rounding.specs.Places.{places}
 use Rattle.refusal.specs.Outcomes.{Outcome, accepted, refused, _then_}
 use Rattle.refusal.proofs.Rows.{then-append}
-use Rattle.density_altitude.specs.Inverse.{stationRows}
-use Rattle.record.specs.declared.readings.Entry.{Entry}
-use Rattle.record.specs.declared.readings.Entry.the-variants.{Absent, Present}
-use Rattle.record.specs.declared.readings.Readings.{Readings}
-use Rattle.fields.specs.Fields.{temperature, densityAltitude}
-use Rattle.record.specs.Readings.{entryOf}
-use Rattle.station.specs.declared.figures.Figures.{Figures}
-use Rattle.limits.specs.Checks.{isClash, ordinaryRows}
-use Rattle.resolved.specs.Resolved.{ordinary, givenTemperature}
+use Rattle.entries.specs.declared.Entry.{Entry}
+use Rattle.entries.specs.declared.Readings.{Readings}
+use Rattle.fields.specs.Fields.{densityAltitude}
+use Rattle.entries.specs.Entries.{entryOf}
+use Rattle.answered.specs.declared.judge.Figures.{Figures}
+use Rattle.limits.specs.Checks.{isClash}
 use Rattle.station.specs.Figures.{figuresOf}
 use Rattle.mast.specs.Judge.{airRows, airOutcome, wayRows, resolvedBy, judged, ordinaryOutcome, stationOutcome}
 use borrow.Author.Needs.{needs}

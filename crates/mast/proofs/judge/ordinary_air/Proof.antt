@@ -1,9 +1,9 @@
 -- `mast::judge::ordinary_air` meets its contract. Assumes nothing.
-use mathlib.Core.Path.{_≡_, sym, ap, _∙_}
+use mathlib.Core.Path.{_≡_, ap, _∙_}
 use Rattle.refusal.specs.declared.Check.{Check}
 use Rattle.refusal.specs.Outcomes.{_⟫_, checked, passed}
 use Rattle.refusal.proofs.Rows.{after-check}
-use Rattle.record.specs.declared.readings.Readings.{Readings}
+use Rattle.entries.specs.declared.Readings.{Readings}
 use Rattle.limits.specs.Checks.{ordinaryRows}
 use Rattle.resolved.specs.Resolved.{ordinary}
 use Rattle.mast.specs.Judge.{airOutcome, ordinaryOutcome}

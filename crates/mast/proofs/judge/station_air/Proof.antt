@@ -1,17 +1,17 @@
 -- `mast::judge::station_air` meets its contract. Assumes nothing.
 use mathlib.Core.Path.{_≡_, sym, ap, _∙_}
 use lib.Ieee.{Float}
-use Rattle.rounding.specs.Places.{places}
+use Rattle.arithmetic.specs.Places.{places}
 use Rattle.atmosphere.specs.declared.station.Reading.{Reading}
-use Rattle.refusal.specs.Outcomes.{Outcome, accepted, _⟫_, _then_}
+use Rattle.refusal.specs.Outcomes.{Outcome, accepted, _⟫_}
 use Rattle.refusal.proofs.Rows.{then-append, then-next}
-use Rattle.density_altitude.specs.declared.inverse.Station.{Station}
-use Rattle.density_altitude.specs.declared.inverse.Answer.{Answer}
+use Rattle.answered.specs.declared.inverse.Station.{Station}
+use Rattle.answered.specs.declared.inverse.Answer.{Answer}
 use Rattle.density_altitude.specs.Inverse.{resolve, stationRows, station}
-use Rattle.density_altitude.specs.Inverse as inverse
-use Rattle.record.specs.declared.readings.Readings.{Readings}
+use Rattle.answered.specs.Inverted as inverse
+use Rattle.entries.specs.declared.Readings.{Readings}
 use Rattle.fields.specs.Fields.{temperature, humidity}
-use Rattle.record.specs.Readings.{entryOf}
+use Rattle.entries.specs.Entries.{entryOf}
 use Rattle.limits.specs.Checks.{humidityRows, present}
 use Rattle.resolved.specs.Resolved.{givenTemperature, atStation}
 use Rattle.mast.specs.Judge.{airOutcome, humidOutcome, stationOutcome}

@@ -2,8 +2,8 @@
 use mathlib.Core.Path.{sym, ap, _∙_}
 use mathlib.Core.Bool.{Bool, _&&_}
 use lib.Ieee.{lt}
-use Rattle.elementary.specs.Decimals.{nought, one}
-use Rattle.elementary.specs.Operators.{_⊘_}
+use Rattle.arithmetic.specs.Decimals.{nought, one}
+use Rattle.arithmetic.specs.Operators.{_⊘_}
 use Rattle.middle.proofs.Zeros.{plus-zero}
 use Rattle.middle.proofs.middle.is_plus_zero.Statement.{statement}
 use Rattle.middle.proofs.middle.is_plus_zero.Tie as tie

@@ -10,7 +10,7 @@ use prog.Model.{Model}
 use prog.Wp.{Heap}
 use contract.Monad.{fact, factI}
 use contract.Running.{GhostRules, Running, givenOf}
-use types.Kit.{Given, ‵, raw, _$_, _∵_, !, qed, move, drop, use1, fsplit, suffices, done}
+use types.Kit.{Given, ‵, raw, _$_, _∵_, !, qed, move, use1, suffices, done}
 use types.Run.{look, init, forget, stop, from, load, and-then, no-more, land, returns, enter, alloc1, alloc0, params1, pass1, pass0, free1, free0}
 use denote.RattleType.{owns}
 use denote.Plain.{uint-vals, uint-tells}

@@ -7,8 +7,9 @@ use borrow.Author.Needs.{needs}
 use lib.Dec.{ltb}
 use Rattle.refusal.specs.Outcomes.{accepted, refused}
 use Rattle.fields.specs.declared.fields.Field.{Field}
-use Rattle.record.specs.declared.readings.Readings.{Readings}
-use Rattle.record.specs.Readings.{isPresent, entryOf, noted, withField}
+use Rattle.entries.specs.declared.Readings.{Readings}
+use Rattle.record.specs.Readings.{noted, withField}
+use Rattle.entries.specs.Entries.{isPresent, entryOf}
 use Rattle.record.proofs.readings.with_field.Statement.{statement}
 use Rattle.record.proofs.readings.with_field.Tie as tie
 

@@ -1,5 +1,4 @@
 -- `resolved::resolved::at_station` meets its contract. Assumes nothing.
-use mathlib.Core.Path.{ap, _∙_}
 use borrow.Author.Needs.{needs}
 use Rattle.resolved.proofs.resolved.at_station.Statement.{statement}
 use Rattle.resolved.proofs.resolved.at_station.Tie as tie

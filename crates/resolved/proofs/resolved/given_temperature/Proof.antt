@@ -1,6 +1,5 @@
 -- `resolved::resolved::given_temperature` meets its contract. Assumes nothing.
 use mathlib.Core.Path.{sym, ap}
-use Rattle.record.specs.declared.readings.Entry.{Entry}
 use Rattle.resolved.specs.Resolved.{givenTemperature}
 use borrow.Author.Needs.{needs}
 use Rattle.resolved.proofs.resolved.given_temperature.Statement.{statement}

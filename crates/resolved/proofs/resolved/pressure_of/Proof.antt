@@ -1,9 +1,9 @@
 -- `resolved::resolved::pressure_of` meets its contract. Assumes nothing.
 use mathlib.Core.Path.{_≡_, sym, ap, ap₂, _∙_}
-use Rattle.record.specs.declared.readings.Entry.{Entry}
-use Rattle.record.specs.declared.readings.Readings.{Readings}
+use Rattle.entries.specs.declared.Entry.{Entry}
+use Rattle.entries.specs.declared.Readings.{Readings}
 use Rattle.fields.specs.Fields.{measuredPressure, stationPressure, qnh}
-use Rattle.record.specs.Readings.{entryOf}
+use Rattle.entries.specs.Entries.{entryOf}
 use Rattle.resolved.specs.declared.resolved.Pressure.{Pressure}
 use Rattle.resolved.specs.Resolved.{unmeasuredPressure, measuredOr, pressureOf}
 use borrow.Author.Needs.{needs}

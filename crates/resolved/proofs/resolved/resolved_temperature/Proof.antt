@@ -1,6 +1,6 @@
 -- `resolved::resolved::resolved_temperature` meets its contract. Assumes nothing.
 use mathlib.Core.Path.{sym, ap, _∙_}
-use Rattle.record.specs.declared.readings.Entry.{Entry}
+use Rattle.entries.specs.declared.Entry.{Entry}
 use Rattle.resolved.specs.Resolved.{resolvedTemperature}
 use borrow.Author.Needs.{needs}
 use Rattle.resolved.proofs.resolved.resolved_temperature.Statement.{statement}

@@ -1,6 +1,6 @@
 -- `resolved::resolved::unmeasured_pressure` meets its contract. Assumes nothing.
 use mathlib.Core.Path.{sym, ap, ap₂}
-use Rattle.record.specs.declared.readings.Entry.{Entry}
+use Rattle.entries.specs.declared.Entry.{Entry}
 use Rattle.resolved.specs.Resolved.{unmeasuredPressure}
 use borrow.Author.Needs.{needs}
 use Rattle.resolved.proofs.resolved.unmeasured_pressure.Statement.{statement}

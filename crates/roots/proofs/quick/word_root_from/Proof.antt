@@ -1,10 +1,9 @@
 -- `roots::quick::word_root_from` meets its contract: two steps of Newton's iteration from the table's entry lead to the root or one more. Assumes nothing.
 use mathlib.Core.Path.{_≡_, _∙_, subst}
-use Prim.Native.Nat.{ℕ, zero, suc, _+_, _-_, _*_, _/_, _^_, _≤_, _<_, suc-le-suc}
+use Prim.Native.Nat.{ℕ, zero, suc, _+_, _-_, _*_, _^_, _≤_, _<_, suc-le-suc}
 use native.Mathlib.Nat.{le-trans, mul-mul-mul-comm, mul-le-mul, mul-le-mul-right}
 use native.Mathlib.Numerals.{add-one}
 use native.Mathlib.Omega.{arith}
-use Rattle.wide.specs.Root.{root}
 use Rattle.wide.proofs.Root.{is-root, roots-le}
 use Rattle.roots.proofs.roots.Newton.{step, step-above, step-near, quotient-lt}
 use Rattle.roots.proofs.roots.Halves.{next-square}

@@ -1,7 +1,7 @@
 -- `rounding::nearest::nearer` meets its contract: the comparisons are those that decide `nearest`. Assumes nothing.
 use native.Mathlib.Omega.{arith}
 use borrow.Author.Needs.{needs}
-use Rattle.rounding.proofs.Closest.{nearer-down, nearer-up, nearer-even}
+use Rattle.arithmetic.proofs.Closest.{nearer-down, nearer-up, nearer-even}
 use Rattle.rounding.proofs.nearest.nearer.Statement.{statement}
 use Rattle.rounding.proofs.nearest.nearer.Tie as tie
 

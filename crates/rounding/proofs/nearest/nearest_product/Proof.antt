@@ -7,7 +7,7 @@ use native.Mathlib.Omega.{arith}
 use lib.Pow.{pow-pos}
 use lib.Ieee.{binary64, nanBits}
 use borrow.Author.Needs.{needs}
-use Rattle.rounding.proofs.Scaled.{infinite-bits, product-as, zero-bits}
+use Rattle.arithmetic.proofs.Scaled.{infinite-bits, product-as, zero-bits}
 use Rattle.rounding.proofs.nearest.nearest_product.Statement.{statement}
 use Rattle.rounding.proofs.nearest.nearest_product.Tie as tie
 

@@ -8,7 +8,7 @@ use native.Mathlib.Omega.{arith}
 use lib.Pow.{pow-pos, pow-mono}
 use lib.Ieee.{binary64, round, ofBits}
 use borrow.Author.Needs.{needs}
-use Rattle.rounding.proofs.Scaled.{pattern-at-most, subnormal-bits, pattern-no-nan, quotient-as, quotient-under, zero-bits}
+use Rattle.arithmetic.proofs.Scaled.{pattern-at-most, subnormal-bits, pattern-no-nan, quotient-as, quotient-under, zero-bits}
 use Rattle.rounding.proofs.nearest.nearest_quotient.Statement.{statement}
 use Rattle.rounding.proofs.nearest.nearest_quotient.Tie as tie
 

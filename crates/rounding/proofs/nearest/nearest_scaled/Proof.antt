@@ -14,7 +14,7 @@ use mir.Syntax.{w64}
 use mir.Val.{Fits, SFits, ofZ, toZ}
 use mir.ValLaws.{toZ-ofZ}
 use borrow.Author.Needs.{needs}
-use Rattle.rounding.specs.Nearest.{nearestScaled}
+use Rattle.arithmetic.specs.Nearest.{nearestScaled}
 use Rattle.rounding.proofs.nearest.nearest_scaled.Statement.{statement}
 use Rattle.rounding.proofs.nearest.nearest_scaled.Tie as tie
 

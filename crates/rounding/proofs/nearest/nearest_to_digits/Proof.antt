@@ -8,8 +8,8 @@ use lib.Dec.{lit≤}
 use lib.IntN.{pos}
 use Rattle.wide.specs.declared.words.Wide.{Wide}
 use Rattle.wide.specs.Value.{value}
-use Rattle.rounding.specs.Nearest.{nearestRatio}
-use Rattle.rounding.specs.Places.{places}
+use Rattle.arithmetic.specs.Nearest.{nearestRatio}
+use Rattle.arithmetic.specs.Places.{places}
 use Rattle.rounding.proofs.Carried.{no-carry}
 use Rattle.rounding.proofs.nearest.nearest_to_digits.Statement.{statement}
 use Rattle.rounding.proofs.nearest.nearest_to_digits.Tie as tie

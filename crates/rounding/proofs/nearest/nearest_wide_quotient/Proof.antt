@@ -14,9 +14,9 @@ use lib.Ieee.{binary64, ofBits, nearest}
 use lib.Ieee.Nearest.{closest}
 use Rattle.wide.specs.declared.words.Wide.{Wide}
 use Rattle.wide.specs.Value.{value}
-use Rattle.rounding.specs.Nearest.{nearestRatio}
+use Rattle.arithmetic.specs.Nearest.{nearestRatio}
 use Rattle.rounding.proofs.Carried.{low-word, low-remainder, one-moved}
-use Rattle.rounding.proofs.Scaled.{pattern-at-most, normal-bits, pattern-no-nan, quotient-as}
+use Rattle.arithmetic.proofs.Scaled.{pattern-at-most, normal-bits, pattern-no-nan, quotient-as}
 use Rattle.rounding.proofs.nearest.nearest_wide_quotient.Statement.{statement}
 use Rattle.rounding.proofs.nearest.nearest_wide_quotient.Tie as tie
 

@@ -5,7 +5,7 @@ use Prim.Native.Nat.{ℕ, _+_, _*_, _^_, _≤_}
 use native.Mathlib.Omega.{arith}
 use lib.Ieee.{binary64, ofBits}
 use borrow.Author.Needs.{needs}
-use Rattle.rounding.proofs.Scaled.{pattern-at-most, normal-bits, pattern-no-nan}
+use Rattle.arithmetic.proofs.Scaled.{pattern-at-most, normal-bits, pattern-no-nan}
 use Rattle.rounding.proofs.nearest.normal.Statement.{statement}
 use Rattle.rounding.proofs.nearest.normal.Tie as tie
 

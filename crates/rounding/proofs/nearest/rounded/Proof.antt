@@ -8,7 +8,7 @@ use lib.Pow.{pow-pos, pow-mono}
 use lib.Ieee.Nearest.{closest}
 use borrow.Author.Needs.{needs}
 use Rattle.rounding.proofs.Carried.{one-moved}
-use Rattle.rounding.proofs.Closest.{closest-none, closest-one}
+use Rattle.arithmetic.proofs.Closest.{closest-none, closest-one}
 use Rattle.rounding.proofs.nearest.rounded.Statement.{statement}
 use Rattle.rounding.proofs.nearest.rounded.Tie as tie
 

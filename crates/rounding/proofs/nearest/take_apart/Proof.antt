@@ -5,7 +5,7 @@ use lib.Dec.{T}
 use lib.Ieee.{binary64, fits}
 use lib.Ieee.Compare.{differs-from-itself}
 use borrow.Author.Needs.{needs}
-use Rattle.rounding.proofs.Parts.{in-one-way, not-nan, infinite-apart, zero-apart, subnormal-apart, normal-apart}
+use Rattle.arithmetic.proofs.Parts.{in-one-way, not-nan, infinite-apart, zero-apart, subnormal-apart, normal-apart}
 use Rattle.rounding.proofs.nearest.take_apart.Statement.{statement}
 use Rattle.rounding.proofs.nearest.take_apart.Tie as tie
 

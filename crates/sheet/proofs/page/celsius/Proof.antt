@@ -12,7 +12,7 @@ use lib.Ieee.{binary64, minus, ofInt}
 use mir.Val.{SFits, toZ}
 use mir.Facts.{toZ-pos, toZ-ofZ}
 use mir.Syntax.{w32}
-use Rattle.rounding.proofs.Differences.{minus-is}
+use Rattle.arithmetic.proofs.Differences.{minus-is}
 use Rattle.sheet.specs.Sheet.{celsius}
 use Rattle.sheet.proofs.page.celsius.Statement.{statement}
 use Rattle.sheet.proofs.page.celsius.Tie as tie

@@ -1,7 +1,7 @@
 -- `sheet::row::write_row` meets its contract, by what the station's air says. Assumes nothing.
 use mathlib.Core.Path.{sym, ap, _∙_}
 use borrow.Author.Needs.{needs}
-use Rattle.mast.specs.Judge.{outcome}
+use Rattle.answered.specs.Judged.{outcome}
 use Rattle.sheet.specs.Over.{after}
 use Rattle.sheet.specs.Sheet.{bare}
 use Rattle.sheet.proofs.Outcomes.{air-refused, air-accepted}

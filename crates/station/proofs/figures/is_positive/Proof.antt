@@ -2,7 +2,7 @@
 use mathlib.Core.Path.{ap}
 use mathlib.Core.Bool.{Bool, _&&_}
 use lib.Ieee.{lt}
-use Rattle.elementary.specs.Decimals.{nought}
+use Rattle.arithmetic.specs.Decimals.{nought}
 use borrow.Author.Needs.{needs}
 use Rattle.station.proofs.figures.is_positive.Statement.{statement}
 use Rattle.station.proofs.figures.is_positive.Tie as tie

@@ -3,7 +3,7 @@ use mathlib.Core.Path.{_≡_, sym, ap, _∙_}
 use Prim.Native.Nat.{ℕ}
 use borrow.Author.Needs.{needs}
 use Rattle.refusal.specs.Outcomes.{Outcome, _⟫_}
-use Rattle.record.specs.declared.readings.Readings.{Readings}
+use Rattle.entries.specs.declared.Readings.{Readings}
 use Rattle.trim_class.specs.declared.classes.Class.{Class}
 use Rattle.trim_class.specs.Classes.{classified, classOf}
 use Rattle.trim.specs.Search.{nextWith, nextOf}

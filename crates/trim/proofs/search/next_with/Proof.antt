@@ -3,10 +3,10 @@ use mathlib.Core.Path.{_≡_, refl, sym, ap₂, _∙_}
 use Prim.Native.Nat.{ℕ}
 use borrow.Author.Needs.{needs}
 use Rattle.refusal.specs.Outcomes.{_⟫_}
-use Rattle.record.specs.declared.readings.Entry.{Entry}
-use Rattle.record.specs.declared.readings.Readings.{Readings}
+use Rattle.entries.specs.declared.Entry.{Entry}
+use Rattle.entries.specs.declared.Readings.{Readings}
 use Rattle.fields.specs.Fields.{temperature, measuredPressure}
-use Rattle.record.specs.Readings.{entryOf}
+use Rattle.entries.specs.Entries.{entryOf}
 use Rattle.trim.specs.Search.{nextFrom, startOf, nextWith}
 use Rattle.trim.proofs.search.next_with.Statement.{statement}
 use Rattle.trim.proofs.search.next_with.Tie as tie

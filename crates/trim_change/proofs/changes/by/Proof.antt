@@ -1,8 +1,8 @@
 -- `trim_change::changes::by` meets its contract, by the direction. Assumes nothing.
 use mathlib.Core.Path.{sym, ap}
 use borrow.Author.Needs.{needs}
-use Rattle.elementary.specs.Decimals.{decimal}
-use Rattle.elementary.specs.Operators.{_⊘_}
+use Rattle.arithmetic.specs.Decimals.{decimal}
+use Rattle.arithmetic.specs.Operators.{_⊘_}
 use Rattle.trim_change.specs.declared.changes.Direction.{Direction}
 use Rattle.trim_change.specs.Changes.{count}
 use Rattle.trim_change.proofs.changes.by.Statement.{statement}

@@ -2,10 +2,11 @@
 use mathlib.Core.Path.{_≡_, sym, ap, _∙_}
 use borrow.Author.Needs.{needs}
 use Rattle.refusal.specs.Outcomes.{Outcome, accepted, _⟫_}
-use Rattle.record.specs.declared.readings.Readings.{Readings}
-use Rattle.station.specs.declared.figures.Figures.{Figures}
-use Rattle.mast.specs.declared.judge.Answer.{Answer}
-use Rattle.mast.specs.Judge.{outcome, judged}
+use Rattle.entries.specs.declared.Readings.{Readings}
+use Rattle.answered.specs.declared.judge.Figures.{Figures}
+use Rattle.answered.specs.declared.judge.Answer.{Answer}
+use Rattle.mast.specs.Judge.{judged}
+use Rattle.answered.specs.Judged.{outcome}
 use Rattle.trim_class.specs.Classes.{trimClass, classOf}
 use Rattle.trim_class.proofs.classes.class_of.Statement.{statement}
 use Rattle.trim_class.proofs.classes.class_of.Tie as tie

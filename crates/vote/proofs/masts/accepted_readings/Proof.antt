@@ -6,12 +6,13 @@ use Prim.Native.Nat.{ℕ}
 use borrow.Author.Needs.{needs}
 use Rattle.refusal.specs.declared.Check.{Check}
 use Rattle.refusal.specs.Outcomes.{Outcome, accepted, _⟫_, checked}
-use Rattle.record.specs.declared.readings.Readings.{Readings}
+use Rattle.entries.specs.declared.Readings.{Readings}
 use Rattle.record.specs.declared.readings.Read.{Read}
 use Rattle.record.specs.Readings.{readRecord, readOutcome}
-use Rattle.station.specs.declared.figures.Figures.{Figures}
-use Rattle.mast.specs.declared.judge.Answer.{Answer}
-use Rattle.mast.specs.Judge.{outcome, judged}
+use Rattle.answered.specs.declared.judge.Figures.{Figures}
+use Rattle.answered.specs.declared.judge.Answer.{Answer}
+use Rattle.mast.specs.Judge.{judged}
+use Rattle.answered.specs.Judged.{outcome}
 use Rattle.vote.specs.Vote.{acceptedReadings}
 use Rattle.vote.proofs.masts.accepted_readings.Statement.{statement}
 use Rattle.vote.proofs.masts.accepted_readings.Tie as tie

@@ -5,13 +5,12 @@ use Prim.Native.Nat.{ℕ}
 use borrow.Author.Needs.{needs}
 use Rattle.refusal.specs.declared.Check.{Check}
 use Rattle.refusal.specs.Outcomes.{Outcome, accepted, _⟫_, checked}
-use Rattle.record.specs.declared.readings.Readings.{Readings}
+use Rattle.entries.specs.declared.Readings.{Readings}
 use Rattle.record.specs.declared.readings.Read.{Read}
 use Rattle.record.specs.Readings.{readOutcome}
-use Rattle.mast.specs.declared.judge.Answer.{Answer}
-use Rattle.mast.specs.Judge.{outcome}
-use Rattle.voted.specs.Fields.{votedOutcome}
-use Rattle.vote.specs.Vote.{VoteOutcome, byNoMast, acceptedReadings, afterMast, vote}
+use Rattle.answered.specs.declared.judge.Answer.{Answer}
+use Rattle.answered.specs.Judged.{outcome}
+use Rattle.vote.specs.Vote.{VoteOutcome, byNoMast, acceptedReadings, afterMast, vote, votedOutcome}
 use Rattle.vote.proofs.masts.vote.Statement.{statement}
 use Rattle.vote.proofs.masts.vote.Tie as tie
 

@@ -3,10 +3,10 @@ use mathlib.Core.Path.{_≡_, ap, _∙_}
 use Prim.Native.Nat.{ℕ}
 use lib.Ieee.{Float}
 use borrow.Author.Needs.{needs}
-use Rattle.record.specs.declared.readings.Entry.{Entry}
-use Rattle.record.specs.declared.readings.Entry.the-variants.{Present}
-use Rattle.record.specs.declared.readings.Readings.{Readings}
-use Rattle.record.specs.Readings.{withEntry}
+use Rattle.entries.specs.declared.Entry.{Entry}
+use Rattle.entries.specs.declared.Entry.the-variants.{Present}
+use Rattle.entries.specs.declared.Readings.{Readings}
+use Rattle.entries.specs.Entries.{withEntry}
 use Rattle.middle.specs.Middle.{middle}
 use Rattle.voted.specs.Fields.{withMiddle}
 use Rattle.voted.proofs.by_field.with_middle.Statement.{statement}

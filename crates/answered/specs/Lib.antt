@@ -1,0 +1,3 @@
+-- What answers stand for.
+pub mod Judged
+pub mod Inverted

@@ -1,0 +1,22 @@
+-- The laws of the definitions, a file for each idea.
+pub mod Integers
+pub mod Order
+pub mod Rounding
+pub mod Parts
+pub mod Closest
+pub mod Pattern
+pub mod Scaled
+pub mod Size
+pub mod Units
+pub mod Times
+pub mod Floor
+pub mod Strict
+pub mod Differences
+pub mod Decimals
+pub mod CommonDenominator
+pub mod Sums
+pub mod Products
+pub mod Between
+pub mod Near
+pub mod Counts
+pub mod Apart

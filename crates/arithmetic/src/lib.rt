@@ -1,0 +1,4 @@
+// Doubles as numbers: the shapes that the definitions and laws of this crate speak of. What computes with
+// them is `rounding` and above.
+pub mod double;
+pub mod word;

@@ -1,0 +1,2 @@
+-- What the contracts of `case_reader` cite.
+pub mod Within

@@ -1,0 +1,22 @@
+-- `entries::stored_of` meets its contract. Assumes nothing.
+use mathlib.Core.Path.{_≡_, sym, ap}
+use Prim.Native.Nat.{_≤_}
+use native.Mathlib.Omega.{arith}
+use borrow.Author.Needs.{needs}
+use lib.ListN.{length-map, length, List·getD-eq-default}
+use Rattle.entries.specs.declared.Slot.{Slot}
+use Rattle.entries.specs.declared.Stored.the-variants.{Absent}
+use Rattle.fields.specs.Fields.{meanings}
+use Rattle.entries.specs.Entries.{slotOf}
+use Rattle.entries.proofs.stored_of.Statement.{statement}
+use Rattle.entries.proofs.stored_of.Tie as tie
+
+returns : tie.Need-returns
+returns c =
+    let a = c .before .args in
+    let all : length (a .readings .slots) ≡ meanings = simp length-map at (c .before .good .0 .1 .1 .0 .1 .0 .1) in
+    let past : length (a .readings .slots) ≤ a .meaning = omega arith in
+    sym (ap (λ (s : Slot). s .stored) (List·getD-eq-default (a .readings .slots) (slotOf Absent) past))
+
+pub stored-of-spec : {M : Type 1} → statement M
+stored-of-spec = tie.close (tie.spec returns (λ c. search needs) (λ c. search needs) (λ c. search needs))

@@ -1,0 +1,2 @@
+-- What the contracts of `entries` cite: readings by meaning.
+pub mod Entries

@@ -1,0 +1,2 @@
+-- What the contracts of `list_shapes` cite.
+pub mod Shapes

@@ -1,0 +1,2 @@
+-- What the contracts of `load_writer` cite: the readings and the bytes of record n.
+pub mod Records

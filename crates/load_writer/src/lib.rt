@@ -1,0 +1,2 @@
+// The records of the load, written.
+pub mod records;

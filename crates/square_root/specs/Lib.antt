@@ -1,0 +1,2 @@
+-- What the contracts of `square_root` cite.
+pub mod Sqrt

@@ -1,0 +1,2 @@
+// The square root of a double.
+pub mod sqrt;
