@@ -7,8 +7,6 @@ use altitudes::altitudes::standard_altitude_above_tropopause_m;
 use altitudes::altitudes::standard_pressure_altitude_m;
 use atmosphere::layers::geometric_to_geopotential_height_m;
 use atmosphere::station::Reading;
-use atmosphere::station::in_legacy_default_pressure_band;
-use atmosphere::station::in_legacy_default_temperature_band;
 use density_altitude::inverse::resolve_atmosphere_for_density_altitude;
 use exported_air::functions::station_air_density_matched_altitude_m;
 use exported_air::functions::station_air_faa_density_altitude_ft;
@@ -34,6 +32,8 @@ use moist_air::mixture::enhanced_compressibility_factor;
 use moist_air::mixture::enhanced_enhancement_factor;
 use moist_air::mixture::moist_molar_mass_ratio;
 use moist_air::mixture::vapor_mole_fraction;
+use resolvers::in_legacy_default_pressure_band;
+use resolvers::in_legacy_default_temperature_band;
 use saturation::saturation::enhanced_saturation_vapor_pressure;
 
 // Whether a line of the layers' list agrees.

@@ -14,12 +14,12 @@ use altitudes::altitudes::faa_rule_density_altitude_ft;
 use altitudes::altitudes::nws_pressure_altitude_ft;
 use altitudes::altitudes::pressure_altitude_m;
 use atmosphere::station::Reading;
-use atmosphere::station::reduce_qnh_to_station_pressure;
-use atmosphere::station::resolve_station_pressure;
-use atmosphere::station::resolve_station_temperature;
 use elementary::exp::exp;
 use elementary::ln::ln;
 use humid_air::humid::water_vapor_mole_fraction_uncapped;
+use resolvers::reduce_qnh_to_station_pressure;
+use resolvers::resolve_station_pressure;
+use resolvers::resolve_station_temperature;
 use square_root::sqrt::sqrt;
 
 // e to the power x.

@@ -4,9 +4,6 @@ ghost use mathlib.Core.Path.{_≡_};
 ghost use Rattle.resolved.specs.Resolved.{unmeasuredPressure, pressureOf, resolvedTemperature, resolvedPressure, givenTemperature, ordinary, atStation};
 use answered::inverse::Station;
 use atmosphere::station::Reading;
-use atmosphere::station::reduce_qnh_to_station_pressure;
-use atmosphere::station::resolve_station_pressure;
-use atmosphere::station::resolve_station_temperature;
 use entries::Entry;
 use entries::Readings;
 use entries::entry_of;
@@ -17,6 +14,9 @@ use fields::fields::MEASURED_PRESSURE;
 use fields::fields::QNH;
 use fields::fields::STATION_PRESSURE;
 use fields::fields::TEMPERATURE;
+use resolvers::reduce_qnh_to_station_pressure;
+use resolvers::resolve_station_pressure;
+use resolvers::resolve_station_temperature;
 
 pub enum Pressure {
     Station(f64),
