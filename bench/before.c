@@ -3,11 +3,12 @@
 #define _POSIX_C_SOURCE 200809L
 #include <stdbool.h>
 #include <stddef.h>
-#include <stdint.h>
 #include <stdio.h>
 #include <stdlib.h>
 #include <string.h>
 #include <time.h>
+
+#include "timing.h"
 
 #define DECLARED(prefix) \
     double prefix##station_air_antilog(bool negative, uint32_t whole, uint64_t part); \
@@ -20,17 +21,7 @@
 DECLARED()
 DECLARED(before_)
 
-enum { INPUTS = 250, RUNS = 101 };
-
-static uint64_t state;
-
-/* SplitMix64 */
-static uint64_t drawn(void) {
-    uint64_t z = state += 0x9E3779B97F4A7C15;
-    z = (z ^ z >> 30) * 0xBF58476D1CE4E5B9;
-    z = (z ^ z >> 27) * 0x94D049BB133111EB;
-    return z ^ z >> 31;
-}
+enum { INPUTS = 250, RUNS = 101, RECORD_SIZE = 44, JUNK = 3 };
 
 static double between(double low, double high) {
     return low + (high - low) * ((double)(drawn() >> 11) * 0x1p-53);
@@ -38,9 +29,9 @@ static double between(double low, double high) {
 
 static uint64_t parts[INPUTS];
 static double ratios[INPUTS];
-static uint8_t records[INPUTS][44];
+static uint8_t records[INPUTS][RECORD_SIZE + JUNK];
 
-/* Altitude, temperature, station pressure and humidity in document 01's ranges, as doubles. */
+/* Altitude, temperature, station pressure and humidity in document 01's ranges, as doubles; then a tag that is none. */
 static void fill(void) {
     static const double ends[4][2] = {{-500, 5000}, {-40, 50}, {500, 1100}, {1, 100}};
     static const uint8_t tags[4] = {1, 2, 3, 5};
@@ -58,6 +49,7 @@ static void fill(void) {
             for (int k = 0; k < 8; k++)
                 at[3 + k] = (uint8_t)(bits >> (56 - 8 * k));
         }
+        memset(records[i] + RECORD_SIZE, 0xFF, JUNK);
     }
 }
 
@@ -81,10 +73,10 @@ static double search_of(uint32_t next(const uint8_t *, size_t, double *, size_t,
     return status * 1e9 + answer[0] * 1e6 + answer[1] * 1e4 + answer[2] + answer[3] * 1e3;
 }
 
-static double density_of(uint32_t judge(const uint8_t *, size_t, double *, size_t, bool *), int i) {
+static double judged(uint32_t judge(const uint8_t *, size_t, double *, size_t, bool *), int i, size_t n) {
     double places[8] = {0};
     bool in_range = false;
-    uint32_t status = judge(records[i], sizeof records[i], places, 8, &in_range);
+    uint32_t status = judge(records[i], n, places, 8, &in_range);
     double sum = status + in_range;
     for (int k = 0; k < 8; k++)
         sum = sum * 0.5 + places[k];
@@ -96,12 +88,14 @@ static double density_of(uint32_t judge(const uint8_t *, size_t, double *, size_
     static double today_##name(int i) { (void)i; return call(); }
 #define ANTILOG(prefix) prefix##station_air_antilog(false, 3, parts[i])
 #define POWER(prefix) prefix##station_air_power(ratios[i], 0)
-#define RECORD(prefix) density_of(prefix##station_air_judge, i)
+#define RECORD(prefix) judged(prefix##station_air_judge, i, RECORD_SIZE)
+#define REFUSED(prefix) judged(prefix##station_air_judge, i, RECORD_SIZE + JUNK)
 #define PAGE(prefix) page_of(prefix##station_air_setting_sheet)
 #define SEARCH(prefix) search_of(prefix##station_air_next_trim_class)
 CALLS(antilog, ANTILOG)
 CALLS(power, POWER)
 CALLS(record, RECORD)
+CALLS(refused, REFUSED)
 CALLS(page, PAGE)
 CALLS(search, SEARCH)
 
@@ -115,11 +109,6 @@ static double nanoseconds(double call(int), int inputs) {
         sink = call(i);
     clock_gettime(CLOCK_THREAD_CPUTIME_ID, &to);
     return ((to.tv_sec - from.tv_sec) * 1e9 + (to.tv_nsec - from.tv_nsec)) / inputs;
-}
-
-static int by_size(const void *a, const void *b) {
-    double x = *(const double *)a, y = *(const double *)b;
-    return (x > y) - (x < y);
 }
 
 static void row(const char *name, double before(int), double today(int), int inputs) {
@@ -146,6 +135,7 @@ int main(void) {
     row("antilog", before_antilog, today_antilog, INPUTS);
     row("power 0 (5.2559)", before_power, today_power, INPUTS);
     row("record 01 02 03 05, humid", before_record, today_record, INPUTS);
+    row("four fields and an unknown tag", before_refused, today_refused, INPUTS);
     row("setting sheet, humid", before_page, today_page, 1);
     row("next trim class, none within 200", before_search, today_search, 1);
     return 0;

@@ -1,5 +1,5 @@
 #!/usr/bin/env bash
-# Times antilogs, powers, humid records, a page and a search of another commit beside today's, in one run:
+# Times antilogs, powers, records, a page and a search of another commit beside today's, in one run:
 # before.sh [COMMIT]. The commit, 5da6051 where none is given, is unpacked, proved and built below target/before. Its
 # functions must have today's signatures: any commit from request K9 on.
 set -euo pipefail

@@ -19,8 +19,7 @@ use Rattle.fields.specs.Fields.{meanings, doubleOf, tagOf, sizeOf, field, headR
 use Rattle.record.specs.Readings.{orderRows, noted, readRows, readings, readRecord}
 use Rattle.entries.specs.Entries.{slotOf, noReadings, withValue, entryFor, entryOf, isPresent}
 use Rattle.record.proofs.Walk.{fieldRows, no-bytes, read-step, any-last}
-use Rattle.record.proofs.Entries.{is-new, is-whole}
-use Rattle.record.proofs.FirstBytes.{in-range}
+use Rattle.record.proofs.Entries.{is-new, is-whole, in-range}
 use Rattle.record.proofs.Exchange.{whole, read-one}
 use Rattle.writer.specs.Laws.{AreBytes}
 use Rattle.writer.proofs.Passed.{stored-same, stored-other}

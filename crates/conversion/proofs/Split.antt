@@ -17,9 +17,9 @@ use Rattle.record.specs.Readings.{noted, orderRows, rowsFrom, readRows}
 use Rattle.entries.specs.Entries.{slotOf, noReadings}
 use Rattle.fields.proofs.Forms.{at-most}
 use Rattle.record.proofs.Walk.{fieldRows}
-use Rattle.record.proofs.Entries.{is-new}
+use Rattle.record.proofs.Entries.{is-new, in-range}
 use Rattle.record.proofs.Followed.{same-rows, same-field}
-use Rattle.record.proofs.FirstBytes.{room, falls, in-range}
+use Rattle.record.proofs.FirstBytes.{room, falls}
 use Rattle.writer.specs.Laws.{AreBytes}
 use Rattle.writer.proofs.Fields.{length-field}
 use Rattle.conversion.specs.declared.Turned.{Turned}

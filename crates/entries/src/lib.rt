@@ -47,6 +47,16 @@ pub fn is_present(entry: Entry) -> bool
     }
 }
 
+// Whether a value is stored.
+pub fn is_stored(stored: Stored) -> bool
+    ensures { λ r. ⌜ r ≡ isPresent (entryFor stored) ⌝ }
+{
+    match stored {
+        Stored::Absent => false,
+        Stored::Present(_) => true,
+    }
+}
+
 // What is stored for a meaning, and nothing where there is no such meaning.
 pub fn stored_of(readings: Readings, meaning: usize) -> Stored
     ensures { λ r. ⌜ r ≡ storedOf readings meaning ⌝ }

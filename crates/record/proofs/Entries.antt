@@ -1,25 +1,45 @@
--- What is known of a field that no row refuses: it is whole, and its meaning had no entry. Two such fields may be noted in either order. Assumes nothing.
+-- What is known of a field that no row refuses: it is whole, its meaning is one of the seven, and had no entry. Two such fields may be noted in either order. Assumes nothing.
 use mathlib.Core.Path.{_≡_, refl, ap}
 use mathlib.Core.Bool.{Bool, false, _&&_}
 use mathlib.Core.List.{List, [], _∷_}
-use Prim.Native.Nat.{ℕ, zero, suc, _≤_}
+use Prim.Native.Nat.{ℕ, zero, suc, _≤_, _<_}
 use native.Mathlib.Omega.{arith}
-use borrow.Author.Tests.{ltb-false}
+use borrow.Author.Tests.{ltb-false, not-false}
 use lib.Dec.{ltb}
 use lib.ListN.{length, getD, set}
 use Rattle.refusal.specs.Causes.{NoneHolds}
+use Rattle.refusal.proofs.Rows.{none-before}
 use Rattle.fields.specs.declared.fields.Value.{Value}
 use Rattle.entries.specs.declared.Stored.the-variants.{Absent, Present}
 use Rattle.entries.specs.declared.Slot.{Slot}
 use Rattle.entries.specs.declared.Readings.{Readings}
-use Rattle.fields.specs.Fields.{field, headRows, sizeOf}
+use Rattle.fields.specs.Fields.{meanings, tagOf, field, headRows, sizeOf}
 use Rattle.entries.specs.Entries.{slotOf, entryFor, entryOf, isPresent}
+use Rattle.fields.proofs.Forms.{tagged}
+use Rattle.record.specs.Readings.{orderRows}
 use Rattle.record.proofs.Walk.{fieldRows}
 
-module _ (strict : Bool) (r : Readings) (last : ℕ) (s : List ℕ) (none : NoneHolds (fieldRows strict r last s)) where
-  pub is-whole : sizeOf s ≤ length s
+-- by its own rows
+module _ (s : List ℕ) (none : NoneHolds (headRows s)) where
+  pub head-whole : sizeOf s ≤ length s
   unfolding headRows
-  is-whole = ltb-false (length s) (sizeOf s) (none .1 .1 .1 .0)
+  head-whole = ltb-false (length s) (sizeOf s) (none .1 .1 .1 .0)
+
+  pub head-meaning : field s .meaning < meanings
+  unfolding headRows field
+  head-meaning = tagged (tagOf s) (not-false _ (none .1 .0)) .meant
+
+-- by those and by the rows of its order
+module _ (strict : Bool) (r : Readings) (last : ℕ) (s : List ℕ) (none : NoneHolds (fieldRows strict r last s)) where
+  head : NoneHolds (headRows s)
+  head = none-before (headRows s) (orderRows strict r last (field s)) none
+
+  pub is-whole : sizeOf s ≤ length s
+  is-whole = head-whole s head
+
+  -- its meaning is one of them
+  pub in-range : field s .meaning < meanings
+  in-range = head-meaning s head
 
   pub is-new : isPresent (entryOf r (field s .meaning)) ≡ false
   unfolding headRows

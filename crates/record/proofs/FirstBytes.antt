@@ -4,22 +4,21 @@ use mathlib.Core.Bool.{Bool, true, false, cond}
 use mathlib.Core.List.{List, [], _∷_, _++_}
 use Prim.Native.Nat.{ℕ, zero, suc, _+_, _*_, _≤_, _<_}
 use native.Mathlib.Omega.{arith}
-use borrow.Author.Tests.{leb-true, leb-false, not-false}
+use borrow.Author.Tests.{leb-true, leb-false}
 use lib.Dec.{leb, lit≤}
 use lib.ListN.{length, take, drop, getD, set, length-drop, length-set, take-append-drop}
 use lib.Seq.{length-take-le, take-all}
-use Rattle.refusal.specs.Causes.{NoneHolds}
 use Rattle.refusal.proofs.Rows.{then-same}
 use Rattle.fields.specs.declared.fields.Value.{Value}
 use Rattle.entries.specs.declared.Stored.the-variants.{Absent, Present}
 use Rattle.entries.specs.declared.Slot.{Slot}
 use Rattle.entries.specs.declared.Readings.{Readings}
-use Rattle.fields.specs.Fields.{meanings, tagOf, sizeOf, field, headRows}
+use Rattle.fields.specs.Fields.{meanings, tagOf, sizeOf, field}
 use Rattle.record.specs.Readings.{noted, readRecord}
 use Rattle.entries.specs.Entries.{slotOf, noReadings, entryFor, isPresent}
-use Rattle.fields.proofs.Forms.{at-most, tagged}
+use Rattle.fields.proofs.Forms.{at-most}
 use Rattle.record.proofs.Walk.{fieldRows, read, read-step}
-use Rattle.record.proofs.Entries.{is-new}
+use Rattle.record.proofs.Entries.{is-new, in-range}
 use Rattle.record.proofs.Followed.{read-whole}
 
 -- ---- how many meanings have no entry yet
@@ -31,11 +30,6 @@ pub falls : (l : List Slot) (m : ℕ) (x : Value) → m < length l → isPresent
 falls [] m x h e = absurd (omega arith)
 falls (a ∷ l) zero x h e = omega (arith, ap {B = ℕ} (λ b. cond b 0 1) e)
 falls (a ∷ l) (suc m) x h e = omega (arith, falls l m x (omega arith) e)
-
--- the meaning of an accepted field is one of them
-pub in-range : (strict : Bool) (r : Readings) (last : ℕ) (s : List ℕ) → NoneHolds (fieldRows strict r last s) → field s .meaning < meanings
-unfolding headRows field
-in-range strict r last s none = tagged (tagOf s) (not-false _ (none .1 .0)) .meant
 
 -- ---- enough bytes for a field more than there is room for: a field has eleven at most
 module _ (strict : Bool) where

@@ -1,17 +1,17 @@
 // The readings of a record: its fields, each meaning at most once, with their tags in any order or rising.
 ghost use mathlib.Core.Path.{_≡_};
-ghost use mathlib.Core.Bool.{true, false};
-ghost use Rattle.refusal.specs.Outcomes.{_⟫_};
-ghost use Rattle.fields.specs.Fields.{found};
-ghost use Rattle.record.specs.Readings.{withField, readOutcome, readRecord};
+ghost use mathlib.Core.Bool.{true, false, _&&_};
+ghost use mathlib.Core.List.{[], _∷_};
+ghost use lib.Dec.{ltb};
+ghost use Rattle.refusal.specs.Outcomes.{checked, passed, row};
+ghost use Rattle.entries.specs.Entries.{entryFor, isPresent};
+ghost use Rattle.record.specs.Readings.{readOutcome, readRecord};
 use entries::Readings;
-use entries::entry_of;
-use entries::is_present;
-use entries::no_readings;
-use entries::with_value;
-use fields::fields::Field;
+use entries::Slot;
+use entries::Stored;
+use entries::is_stored;
 use fields::fields::Found;
-use fields::fields::next_at;
+use fields::fields::MEANINGS;
 use reader::reader::field_from;
 use refusal::Check;
 use refusal::Refusal;
@@ -22,62 +22,62 @@ pub struct Read {
     pub readings: Readings,
 }
 
-// The readings with one field more, or that its meaning has an entry already, or, to the strict reader,
-// that its tag is below the last.
-fn with_field(readings: Readings, last: u8, field: Field, strict: bool) -> Read
-    ensures { λ r. ⌜ readOutcome r ≡ withField strict readings last field ⌝ }
+// The check of a whole field after those before it: whether its meaning has a value already, and, to the
+// strict reader, whether its tag is below the last.
+fn order_check(stored: Stored, tag: u8, last: u8, strict: bool) -> Check
+    ensures { λ r. ⌜ checked r ≡ passed (row (isPresent (entryFor stored)) 8 [] ∷ row (strict && ltb tag last) 19 [] ∷ []) ⌝ }
 {
-    if is_present(entry_of(readings, field.meaning)) {
-        return Read {
-            check: Check::Refused(Refusal::RepeatedTag),
-            readings,
-        };
+    if is_stored(stored) {
+        return Check::Refused(Refusal::RepeatedTag);
     }
-    if strict & (field.tag < last) {
-        return Read {
-            check: Check::Refused(Refusal::TagFalls),
-            readings,
-        };
+    if strict & (tag < last) {
+        return Check::Refused(Refusal::TagFalls);
     }
-    let field_value = field.value;
-    Read {
-        check: Check::Passed,
-        readings: with_value(readings, field.meaning, field_value),
-    }
+    Check::Passed
 }
 
-fn with_found(readings: Readings, last: u8, next: Found, strict: bool) -> Read
-    ensures { λ r. ⌜ readOutcome r ≡ (found next ⟫ withField strict readings last) ⌝ }
-{
-    match next {
-        Found::Field(field) => with_field(readings, last, field, strict),
-        Found::Refused(refusal) => Read {
-            check: Check::Refused(refusal),
-            readings,
-        },
-    }
-}
-
+// The values are put in their places as they are read: handed on as a whole from field to field they
+// took longer than all else that a refused record costs.
 fn read_fields(bytes: &[u8], strict: bool) -> Read
     ensures { λ r. ⌜ readOutcome r ≡ readRecord strict (now (bytes .entry)) ⌝ }
     ensures kept { λ _. ⌜ now (bytes .exit) ≡ now (bytes .entry) ⌝ }
 {
-    let mut readings = no_readings();
+    let mut slots = [Slot {
+        stored: Stored::Absent,
+    }; MEANINGS];
     let mut last = 0;
     let mut at = 0;
     while at < bytes.len() {
-        let read = with_found(readings, last, field_from(bytes, at), strict);
-        let check = read.check;
-        if let Check::Refused(_) = check {
-            return read;
+        match field_from(bytes, at) {
+            Found::Refused(refusal) => {
+                return Read {
+                    check: Check::Refused(refusal),
+                    readings: Readings { slots },
+                };
+            }
+            Found::Field(field) => {
+                let meaning = field.meaning;
+                let slot = slots[meaning];
+                let stored = slot.stored;
+                let check = order_check(stored, field.tag, last, strict);
+                if let Check::Refused(_) = check {
+                    return Read {
+                        check,
+                        readings: Readings { slots },
+                    };
+                }
+                let value = field.value;
+                slots[meaning] = Slot {
+                    stored: Stored::Present(value),
+                };
+                last = field.tag;
+                at += field.size;
+            }
         }
-        readings = read.readings;
-        last = bytes[at];
-        at = next_at(bytes, at);
     }
     Read {
         check: Check::Passed,
-        readings,
+        readings: Readings { slots },
     }
 }
 

@@ -1,89 +1,110 @@
 -- `record::readings::read_fields` meets its contract. The loop's invariant: what is left of the record, read from the readings and the last tag so far, gives the
 -- whole record's outcome. Assumes nothing.
-use mathlib.Core.Path.{_≡_, refl, sym, ap, ap₂, _∙_}
+use mathlib.Core.Path.{_≡_, refl, sym, ap, _∙_}
 use mathlib.Core.Bool.{Bool}
 use mathlib.Core.List.{List}
-use Prim.Native.Nat.{ℕ, _-_, _≤_}
-use native.Mathlib.Nat.{add-zero}
+use Prim.Native.Nat.{ℕ, _+_, _-_, _≤_, _<_}
 use native.Mathlib.Omega.{arith}
 use borrow.Author.Needs.{needs}
-use lib.ListN.{length, getD, drop, drop-of-length-le}
-use lib.Seq.{getD-drop}
+use lib.ListN.{length, drop, drop-of-length-le}
 use Rattle.refusal.specs.declared.Check.{Check}
-use Rattle.refusal.specs.Outcomes.{Outcome, accepted, _⟫_, checked}
+use Rattle.refusal.specs.Outcomes.{Outcome, accepted, _⟫_, checked, passed}
+use Rattle.entries.specs.declared.Slot.{Slot}
 use Rattle.entries.specs.declared.Readings.{Readings}
-use Rattle.fields.specs.declared.fields.Field.{Field}
-use Rattle.fields.specs.Fields.{tagOf, fieldOf}
-use Rattle.record.specs.Readings.{withField, readRecord, readOutcome}
+use Rattle.fields.specs.Fields.{found, fieldOf, meanings}
+use Rattle.record.specs.Readings.{orderRows, readRecord}
 use Rattle.record.proofs.Walk.{no-bytes, read}
-use Rattle.record.proofs.Turn.{refuses, further, moves-on}
+use Rattle.record.proofs.Turn.{field-refuses, in-place, further, order-refuses, moves-on}
 use Rattle.record.proofs.readings.read_fields.Statement.{statement}
 use Rattle.record.proofs.readings.read_fields.Tie as tie
 
+abbrev from : List Slot → Readings
+from l = record { slots = l }
+
 -- what is left from a position on
-abbrev rest : Bool → List ℕ → ℕ → Readings → ℕ → Outcome Readings
-rest strict s at r last = read strict r last (drop at s)
+abbrev rest : Bool → List ℕ → ℕ → List Slot → ℕ → Outcome Readings
+rest strict s at l last = read strict (from l) last (drop at s)
 
 abbrev Inv-loop : tie.InvT-loop
-Inv-loop bytes strict readings₀ last₀ at₀ readings last at = (at ≤ length bytes) × (readRecord strict bytes ≡ rest strict bytes at readings last)
+Inv-loop bytes strict slots₀ last₀ at₀ slots last at = (at ≤ length bytes) × (readRecord strict bytes ≡ rest strict bytes at slots last)
 
 abbrev μ-loop : tie.MeasureT-loop
-μ-loop bytes strict readings₀ last₀ at₀ readings last at = length bytes - at
+μ-loop bytes strict slots₀ last₀ at₀ slots last at = length bytes - at
 
 loop-holds : tie.Need-loop-holds Inv-loop μ-loop
-loop-holds c = let a = c .before .before .args in (omega arith, ap (λ (r : Readings). read (a .strict) r 0 (a .bytes .now)) (sym (c .no-readings .ensures)))
-
-tag-at : (s : List ℕ) (at : ℕ) → tagOf (drop at s) ≡ getD s at 0
-tag-at s at = getD-drop at s 0 0 ∙ ap (λ (i : ℕ). getD s i 0) (add-zero at)
-
--- the field at the position, noted
-turned : (c : tie.After-with-found Inv-loop μ-loop) → let a = c .before .before .before .before .before .before .args in let turn = c .before .before .before .loop in
-    readOutcome (c .with-found .result) ≡ (fieldOf (drop (turn .at) (a .bytes .now)) ⟫ withField (a .strict) (turn .readings) (turn .last))
-turned c =
-    let a = c .before .before .before .before .before .before .args in
-    let turn = c .before .before .before .loop in
-    c .with-found .ensures ∙ ap (λ (o : Outcome Field). o ⟫ withField (a .strict) (turn .readings) (turn .last)) (c .before .field-from .ensures .0)
+loop-holds c = (omega arith, refl)
 
 returns : tie.Need-returns Inv-loop μ-loop
 returns c =
-    let read = c .before .before in
-    let a = read .before .before .before .before .before .before .args in
-    let turn = read .before .before .before .loop in
-    let refusal = ap (λ (k : Check). checked k ⟫ (λ _. accepted (read .with-found .result .readings))) (c .enum-told .given .1) in
-    (refusal ∙ sym (turn .inv .1 ∙ refuses (a .strict) (a .bytes .now) (turn .at) (turn .readings) (turn .last) (read .before .before .loop-test .taken) (turned read) refusal), refl)
+    let found-at = c .before .before .before in
+    let a = found-at .before .before .before .before .args in
+    let turn = found-at .before .before .loop in
+    (sym (turn .inv .1 ∙ field-refuses (a .strict) (a .bytes .now) (turn .at) (from (turn .slots)) (turn .last) (found-at .before .loop-test .taken) (sym (found-at .field-from .ensures .0) ∙ ap found (c .before .refusal .given .1))), refl)
 
--- the check is passed
-passes : (c : tie.After-enum-told2 Inv-loop μ-loop) → let read = c .before .before in readOutcome (read .with-found .result) ≡ accepted (read .with-found .result .readings)
-passes c = let read = c .before .before in ap (λ (k : Check). checked k ⟫ (λ _. accepted (read .with-found .result .readings))) (c .enum-told2 .given .1)
+-- the field that is found
+is-field : (c : tie.After-known-told2 Inv-loop μ-loop) → let found-at = c .before .before .before in
+    fieldOf (drop (found-at .before .before .loop .at) (found-at .before .before .before .before .args .bytes .now)) ≡ accepted (c .before .field .given .0 .0)
+is-field c = sym (c .before .before .before .field-from .ensures .0) ∙ ap found (c .before .field .given .1)
 
-loop-less : tie.Need-loop-less Inv-loop μ-loop
-loop-less c =
-    let told = c .before .before .before in
-    let read = told .before .before in
-    let a = read .before .before .before .before .before .before .args in
-    let turn = read .before .before .before .loop in
-    let on = further (a .strict) (a .bytes .now) (turn .at) (turn .readings) (turn .last) (read .before .before .loop-test .taken) (turned read) (passes told) in
-    omega (arith, c .next-at .ensures .0, on)
+-- its meaning is one of the seven
+meant : (c : tie.After-known-told2 Inv-loop μ-loop) → c .before .field .given .0 .0 .meaning < meanings
+meant c =
+    let found-at = c .before .before .before in
+    let a = found-at .before .before .before .before .args in
+    let turn = found-at .before .before .loop in
+    in-place (a .strict) (a .bytes .now) (turn .at) (from (turn .slots)) (turn .last) (found-at .before .loop-test .taken) (is-field c)
 
-loop-again : tie.Need-loop-again Inv-loop μ-loop
-loop-again c =
-    let told = c .before .before .before in
-    let read = told .before .before in
-    let a = read .before .before .before .before .before .before .args in
-    let s = a .bytes .now in
-    let turn = read .before .before .before .loop in
-    let more = read .before .before .loop-test .taken in
-    let on = further (a .strict) s (turn .at) (turn .readings) (turn .last) more (turned read) (passes told) in (
-      omega (arith, c .next-at .ensures .0, on),
-      turn .inv .1 ∙ moves-on (a .strict) s (turn .at) (turn .readings) (turn .last) more (turned read) (passes told)
-          ∙ ap₂ (λ (last n : ℕ). rest (a .strict) s n (read .with-found .result .readings) last) (tag-at s (turn .at)) (sym (c .next-at .ensures .0)),
-    )
+mul-slot : tie.Need-mul-slot Inv-loop μ-loop
+mul-slot c = omega (arith, meant c)
+
+-- the check of its order
+ordered : (c : tie.After-order-check Inv-loop μ-loop) → let field-at = c .before .before in let found-at = field-at .before .before .before in let turn = found-at .before .before .loop in
+    checked (c .order-check .result) ≡ passed (orderRows (found-at .before .before .before .before .args .strict) (from (turn .slots)) (turn .last) (field-at .before .field .given .0 .0))
+ordered c = c .order-check .ensures
 
 returns-2 : tie.Need-returns-2 Inv-loop μ-loop
 returns-2 c =
-    let a = c .before .before .before .before .args in
+    let order = c .before .before in
+    let field-at = order .before .before in
+    let found-at = field-at .before .before .before in
+    let a = found-at .before .before .before .before .args in
+    let turn = found-at .before .before .loop in
+    let refused-by = order-refuses (a .strict) (a .bytes .now) (turn .at) (from (turn .slots)) (turn .last) (found-at .before .loop-test .taken) (is-field field-at) (order .order-check .result) (ordered order) (ap checked (c .enum-told .given .1)) in
+    (ap (λ (k : Check). checked k ⟫ (λ _. accepted (from (turn .slots)))) (c .enum-told .given .1) ∙ sym (turn .inv .1 ∙ refused-by), refl)
+
+mul-slots : tie.Need-mul-slots Inv-loop μ-loop
+mul-slots c = omega (arith, meant (c .before .before .before .before))
+
+-- the position after it
+on : (c : tie.After-known-told2 Inv-loop μ-loop) → let at = c .before .before .before .before .before .loop .at in let next = at + c .before .field .given .0 .0 .size in
+    (at < next) × (next ≤ length (c .before .before .before .before .before .before .before .args .bytes .now))
+on c =
+    let found-at = c .before .before .before in
+    let a = found-at .before .before .before .before .args in
+    let turn = found-at .before .before .loop in
+    further (a .strict) (a .bytes .now) (turn .at) (from (turn .slots)) (turn .last) (found-at .before .loop-test .taken) (is-field c)
+
+add-at : tie.Need-add-at Inv-loop μ-loop
+add-at c = omega (arith, on (c .before .before .before .before .before))
+
+loop-less : tie.Need-loop-less Inv-loop μ-loop
+loop-less c = omega (arith, on (c .before .before .before .before .before))
+
+loop-again : tie.Need-loop-again Inv-loop μ-loop
+loop-again c =
+    let told = c .before in
+    let order = told .before .before in
+    let field-at = order .before .before in
+    let found-at = field-at .before .before .before in
+    let a = found-at .before .before .before .before .args in
+    let turn = found-at .before .before .loop in
+    (on field-at .1, turn .inv .1 ∙ moves-on (a .strict) (a .bytes .now) (turn .at) (from (turn .slots)) (turn .last) (found-at .before .loop-test .taken) (is-field field-at) (order .order-check .result) (ordered order) (ap checked (told .enum-told2 .given .1)))
+
+returns-3 : tie.Need-returns-3 Inv-loop μ-loop
+returns-3 c =
+    let a = c .before .before .before .args in
     let turn = c .before .loop in
-    (sym (turn .inv .1 ∙ ap (read (a .strict) (turn .readings) (turn .last)) (drop-of-length-le (a .bytes .now) (c .loop-test .left)) ∙ no-bytes (a .strict) 0 (turn .readings) (turn .last)), refl)
+    (sym (turn .inv .1 ∙ ap (read (a .strict) (from (turn .slots)) (turn .last)) (drop-of-length-le (a .bytes .now) (c .loop-test .left)) ∙ no-bytes (a .strict) 0 (from (turn .slots)) (turn .last)), refl)
 
 pub read-fields-spec : {M : Type 1} → statement M
 read-fields-spec =
@@ -91,15 +112,20 @@ read-fields-spec =
     (tie.spec
     Inv-loop
     μ-loop
-    (λ c κs. search needs)
     loop-holds
-    (λ c κs. search needs)
     (λ c κs. search needs)
     (λ c. search needs)
     returns
     (λ c. search needs)
-    (λ c. search needs)
+    mul-slot
+    meant
     (λ c κs. search needs)
+    (λ c. search needs)
+    returns-2
+    (λ c. search needs)
+    mul-slots
+    (λ c. meant (c .before .before .before .before))
+    add-at
     loop-less
     loop-again
-    returns-2)
+    returns-3)
