@@ -18,7 +18,7 @@ static uint64_t high(uint64_t a, uint64_t b) { return (uint64_t)((u128)a * b >> 
 static uint64_t squared_log(uint64_t m) {
     uint64_t bits = 0;
     for (int i = 0; i < 60; i++) {
-        uint64_t square = (uint64_t)((u128)m * m >> 62), bit = square >> 63;
+        uint64_t square = high(2 * m, 2 * m), bit = square >> 63;
         m = square >> bit;
         bits = bits * 2 + bit;
     }

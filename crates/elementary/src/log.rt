@@ -14,13 +14,14 @@ use arithmetic::word::Word;
 use rounding::nearest::take_apart;
 use wide::words::product;
 
-// floor(m * m / 2^62).
+// floor(m * m / 2^62): the upper word of the square of 2 m, with nothing to shift.
 fn squared(m: u64) -> u64
     requires { ⌜ m < 2 ^ 63 ⌝ }
     ensures { λ r. ⌜ r ≡ m * m / 2 ^ 62 ⌝ }
 {
-    let w = product(m, m);
-    w.hi * 4 + w.lo / 0x4000_0000_0000_0000
+    let twice = 2 * m;
+    let square = product(twice, twice);
+    square.hi
 }
 
 // The 60 bits of the logarithm of m / 2^62, which lies from 1 up to 2. A square of 2 or more gives
