@@ -1,13 +1,15 @@
-"""Measures how far the rules of document 01 lie from the true values, at 60 places and at 52: docs/HOW-NEAR.md has what it prints.
+"""Measures how far the rules of document 01 lie from the true values, at 60 places and at 52, and the estimate of the antilog from its
+root: docs/HOW-NEAR.md and docs/ANTILOG.md have what it prints.
 
-The rules in Python's whole numbers, the true values by mpmath at 400 bits. The only argument is the number of points for each line.
+The rules in Python's whole numbers, the true values by mpmath at 400 bits. The only argument is the number of points for each line;
+the estimate has twice as many.
 """
 
 import random
 import sys
 from math import isqrt
 
-from mpmath import exp, log, mp, mpf, power
+from mpmath import exp, floor, log, mp, mpf, power
 
 mp.prec = 400
 POINTS = int(sys.argv[1])
@@ -55,6 +57,31 @@ def exp_rule(places, x):
 
 def ln_rule(places, x):
     return (log_word(places, x) * 0x2C5C85FDF473DE6A >> 62) / 2**places
+
+
+# what 2^(i / 16^(j + 1)) exceeds 1 by, in units of 2^-(64 + 4 j), and 2^(1 / 2^60), in units of 2^-96: crates/estimate/src
+EXCESSES = [[int(floor((power(2, mpf(i) / 16 ** (j + 1)) - 1) * 2 ** (64 + 4 * j))) for i in range(16)] for j in range(8)]
+LAST_EXCESS = int(floor((power(2, mpf(1) / 2**60) - 1) * 2**96))
+
+
+def estimate(f):
+    a = 2**63
+    for j, row in enumerate(EXCESSES):
+        a += a * row[f >> 56 - 4 * j & 15] >> 64 + 4 * j
+    return a + (a * (f & 2**28 - 1) * LAST_EXCESS >> 96)
+
+
+def measure_estimate():
+    """How far A lies below 2 T, where Y lies from A / 2, and how often the two ends of the window round apart."""
+    draws = random.Random(14)
+    fs = [draws.getrandbits(60) for _ in range(2 * POINTS)]
+    halves = [estimate(f) // 2 for f in fs]
+    above = [root(60, f) - half for f, half in zip(fs, halves)]
+    apart = sum(float(half - 3) != float(half + 10) for half in halves)
+    print("  estimate of the antilog, %d fractions" % len(fs))
+    print("    A too small by: %.2f" % max(power(2, 63 + mpf(f) / 2**60) - estimate(f) for f in fs))
+    print("    Y above A / 2: %d to %d" % (min(above), max(above)))
+    print("    of 100 the roots decide: %.2f" % (100 * apart / len(fs)))
 
 
 def off(answer, true):
@@ -109,6 +136,8 @@ for places in (60, 52):
     print("  log word too small by, units of 2^-places: %.4f" % max(log(mpf(x), 2) * unit - log_word(places, x) for x in xs))
     fs = [random.getrandbits(places) for _ in range(POINTS)]
     print("  Y too small by: %.4f" % max(power(2, 62 + mpf(f) / unit) - root(places, f) for f in fs))
+    if places == 60:
+        measure_estimate()
     print("  relative distances in units of 2^-53, half a unit of a double's last place at 1:")
     worst = []
     for q in exponents():

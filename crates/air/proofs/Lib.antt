@@ -1,3 +1,4 @@
 -- The laws of the definitions, a file for each idea.
 pub mod Overrides
 pub mod Served
+mod One

@@ -1,7 +1,9 @@
 -- Moist air with one saturation pressure at hand. Temperatures T in K, pressures p in Pa, humidities h in percent. Definitions only.
 use Prim.Native.Nat.{ℕ}
 use mathlib.Core.Path.{_≡_}
-use lib.Ieee.{Float}
+use mathlib.Core.Bool.{Bool, _&&_}
+use lib.Dec.{eqb}
+use lib.Ieee.{Float, binary64, eq, toBits}
 use Rattle.arithmetic.specs.Places.{places}
 use Rattle.arithmetic.specs.Decimals.{nought, hundred}
 use Rattle.arithmetic.specs.Operators.{_⊖_, _⊘_}
@@ -10,6 +12,10 @@ use Rattle.moist_air.specs.MoistAir.{icePoint}
 use Rattle.humid_air.specs.Humidity.{neededPressure, densityMoleFraction, airDensity}
 use Rattle.air.specs.declared.moist.Saturation.{Saturation}
 use Rattle.air.specs.declared.moist.MoistDensity.{MoistDensity}
+
+-- x and y are one double: equal as numbers, which no NaN is, and of one pattern, which the two zeros are not
+unfoldable pub isOne : Float → Float → Bool
+isOne x y = eq x y && eqb (toBits binary64 x) (toBits binary64 y)
 
 -- the pressure at hand
 abbrev pub saturationAt : ℕ → Float → Float → Saturation

@@ -1,13 +1,12 @@
 // Moist air with one saturation pressure at hand: what asks for the pressure at the same temperature takes
 // it from there, and what asks for another computes its own.
 ghost use mathlib.Core.Path.{_≡_};
-ghost use mathlib.Core.Bool.{true};
 ghost use Rattle.arithmetic.specs.Places.{places};
 ghost use Rattle.arithmetic.specs.Decimals.{nought, hundred};
 ghost use Rattle.doubles.specs.Doubles.{clampDouble};
 ghost use Rattle.humid_air.specs.Humidity.{neededPressure, moleFractionAt};
 ghost use Rattle.humid_air.specs.Sound.{soundSpeed};
-ghost use Rattle.air.specs.Moist.{saturationAt, Serves, densityOf};
+ghost use Rattle.air.specs.Moist.{isOne, saturationAt, Serves, densityOf};
 use doubles::doubles::clamp;
 use humid_air::humid::moist_sound_speed_at_mole_fraction;
 use humid_air::humid::needed_saturation_pressure;
@@ -38,7 +37,7 @@ pub(crate) fn saturation_at(temp_k: f64, humidity_percent: f64) -> Saturation
 
 // Whether two doubles are one: equal ones have one pattern, but for the two zeros.
 pub(crate) fn is_one(x: f64, y: f64) -> bool
-    ensures { λ r. ⌜ (r ≡ true → x ≡ y) ⌝ }
+    ensures { λ r. ⌜ r ≡ isOne x y ⌝ }
 {
     if x == y {
         return f64::to_bits(x) == f64::to_bits(y);

@@ -2,11 +2,12 @@
 -- proofs/Distance has the inequalities in units of 2 ^ -1074. Assumes nothing.
 use mathlib.Core.Path.{_≡_, sym, ap, ap₂, _∙_, subst, subst₂}
 use Prim.Native.Nat.{ℕ, zero, suc, _+_, _*_, _^_, _≤_, _<_}
-use native.Mathlib.Nat.{le-of-mul-le-mul-right, lt-of-mul-lt-mul-right, mul-comm, mul-mul-mul-comm, one-mul, mul-pos, mul-le-mul-right, mul-lt-mul-of-pos-right, one-le-pow, not-le-of-lt}
+use native.Mathlib.Nat.{le-of-mul-le-mul-right, lt-of-mul-lt-mul-right, mul-comm, mul-mul-mul-comm, one-mul, mul-pos, mul-le-mul-right, mul-lt-mul-of-pos-right, one-le-pow, not-le-of-lt, lt-of-lt-of-le, pow-le-pow-left}
+use native.Mathlib.Omega.{arith}
 use mathlib.Core.Bool.{true, false}
 use lib.IntN.{ℤ, pos, _+ℤ_}
 use lib.Dec.{T, lit≤}
-use lib.Pow.{pow-pos, pow-add}
+use lib.Pow.{pow-pos, pow-add, pow-mono}
 use lib.Ieee.{Float, nan, inf, fin, binary64, up, down, minus, fits}
 use lib.Ieee.Digits.{minus-val}
 use lib.Ieee.Fits.{down-pos}
@@ -52,19 +53,26 @@ module _ (n d X t k u w : ℕ) (some : 0 < d) (exact : n * 2 ^ t ≡ X * d) wher
   pub below-two : X ^ k * 2 ^ w < 2 ^ (u + t * k) → n ^ k * down z < up z * d ^ k
   below-two h = lt-of-mul-lt-mul-right common (subst₂ (λ (x y : ℕ). x < y) (sym power-of-fraction) (sym power-of-two) (mul-lt-mul-of-pos-right h both))
 
+-- of X units, which x is, whose word is L
+module _ (p X : ℕ) (x : Float) (exact : value x .over * 2 ^ 1074 ≡ X * value x .under) (some : 0 < value x .under) (L : ℤ) (near : NearLog p X L) where
+  word-below : twoToThe L isAtMost value x toThe (2 ^ p)
+  word-below =
+      let k : ℕ = 2 ^ p in
+      let w : ℕ = 1074 * k in
+      subst (λ (z : ℤ). twoToThe z isAtMost (value x toThe k)) (sym (near .word))
+      (two-at-most (value x .over) (value x .under) X 1074 k (near .biased) w some exact (rw (pow-add 2 (near .biased) w) (mul-le-mul-right (2 ^ w) (near .below))))
+
+  word-above : (units : ℕ) → 2 ≤ units → value x toThe (2 ^ p) isBelow twoToThe (L +ℤ pos units)
+  word-above units two =
+      let k : ℕ = 2 ^ p in
+      let w : ℕ = 1074 * k in
+      let b : ℕ = near .biased in
+      let less : X ^ k < 2 ^ (b + units) = lt-of-lt-of-le (near .above) (pow-mono {j = b + units} (omega arith)) in
+      subst (λ (z : ℤ). (value x toThe k) isBelow twoToThe z) (sym (ap (λ (z : ℤ). z +ℤ pos units) (near .word) ∙ minus-plus b w units))
+      (below-two (value x .over) (value x .under) X 1074 k (b + units) w some exact (rw (pow-add 2 (b + units) w) (mul-lt-mul-of-pos-right less (pow-pos w))))
+
 near-of-units : (p X : ℕ) (x : Float) → value x .over * 2 ^ 1074 ≡ X * value x .under → 0 < value x .under → (L : ℤ) → NearLog p X L → LogNear p x L
-near-of-units p X x exact some L near =
-    let k : ℕ = 2 ^ p in
-    let b : ℕ = near .biased in
-    let w : ℕ = 1074 * k in
-    record {
-      neverTooGreat =
-          subst (λ (z : ℤ). twoToThe z isAtMost (value x toThe k)) (sym (near .word))
-          (two-at-most (value x .over) (value x .under) X 1074 k b w some exact (rw (pow-add 2 b w) (mul-le-mul-right (2 ^ w) (near .below))));
-      lessThanTwoTooSmall =
-          subst (λ (z : ℤ). (value x toThe k) isBelow twoToThe z) (sym (ap (λ (z : ℤ). z +ℤ pos 2) (near .word) ∙ minus-plus b w 2))
-          (below-two (value x .over) (value x .under) X 1074 k (b + 2) w some exact (rw (pow-add 2 (b + 2) w) (mul-lt-mul-of-pos-right (near .above) (pow-pos w))));
-    }
+near-of-units p X x exact some L near = record { neverTooGreat = word-below p X x exact some L near; lessThanTwoTooSmall = word-above p X x exact some L near _ (lit≤ tt) }
 
 log-near : (p : ℕ) → p ≤ 60 → (x : Float) → T (fits binary64 x) → T (positive x) → LogNear p x (logWord p x)
 log-near p h nan t s = absurd s
@@ -74,27 +82,24 @@ log-near p h (fin false zero e) t s = absurd s
 log-near p h (fin false (suc m) e) t s =
     near-of-units p (unitsOf (fin false (suc m) e)) (fin false (suc m) e) (units-exact false (suc m) e t) (down-pos e) (logWord p (fin false (suc m) e)) (near-log p m e h t)
 
+root-above : (p f units : ℕ) → 4 ≤ units → f < 2 ^ p → 2 ^ (62 * 2 ^ p + f) < (antilogRoot p f + units) ^ 2 ^ p
+root-above p f units four h = lt-of-lt-of-le (antilogRoot-above p f h) (pow-le-pow-left (omega arith) (2 ^ p))
+
 pub how-near : HowNearIsNear
 how-near p least most =
     record {
       logarithm = log-near p most;
-      antilogarithm = λ f h. record { neverTooGreat = antilogRoot-below p f h; lessThanFourTooSmall = antilogRoot-above p f h };
+      antilogarithm = λ f h. record { neverTooGreat = antilogRoot-below p f h; lessThanFourTooSmall = root-above p f _ (lit≤ tt) h };
     }
-
-pub how-near-52 : HowNear 52
-how-near-52 = how-near 52 (lit≤ tt) (lit≤ tt)
-
-pub how-near-60 : HowNear 60
-how-near-60 = how-near 60 (lit≤ tt) (lit≤ tt)
 
 -- ---- fewer units would be too few
 -- x = 3614860327554031 * 2 is the one case at 12 places, up to a power of two, and there is none at fewer. Of whole numbers the least is 15443 at 52 places and
 -- 43 at 60.
-log-needs-more-than-one : let x : Float = fin false 3614860327554031 (pos 1) in T (fits binary64 x) × ((value x toThe (2 ^ 12) isBelow twoToThe (logWord 12 x +ℤ pos 1)) → ⊥)
+pub log-needs-two : let x : Float = fin false 3614860327554031 (pos 1) in (value x toThe (2 ^ 12) isBelow twoToThe (logWord 12 x +ℤ pos 1)) → ⊥
 unfolding wordOfUnits fits
-log-needs-more-than-one = (tt, λ h. not-le-of-lt h (lit≤ tt))
+log-needs-two h = not-le-of-lt h (lit≤ tt)
 
 -- f = 7 is the first case at 4 places, and there is none at fewer; f = 1 is one at 52 places and at 60. Y + 2 first fails at 14 places, for f = 8973.
-antilog-needs-more-than-one : 2 ^ (62 * 2 ^ 4 + 7) < (antilogRoot 4 7 + 1) ^ 2 ^ 4 → ⊥
+pub antilog-needs-two : 2 ^ (62 * 2 ^ 4 + 7) < (antilogRoot 4 7 + 1) ^ 2 ^ 4 → ⊥
 unfolding antilogRoot
-antilog-needs-more-than-one h = not-le-of-lt h (lit≤ tt)
+antilog-needs-two h = not-le-of-lt h (lit≤ tt)

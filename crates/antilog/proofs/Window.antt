@@ -10,7 +10,8 @@ use lib.Pow.{pow-pos, pow-add}
 use lib.Ieee.{binary64, up, down, fits, le}
 use lib.Ieee.Fits.{down-pos, round-fits}
 use lib.Ieee.Order.{round-mono}
-use Rattle.estimate.specs.Estimate.{AtMost, AtLeast, Estimates}
+use Rattle.estimate.specs.Estimate.{AtMost, AtLeast, estimate, Estimates}
+use Rattle.estimate.proofs.Near.{estimate-near}
 use Rattle.estimate.proofs.Powers.{pow-scaled, lt-of-powers}
 use Rattle.arithmetic.specs.Nearest.{nearestScaled}
 use Rattle.antilog.specs.Antilog.{antilogRoot}
@@ -46,14 +47,15 @@ module _ (p f Y A : ℕ) where
       le-of-powers (Y * 2 ^ 1) (A + 19) (2 ^ p) (pow-pos p)
       (le-trans (le-of-eq (twice p Y)) (le-trans (mul-le-mul-right (2 ^ (1 * 2 ^ p)) near) (le-trans (le-of-eq (one-scale-up p f)) high)))
 
+-- half the estimate is at most 3 above the root, and at most 10 below it
 pub record Window (half Y : ℕ) : Type 0 where
-  pub low : half - 3 ≤ Y
+  pub low : half ≤ Y + 3
   pub high : Y ≤ half + 10
 
 -- of the estimate for f's lowest 60 bits, which are all of them
-pub window : (f A : ℕ) → f < 2 ^ places → Estimates (f % 2 ^ 60) A → Window (A / 2) (antilogRoot places f)
+pub window : (f A : ℕ) → f < 2 ^ places → A ≡ estimate (f % 2 ^ 60) → Window (A / 2) (antilogRoot places f)
 window f A short made =
-    let is : Estimates f A = subst (λ (n : ℕ). Estimates n A) (mod-eq-of-lt short) made in
+    let is : Estimates f A = subst (λ (n : ℕ). Estimates f n) (sym (made ∙ ap estimate (mod-eq-of-lt short))) (estimate-near f short) in
     let Y : ℕ = antilogRoot places f in
     let above : A < (Y + 4) * 2 ^ 1 = not-far-above places f Y A (antilogRoot-above places f short) (is .neverTooGreat) in
     let below : Y * 2 ^ 1 ≤ A + 19 = not-far-below places f Y A (antilogRoot-below places f short) (is .atMostNineteenTooSmall) in

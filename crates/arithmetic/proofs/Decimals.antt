@@ -7,6 +7,8 @@ use native.Mathlib.Nat.{le-trans, le-of-eq, zero-add, div-one, mul-comm, le-div-
 use native.Mathlib.Omega.{arith}
 use lib.Dec.{T, ltb, eqb, ltb→lt, nltb→le}
 use lib.Pow.{pow-add, pow-pos, shr-lt}
+use mathlib.Core.List.{[], _∷_, map}
+use lib.ListN.{replicate}
 use lib.Ieee.{nan, inf, binary64, size, odd, round, neg, ofFields, ofBits}
 use lib.Ieee.Digits.{size-lt, size-reaches}
 use lib.Ieee.Nearest.{closest}
@@ -72,7 +74,7 @@ pattern-rounds num den h =
     let n = num * 2 ^ 1074 in
     ap (λ (z : ℕ). ofBits binary64 (min ((z - 53) * 2 ^ 52 + closest n (den * 2 ^ (z - 53))) (2047 * 2 ^ 52))) (digits-size 12 (n / den) h) ∙ sym (round-bits binary64 num den)
 
-nearest-rounds : (s : Bool) (num den : ℕ) → num * 2 ^ 1074 / den < 2 ^ 2 ^ 12 → nearestTo (record { negative = s; numerator = num; denominator = den }) ≡ round binary64 s num den
+nearest-rounds : (s : Bool) (num den : ℕ) → num * 2 ^ 1074 / den < 2 ^ 2 ^ 12 → nearestTo (record { isNumber = true; negative = s; numerator = num; denominator = den }) ≡ round binary64 s num den
 nearest-rounds false num den h = ap (ofBits binary64) (zero-add (pattern num den)) ∙ pattern-rounds num den h
 nearest-rounds true num den h =
     bits-opposite (pattern num den) (omega (arith, min-le-right (pattern num den) (2047 * 2 ^ 52)))
@@ -80,15 +82,18 @@ nearest-rounds true num den h =
     ∙ sym (round-opposite binary64 num den)
 
 -- of any text whose number is below 2 ^ 3022
-pub decimal-rounds : (t : String) → let f = fraction t in f .numerator * 2 ^ 1074 / f .denominator < 2 ^ 2 ^ 12 → decimal t ≡ round binary64 (f .negative) (f .numerator) (f .denominator)
-decimal-rounds t h = let f = fraction t in nearest-rounds (f .negative) (f .numerator) (f .denominator) h
+pub decimal-rounds : (t : String) → let f = fraction t in f .isNumber ≡ true → f .numerator * 2 ^ 1074 / f .denominator < 2 ^ 2 ^ 12
+    → decimal t ≡ round binary64 (f .negative) (f .numerator) (f .denominator)
+decimal-rounds t is h =
+    let f = fraction t in
+    ap (λ (b : Bool). nearestTo (record { isNumber = b; negative = f .negative; numerator = f .numerator; denominator = f .denominator })) is
+    ∙ nearest-rounds (f .negative) (f .numerator) (f .denominator) h
 
--- ---- three texts
-pub read-decimals : fraction "287.0531" ≡ record { negative = false; numerator = 2_870_531; denominator = 10_000 }
-read-decimals = refl
+-- and of any other text
+pub no-decimal : (t : String) → fraction t .isNumber ≡ false → decimal t ≡ nan
+no-decimal t is = let f = fraction t in ap (λ (b : Bool). nearestTo (record { isNumber = b; negative = f .negative; numerator = f .numerator; denominator = f .denominator })) is
 
-pub read-sign : fraction "-0.0065" ≡ record { negative = true; numerator = 65; denominator = 10_000 }
-read-sign = refl
-
-pub read-power : fraction "3.14e-8" ≡ record { negative = false; numerator = 314; denominator = 10_000_000_000 }
-read-power = refl
+-- ---- the ways in which a text is no decimal
+-- nothing, no digit, a letter for a digit, a digit left out before or after the point, in the power or after its minus, a second point or minus, a plus, a blank
+pub not-read : map decimal ("" ∷ "-" ∷ "1.O5" ∷ ".5" ∷ "1." ∷ "1e" ∷ "1e-" ∷ "1.2.3" ∷ "--1" ∷ "+1" ∷ " 1" ∷ []) ≡ replicate 11 nan
+not-read = refl

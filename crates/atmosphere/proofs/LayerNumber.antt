@@ -1,16 +1,16 @@
 -- Laws of the choice of layer by height: it is the first layer below whose top the height lies, one of seven, and the only one in whose range it lies. The
--- former definition, the highest layer whose base is at most the height, chooses the same one. Assumes nothing.
+-- former search chooses the same one. Assumes nothing.
 use mathlib.Core.Path.{_≡_, refl, sym, ap, subst, _∙_}
 use mathlib.Core.Bool.{Bool, true, false, not, _&&_, cond, true≢false}
 use Prim.Native.Nat.{ℕ, zero, suc, _+_, _≤_, _<_}
 use native.Mathlib.Omega.{arith}
 use borrow.Author.Tests.{le-leb, lt-leb, leb-true, leb-false}
-use lib.Dec.{T, leb}
+use lib.Dec.{T, leb, lit≤}
 use lib.Ieee.{Float, nan, inf, fin, binary64, ofBits, fits, lt, le, isNan}
 use lib.Ieee.Bits.{is-true, is-false}
 use Rattle.arithmetic.proofs.Order.{number}
 use Rattle.arithmetic.proofs.Strict.{less-of-not-le, not-le-of-less, lt-le-trans}
-use Rattle.atmosphere.specs.Layers.{layers, firstFrom, baseHeight, layerAt, Range, OnlyRange}
+use Rattle.atmosphere.specs.Layers.{layers, firstFrom, baseHeight, layerAt, Range, OnlyRange, highestUpTo, NoAnswerMoves}
 use Rattle.atmosphere.proofs.FirstLayer.{first-le, told-by-first}
 
 -- ---- a height and a top, two numbers
@@ -47,7 +47,7 @@ abbrev pub below : Float → ℕ → Bool
 below H i = lt H (baseHeight (suc i))
 
 flat : (a b c d e f : Bool)
-    → _≡_ {A = ℕ} (cond a 0 (cond (not a && b) 1 (cond (not b && c) 2 (cond (not c && d) 3 (cond (not d && e) 4 (cond (not e && f) 5 6)))))) (cond a 0 (cond b 1 (cond c 2 (cond d 3 (cond e 4 (cond f 5 6))))))
+    → _≡_ {A = ℕ} (cond a 0 (cond (not a && b) 1 (cond (not b && c) 2 (cond (not c && d) 3 (cond (not d && e) 4 (cond (not e && f) 5 (cond (not f) 6 0))))))) (cond a 0 (cond b 1 (cond c 2 (cond d 3 (cond e 4 (cond f 5 6))))))
 flat true b c d e f = refl
 flat false true c d e f = refl
 flat false false true d e f = refl
@@ -56,26 +56,24 @@ flat false false false false true f = refl
 flat false false false false false true = refl
 flat false false false false false false = refl
 
--- and with the test for a NaN, where a base is reached exactly if the height is not below it
-run : {n k l m o p : Bool} (a b c d e f : Bool) → n ≡ false → k ≡ not a → l ≡ not b → m ≡ not c → o ≡ not d → p ≡ not e
-    → _≡_ {A = ℕ} (cond n 0 (cond a 0 (cond (k && b) 1 (cond (l && c) 2 (cond (m && d) 3 (cond (o && e) 4 (cond (p && f) 5 6))))))) (cond a 0 (cond b 1 (cond c 2 (cond d 3 (cond e 4 (cond f 5 6))))))
-run a b c d e f h₀ h₁ h₂ h₃ h₄ h₅ = cc (flat a b c d e f)
+-- and with each base's test, where the base is reached exactly if the height is not below it
+run : {k l m o p q : Bool} (a b c d e f : Bool) → k ≡ not a → l ≡ not b → m ≡ not c → o ≡ not d → p ≡ not e → q ≡ not f
+    → _≡_ {A = ℕ} (cond a 0 (cond (k && b) 1 (cond (l && c) 2 (cond (m && d) 3 (cond (o && e) 4 (cond (p && f) 5 (cond q 6 0))))))) (cond a 0 (cond b 1 (cond c 2 (cond d 3 (cond e 4 (cond f 5 6))))))
+run a b c d e f h₁ h₂ h₃ h₄ h₅ h₆ = cc (flat a b c d e f)
 
 pub first-below : (H : Float) → isNan H ≡ false → layerAt H ≡ firstFrom (below H) 6 0
 unfolding layers layerAt firstFrom ofBits
 first-below H e =
     let u = is-number H e in
-    run (below H 0) (below H 1) (below H 2) (below H 3) (below H 4) (below H 5) e (from-not-below H (baseHeight 1) u tt) (from-not-below H (baseHeight 2) u tt) (from-not-below H (baseHeight 3) u tt) (from-not-below H (baseHeight 4) u tt)
-    (from-not-below H (baseHeight 5) u tt)
+    run (below H 0) (below H 1) (below H 2) (below H 3) (below H 4) (below H 5) (from-not-below H (baseHeight 1) u tt) (from-not-below H (baseHeight 2) u tt) (from-not-below H (baseHeight 3) u tt) (from-not-below H (baseHeight 4) u tt)
+    (from-not-below H (baseHeight 5) u tt) (from-not-below H (baseHeight 6) u tt)
 
 -- ---- one of seven
 pub layer-lt : (H : Float) → layerAt H < 7
-unfolding layerAt
-layer-lt H = go (isNan H) refl
-  where
-    go : (t : Bool) → isNan H ≡ t → layerAt H < 7
-    go true e = simp e (omega arith)
-    go false e = omega (arith, first-below H e, first-le (below H) 6 0)
+unfolding layerAt isNan lt le ofBits
+layer-lt nan = lit≤ tt
+layer-lt (inf s) = omega (arith, first-below (inf s) refl, first-le (below (inf s)) 6 0)
+layer-lt (fin s m e) = omega (arith, first-below (fin s m e) refl, first-le (below (fin s m e)) 6 0)
 
 -- ---- a double that is a number
 module _ (H : Float) (f : T (fits binary64 H)) (e : isNan H ≡ false) where
@@ -124,12 +122,7 @@ module _ (H : Float) (f : T (fits binary64 H)) (e : isNan H ≡ false) where
         alone = λ i r. omega (arith, at-least i r, at-most i r);
       }
 
--- ---- the former definition
--- the highest of the layers 1 to i whose base is at most H, and layer 0 where there is none
-unfoldable pub highestUpTo : ℕ → Float → ℕ
-highestUpTo zero H = 0
-highestUpTo (suc i) H = cond (le (baseHeight (suc i)) H) (suc i) (highestUpTo i H)
-
+-- ---- the former search
 highest-is : (H : Float) → T (fits binary64 H) → isNan H ≡ false → (i : ℕ) → layerAt H ≤ i → i < 7 → highestUpTo i H ≡ layerAt H
 unfolding highestUpTo
 highest-is H f e zero l h = omega arith
@@ -139,9 +132,8 @@ highest-is H f e (suc i) l h = either (leb (layerAt H) i) refl (λ k. highest-is
     either true k lower = simp (told-above H f e i (omega arith), k) (lower (leb-true (layerAt H) i k))
     either false k lower = simp (told-above H f e i (omega arith), k) (omega (arith, leb-false (layerAt H) i k))
 
--- no answer moves
-pub former : (H : Float) → T (fits binary64 H) → layerAt H ≡ highestUpTo 6 H
-unfolding layers layerAt highestUpTo ofBits isNan le
+pub former : NoAnswerMoves
+unfolding layers layerAt highestUpTo ofBits isNan lt le
 former nan f = refl
 former (inf s) f = sym (highest-is (inf s) f refl 6 (omega (arith, layer-lt (inf s))) (omega arith))
 former (fin s m e) f = sym (highest-is (fin s m e) f refl 6 (omega (arith, layer-lt (fin s m e))) (omega arith))

@@ -8,7 +8,7 @@ use mathlib.Core.Bool.{Bool, _&&_, cond}
 use mathlib.Core.List.{List, [], _∷_}
 use lib.ListN.{getD}
 use lib.Dec.{T}
-use lib.Ieee.{Float, nan, neg, lt, le, isNan}
+use lib.Ieee.{Float, nan, binary64, fits, neg, lt, le}
 use Rattle.arithmetic.specs.Decimals.{decimal}
 use Rattle.arithmetic.specs.Operators.{_⊕_, _⊖_, _⊗_, _⊘_}
 use Rattle.elementary.specs.Exponents.{ofDouble, g₀, Rd, pressureExponent}
@@ -79,15 +79,15 @@ fromTo a b H = le (decimal a) H && lt H (decimal b)
 -- case by case in the table's order, from the ground up; NaN takes layer 0
 unfoldable pub layerAt : Float → ℕ
 layerAt H =
-    cond (isNan H) 0
-    (cond (lt H (decimal "11000")) 0
+    cond (lt H (decimal "11000")) 0
     (cond (fromTo "11000" "20000" H) 1
     (cond (fromTo "20000" "32000" H) 2
     (cond (fromTo "32000" "47000" H) 3
     (cond (fromTo "47000" "51000" H) 4
     (cond (fromTo "51000" "71000" H) 5
-    -- 71000 and above
-    6))))))
+    (cond (le (decimal "71000") H) 6
+    -- NaN lies in none
+    0))))))
 
 -- The range of layer i: from its base to below the next layer's. The lowest has every height below, and the highest every height above.
 pub record Range (i : ℕ) (H : Float) : Type 0 where
@@ -99,6 +99,14 @@ pub record Range (i : ℕ) (H : Float) : Type 0 where
 pub record OnlyRange (i : ℕ) (H : Float) : Type 0 where
   pub here : Range i H
   pub alone : (j : ℕ) → Range j H → j ≡ i
+
+-- ---- the search that chose the layer before: of the layers i, i - 1, .., 1 the first whose base is at most H, or else layer 0
+unfoldable pub highestUpTo : ℕ → Float → ℕ
+highestUpTo zero H = 0
+highestUpTo (suc i) H = cond (le (baseHeight (suc i)) H) (suc i) (highestUpTo i H)
+
+abbrev pub NoAnswerMoves : Type 0
+NoAnswerMoves = (H : Float) → T (fits binary64 H) → layerAt H ≡ highestUpTo 6 H
 
 -- ---- temperature
 -- in layer i at d = H - H_b above its base: T = T_b + β (H - H_b)
@@ -132,5 +140,5 @@ layerAir p i H =
     record { «temperature_k» = T; «pressure_pa» = layerPressure p i d T }
 
 unfoldable pub standardAir : ℕ → Float → StandardAir
-unfolding layers layerAt standardHeight layerPressure isNan
+unfolding layers layerAt standardHeight layerPressure
 standardAir p altitude = let H = standardHeight altitude in layerAir p (layerAt H) H

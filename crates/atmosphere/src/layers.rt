@@ -2,9 +2,7 @@
 // an altitude.
 ghost use mathlib.Core.Path.{_≡_};
 ghost use Prim.Native.Nat.{_<_};
-ghost use mathlib.Core.Bool.{false};
-ghost use lib.Ieee.{isNan};
-ghost use Rattle.atmosphere.specs.Layers.{geopotentialHeight, standardHeight, layerAt, OnlyRange, layerPressure, standardAir};
+ghost use Rattle.atmosphere.specs.Layers.{geopotentialHeight, standardHeight, layerAt, layerPressure, standardAir};
 ghost use Rattle.arithmetic.specs.Places.{places};
 use doubles::doubles::abs;
 use doubles::doubles::clamp;
@@ -69,33 +67,33 @@ pub fn standard_geopotential_height_m(altitude_m: f64) -> f64
     )
 }
 
-// The layer of a height, from the ground up. NaN takes layer 0.
+// The layer in whose range a height lies, in the order of the printed table. NaN takes layer 0.
 fn layer_number(geopotential_height: f64) -> usize
-    ensures { λ r. ⌜ (r ≡ layerAt «geopotential_height») × (isNan «geopotential_height» ≡ false → OnlyRange r «geopotential_height») ⌝ }
+    ensures { λ r. ⌜ r ≡ layerAt «geopotential_height» ⌝ }
 {
-    // only a NaN differs from itself
-    if geopotential_height != geopotential_height {
-        return 0;
-    }
     if geopotential_height < 11000.0 {
         return 0;
     }
-    if geopotential_height < 20000.0 {
+    if (11000.0 <= geopotential_height) & (geopotential_height < 20000.0) {
         return 1;
     }
-    if geopotential_height < 32000.0 {
+    if (20000.0 <= geopotential_height) & (geopotential_height < 32000.0) {
         return 2;
     }
-    if geopotential_height < 47000.0 {
+    if (32000.0 <= geopotential_height) & (geopotential_height < 47000.0) {
         return 3;
     }
-    if geopotential_height < 51000.0 {
+    if (47000.0 <= geopotential_height) & (geopotential_height < 51000.0) {
         return 4;
     }
-    if geopotential_height < 71000.0 {
+    if (51000.0 <= geopotential_height) & (geopotential_height < 71000.0) {
         return 5;
     }
-    6
+    if 71000.0 <= geopotential_height {
+        return 6;
+    }
+    // NaN lies in none
+    0
 }
 
 // The pressure in a layer, at so many metres above its base and at the temperature there.

@@ -1,4 +1,5 @@
 // A line with a figure: its name, its decimal text at the right of sixteen places, its unit.
+ghost use mathlib.Core.Path.{_≡_};
 ghost use Rattle.decimals.specs.Decimal.{decimalText};
 ghost use Rattle.pieces.specs.Pieces.{Appended};
 ghost use Rattle.columns.specs.Columns.{column, figureLine};
@@ -26,7 +27,8 @@ pub fn put_figure(
     decimals: u32,
     unit: &[u8],
 ) -> usize
-    ensures { λ r. ⌜ Appended (now (page .entry)) at (figureLine (now (name .entry)) decimals x (now (unit .entry))) (now (page .exit)) r ⌝ }
+    ensures appended { λ r. ⌜ Appended (now (page .entry)) at (figureLine (now (name .entry)) decimals x (now (unit .entry))) (now (page .exit)) r ⌝ }
+    ensures kept { λ _. ⌜ (now (name .exit) ≡ now (name .entry)) × (now (unit .exit) ≡ now (unit .entry)) ⌝ }
 {
     let named = put(page, at, name);
     let figured = put_decimal(page, named, x, decimals);

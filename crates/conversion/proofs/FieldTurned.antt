@@ -14,8 +14,9 @@ use Rattle.fields.specs.declared.fields.Value.the-variants.{Double, Count}
 use Rattle.fields.specs.Bytes.{wordAt, doubleAt}
 use Rattle.fields.specs.Fields.{meanings, isCountTag, isTag, meaningOf, tagIn, isCount, doubleOf, tagOf, sizeOf, valueOf, headRows}
 use Rattle.fields.proofs.Forms.{tag-known, tag-meaning}
-use Rattle.writer.specs.Records.{fieldWith, hasForm}
+use Rattle.writer.specs.Records.{fieldWith, fieldFor, hasForm}
 use Rattle.writer.specs.Laws.{AreBytes, IsHeld}
+use Rattle.writer.proofs.Fields.{field-meant}
 use Rattle.writer.proofs.Spelled.{word-lt}
 use Rattle.writer.proofs.FieldRead.{tag-read, size-read, value-read, none-refuses}
 use Rattle.writer.proofs.FieldWritten.{value-form, tag-is, same-bytes}
@@ -47,50 +48,59 @@ module _ (counts : Bool) (f : List ℕ) (all : AreBytes f) (one : length f ≡ s
   meant : m < meanings
   meant = tag-is f all none .meant
 
-  -- with the other tag
-  module _ (tag : ℕ) (w : Value) (e : turnedOf counts f ≡ Other tag w) where
-    to : TurnedTo counts m (valueOf f) tag w
+  -- with the other value
+  module _ (n : ℕ) (w : Value) (e : turnedOf counts f ≡ Other n w) where
+    to : TurnedTo counts m (valueOf f) n w
     to = turned-to counts m (valueOf f) (value-held f all) e
 
+    abbrev tag : ℕ
+    tag = tagIn (isCount w) m
+
+    is-field : fieldFor n w ≡ fieldWith tag w
+    is-field = ap (λ (k : ℕ). fieldFor k w) (to .its-meaning) ∙ field-meant m w meant
+
     is-tag : isTag tag ≡ true
-    is-tag = ap isTag (to .its-tag) ∙ tag-known m meant counts
+    is-tag = tag-known m meant (isCount w)
 
     small : tag < 256
-    small = omega (arith, to .its-tag, tag-at-most counts m meant)
+    small = omega (arith, tag-at-most (isCount w) m meant)
 
     form : hasForm tag w ≡ true
-    form = ap (λ (t : ℕ). hasForm t w) (to .its-tag ∙ ap (λ (b : Bool). tagIn b m) (sym (to .its-form))) ∙ tag-of-form m w meant
+    form = tag-of-form m w meant
 
     its-meaning : meaningOf (tagOf (fieldWith tag w)) ≡ m
-    its-meaning = ap meaningOf (tag-read tag w is-tag small form ∙ to .its-tag) ∙ tag-meaning m meant counts
+    its-meaning = ap meaningOf (tag-read tag w is-tag small form) ∙ tag-meaning m meant (isCount w)
 
     its-value : valueOf (fieldWith tag w) ≡ w
     its-value = value-read tag w is-tag small form (to .held)
 
-    other-seen : SeenAs f (fieldWith tag w)
-    other-seen = record {
-      one = sym (size-read tag w is-tag small form);
-      none = none-refuses tag w is-tag small form;
-      meaning = its-meaning;
-      value = ap doubleOf its-value ∙ to .same;
-    }
+    other-seen : SeenAs f (fieldFor n w)
+    other-seen =
+        rw is-field
+        record {
+          one = sym (size-read tag w is-tag small form);
+          none = none-refuses tag w is-tag small form;
+          meaning = its-meaning;
+          value = ap doubleOf its-value ∙ to .same;
+        }
 
     -- and back
-    comes-back : isCountTag (tagOf f) ≡ not counts → turnedOf (not counts) (fieldWith tag w) ≡ Other (tagOf f) (valueOf f)
-    comes-back other =
-        ap₂ (turned (not counts)) its-meaning its-value
-        ∙ to .back
-        ∙ ap (λ (t : ℕ). Other t (valueOf f)) (ap (λ (b : Bool). tagIn b m) (sym other) ∙ tag-is f all none .same)
+    comes-back : turnedOf (not counts) (fieldFor n w) ≡ Other m (valueOf f)
+    comes-back = ap (turnedOf (not counts)) is-field ∙ ap₂ (turned (not counts)) its-meaning its-value ∙ to .back
 
-    same-field : fieldWith (tagOf f) (valueOf f) ≡ f
-    same-field = same-bytes f all none (to .number) ∙ take-all (sizeOf f) f (omega arith)
+    same-field : fieldFor m (valueOf f) ≡ f
+    same-field =
+        field-meant m (valueOf f) meant
+        ∙ ap (λ (t : ℕ). fieldWith t (valueOf f)) (ap (λ (b : Bool). tagIn b m) (value-form f) ∙ tag-is f all none .same)
+        ∙ same-bytes f all none (to .number)
+        ∙ take-all (sizeOf f) f (omega arith)
 
   pub seen-as : hasNoCount (turnedOf counts f) ≡ false → SeenAs f (fieldIn counts f)
   seen-as has = go (turnedOf counts f) refl has
     where
       go : (t : Turned) → turnedOf counts f ≡ t → hasNoCount t ≡ false → SeenAs f (fieldAs f t)
       go Kept e has = record { one = one; none = none; meaning = refl; value = refl }
-      go (Other tag w) e has = other-seen tag w e
+      go (Other n w) e has = other-seen n w e
       go NoCount e has = absurd (true≢false has)
 
   pub field-back : isCountTag (tagOf f) ≡ not counts → hasNoCount (turnedOf counts f) ≡ false
@@ -103,7 +113,7 @@ module _ (counts : Bool) (f : List ℕ) (all : AreBytes f) (one : length f ≡ s
 
       go : (t : Turned) → turnedOf counts f ≡ t → hasNoCount t ≡ false → (hasNoCount (turnedOf (not counts) (fieldAs f t)) ≡ false) × (fieldIn (not counts) (fieldAs f t) ≡ f)
       go Kept e has = absurd (apart counts (kept-form counts m (valueOf f) e) (value-form f ∙ other))
-      go (Other tag w) e has =
-          let back = comes-back tag w e other in
-          (ap hasNoCount back, ap (fieldAs (fieldWith tag w)) back ∙ same-field tag w e)
+      go (Other n w) e has =
+          let back = comes-back n w e in
+          (ap hasNoCount back, ap (fieldAs (fieldFor n w)) back ∙ same-field n w e)
       go NoCount e has = absurd (true≢false has)

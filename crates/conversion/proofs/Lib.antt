@@ -9,3 +9,4 @@ pub mod FieldTurned
 pub mod ReadAlike
 pub mod ComesBack
 pub mod OnlyToCounts
+pub mod Causes

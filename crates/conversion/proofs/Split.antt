@@ -21,7 +21,7 @@ use Rattle.record.proofs.Entries.{is-new, in-range}
 use Rattle.record.proofs.Followed.{same-rows, same-field}
 use Rattle.record.proofs.FirstBytes.{room, falls}
 use Rattle.writer.specs.Laws.{AreBytes}
-use Rattle.writer.proofs.Fields.{length-field}
+use Rattle.writer.proofs.Fields.{field-short}
 use Rattle.conversion.specs.declared.Turned.{Turned}
 use Rattle.conversion.specs.declared.Turned.the-variants.{Kept, Other, NoCount}
 use Rattle.conversion.specs.Conversion.{fieldAs, sizeAs, turnedOf, fieldIn, splitFrom, fieldsOf, fieldsIn, recordIn}
@@ -118,12 +118,12 @@ fields-few (suc n) r last (b ∷ t) all h =
 
 pub length-as : (f : List ℕ) (t : Turned) → length (fieldAs f t) ≡ sizeAs (length f) t
 length-as f Kept = refl
-length-as f (Other tag v) = length-field tag v
+length-as f (Other m v) = refl
 length-as f NoCount = refl
 
 at-most-eleven : (n : ℕ) (t : Turned) → n ≤ 11 → sizeAs n t ≤ 11
 at-most-eleven n Kept h = h
-at-most-eleven n (Other tag v) h = omega (arith, at-most tag)
+at-most-eleven n (Other m v) h = field-short m v
 at-most-eleven n NoCount h = omega arith
 
 short : (counts : Bool) (n : ℕ) (s : List ℕ) → length (fieldsIn counts (splitFrom n s)) ≤ 11 * length (splitFrom n s)

@@ -14,18 +14,18 @@ use Rattle.thousandths.proofs.Words.{twos-complement}
 use Rattle.thousandths.proofs.Laws.{thousandths-fits, count-of-double, double-of-count}
 use Rattle.fields.specs.declared.fields.Value.{Value}
 use Rattle.fields.specs.declared.fields.Value.the-variants.{Double, Count}
-use Rattle.fields.specs.Fields.{tagIn, isCount, doubleOf}
+use Rattle.fields.specs.Fields.{isCount, doubleOf}
 use Rattle.writer.specs.Laws.{IsHeld, NotNan}
 use Rattle.conversion.specs.declared.Turned.the-variants.{Kept, Other}
 use Rattle.conversion.specs.Conversion.{counted, turned}
 
-pub record TurnedTo (counts : Bool) (m : ℕ) (v : Value) (tag : ℕ) (w : Value) : Type 0 where
-  pub its-tag : tag ≡ tagIn counts m
+pub record TurnedTo (counts : Bool) (m : ℕ) (v : Value) (n : ℕ) (w : Value) : Type 0 where
+  pub its-meaning : n ≡ m
   pub its-form : isCount w ≡ counts
   pub held : IsHeld w
   pub same : doubleOf w ≡ doubleOf v
   pub number : NotNan v
-  pub back : turned (not counts) m w ≡ Other (tagIn (not counts) m) v
+  pub back : turned (not counts) m w ≡ Other m v
 
 is-number : (x : Float) → T (finite x) → isNan x ≡ false
 unfolding isNan
@@ -34,42 +34,42 @@ is-number (inf s) h = absurd h
 is-number (fin s m e) h = refl
 
 -- a double whose count is n, and a count's word
-to-count : (m : ℕ) (x : Float) {n : ℤ} → IsHeld (Double x) → countFor x ≡ found.Count n → TurnedTo true m (Double x) (tagIn true m) (Count (wordOf n))
+to-count : (m : ℕ) (x : Float) {n : ℤ} → IsHeld (Double x) → countFor x ≡ found.Count n → TurnedTo true m (Double x) m (Count (wordOf n))
 to-count m x {n} held e =
     let gives = count-of-double .givesTheDouble x n held e in
     let again = ap thousandths (twos-complement .countOfWord n (gives .0)) ∙ gives .1 in
     record {
-      its-tag = refl;
+      its-meaning = refl;
       its-form = refl;
       held = twos-complement .wordInRange n (gives .0);
       same = again;
       number = is-number x (subst (λ (y : Float). T (finite y)) (gives .1) (double-of-count .isFinite n (gives .0)));
-      back = ap (λ (y : Float). Other (tagIn false m) (Double y)) again;
+      back = ap (λ (y : Float). Other m (Double y)) again;
     }
 
-to-double : (m word : ℕ) → IsHeld (Count word) → TurnedTo false m (Count word) (tagIn false m) (Double (thousandths (countOf word)))
+to-double : (m word : ℕ) → IsHeld (Count word) → TurnedTo false m (Count word) m (Double (thousandths (countOf word)))
 to-double m word held = record {
-  its-tag = refl;
+  its-meaning = refl;
   its-form = refl;
   held = thousandths-fits (countOf word);
   same = refl;
   number = tt;
-  back = ap (counted m) (double-of-count .findsItsCount (countOf word) (twos-complement .countInRange word held)) ∙ ap (λ (u : ℕ). Other (tagIn true m) (Count u)) (twos-complement .wordOfCount word held);
+  back = ap (counted m) (double-of-count .findsItsCount (countOf word) (twos-complement .countInRange word held)) ∙ ap (λ (u : ℕ). Other m (Count u)) (twos-complement .wordOfCount word held);
 }
 
-pub turned-to : (counts : Bool) (m : ℕ) (v : Value) {tag : ℕ} {w : Value} → IsHeld v → turned counts m v ≡ Other tag w → TurnedTo counts m v tag w
-turned-to true m (Double x) {tag} {w} held e = go (countFor x) refl e
+pub turned-to : (counts : Bool) (m : ℕ) (v : Value) {n : ℕ} {w : Value} → IsHeld v → turned counts m v ≡ Other n w → TurnedTo counts m v n w
+turned-to true m (Double x) {n} {w} held e = go (countFor x) refl e
   where
-    go : (c : Counted) → countFor x ≡ c → counted m c ≡ Other tag w → TurnedTo true m (Double x) tag w
-    go (found.Count n) is e =
-        let t : tagIn true m ≡ tag = cc in
-        let u : Count (wordOf n) ≡ w = cc in
+    go : (c : Counted) → countFor x ≡ c → counted m c ≡ Other n w → TurnedTo true m (Double x) n w
+    go (found.Count k) is e =
+        let t : m ≡ n = cc in
+        let u : Count (wordOf k) ≡ w = cc in
         rw (sym t, sym u) (to-count m x held is)
     go found.Missing is e = let z : _≡_ {A = ℕ} 0 1 = cc in absurd (omega arith)
 turned-to true m (Count word) held e = let z : _≡_ {A = ℕ} 0 1 = cc in absurd (omega arith)
 turned-to false m (Double x) held e = let z : _≡_ {A = ℕ} 0 1 = cc in absurd (omega arith)
-turned-to false m (Count word) {tag} {w} held e =
-    let t : tagIn false m ≡ tag = cc in
+turned-to false m (Count word) {n} {w} held e =
+    let t : m ≡ n = cc in
     let u : Double (thousandths (countOf word)) ≡ w = cc in
     rw (sym t, sym u) (to-double m word held)
 

@@ -10,34 +10,34 @@ use Rattle.thousandths.specs.declared.Counted.the-variants as found
 use Rattle.thousandths.specs.Thousandths.{countOf, wordOf, thousandths, countFor}
 use Rattle.fields.specs.declared.fields.Value.{Value}
 use Rattle.fields.specs.declared.fields.Value.the-variants.{Double, Count}
-use Rattle.fields.specs.Fields.{meaningOf, tagIn, dataSize, tagOf, sizeOf, valueOf}
+use Rattle.fields.specs.Fields.{meaningOf, tagOf, sizeOf, valueOf}
 use Rattle.record.specs.Readings.{readRows}
-use Rattle.writer.specs.Records.{fieldWith}
+use Rattle.writer.specs.Records.{fieldFor}
 use Rattle.writer.specs.Written.{lengthWritten, overwritten}
 use Rattle.conversion.specs.declared.Turned.{Turned}
 use Rattle.conversion.specs.declared.Turned.the-variants.{Kept, Other, NoCount}
 
--- ---- a value, in counts or in doubles: kept where it is so already, or else with the other tag of its meaning
+-- ---- a value of a meaning, in counts or in doubles: kept where it is so already
 abbrev pub counted : ℕ → Counted → Turned
-counted m (found.Count n) = Other (tagIn true m) (Count (wordOf n))
+counted m (found.Count n) = Other m (Count (wordOf n))
 counted m found.Missing = NoCount
 
 abbrev pub turned : Bool → ℕ → Value → Turned
 turned true m (Double x) = counted m (countFor x)
 turned true m (Count word) = Kept
 turned false m (Double x) = Kept
-turned false m (Count word) = Other (tagIn false m) (Double (thousandths (countOf word)))
+turned false m (Count word) = Other m (Double (thousandths (countOf word)))
 
 -- ---- a field: what is kept is so byte for byte
 abbrev pub fieldAs : List ℕ → Turned → List ℕ
 fieldAs f Kept = f
-fieldAs f (Other tag v) = fieldWith tag v
+fieldAs f (Other m v) = fieldFor m v
 fieldAs f NoCount = []
 
 -- its length, where it has n bytes
 abbrev pub sizeAs : ℕ → Turned → ℕ
 sizeAs n Kept = n
-sizeAs n (Other tag v) = 3 + dataSize tag
+sizeAs n (Other m v) = length (fieldFor m v)
 sizeAs n NoCount = 0
 
 abbrev pub turnedOf : Bool → List ℕ → Turned
@@ -48,7 +48,7 @@ fieldIn counts f = fieldAs f (turnedOf counts f)
 
 abbrev pub hasNoCount : Turned → Bool
 hasNoCount Kept = false
-hasNoCount (Other tag v) = false
+hasNoCount (Other m v) = false
 hasNoCount NoCount = true
 
 -- ---- a record: its fields, each with all of its bytes. A field has a byte at least, so n fields for n bytes are enough

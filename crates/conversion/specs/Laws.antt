@@ -2,15 +2,19 @@
 use Prim.Native.Nat.{ℕ}
 use mathlib.Core.Path.{_≡_}
 use mathlib.Core.Bool.{Bool, true, false, not}
-use mathlib.Core.List.{List, [], _∷_}
+use mathlib.Core.List.{List, [], _∷_, _++_, flatMap}
+use lib.ListN.{length}
 use lib.Ieee.{Float}
-use Rattle.refusal.specs.Outcomes.{accepted, refused}
+use Rattle.refusal.specs.Outcomes.{accepted, refused, Row, numbers}
+use Rattle.refusal.specs.Causes.{ExactlyCaused}
 use Rattle.entries.specs.declared.Readings.{Readings}
 use Rattle.fields.specs.Fields.{isCountTag, tagOf}
-use Rattle.record.specs.Readings.{readRecord}
+use Rattle.fields.specs.Tags.{tags}
+use Rattle.record.specs.Readings.{readRecord, readRows}
 use Rattle.entries.specs.Entries.{entryOf}
 use Rattle.writer.specs.Laws.{AreBytes}
-use Rattle.conversion.specs.Conversion.{fieldsOf, converted, lengthConverted}
+use Rattle.writer.specs.Written.{roomRows}
+use Rattle.conversion.specs.Conversion.{fieldsOf, converted, lengthConverted, countRows, recordIn}
 
 -- ---- and back
 abbrev pub AllIn : Bool → List (List ℕ) → Type 0
@@ -39,3 +43,15 @@ SameEntries = (counts : Bool) (s t : List ℕ) → AreBytes s → converted coun
 -- ---- every count has a double: 20 is never answered to a conversion to doubles
 abbrev pub OnlyToCounts : Type 0
 OnlyToCounts = (s buffer : List ℕ) (values : List Float) → lengthConverted false s buffer ≡ refused 20 values → ⊥
+
+-- ---- each number has exactly its cause: 5 to 8 by the first reader, then 20, then 18
+abbrev pub conversionRows : Bool → List ℕ → List ℕ → List Row
+conversionRows counts s buffer = (readRows false s ++ countRows counts (fieldsOf s)) ++ roomRows (recordIn counts s) buffer
+
+abbrev pub Caused : Bool → List ℕ → List ℕ → Type 0
+Caused counts s buffer = ExactlyCaused (conversionRows counts s buffer) (length (recordIn counts s)) (lengthConverted counts s buffer)
+
+-- in this order: those of each field, then 20 of each field, then 18
+abbrev pub OrderOfChecks : Bool → List ℕ → List ℕ → Type 0
+OrderOfChecks counts s buffer =
+    numbers (conversionRows counts s buffer) ≡ (flatMap (λ _. 5 ∷ 6 ∷ 7 ∷ 5 ∷ 8 ∷ 19 ∷ []) (tags s) ++ flatMap (λ _. 20 ∷ []) (fieldsOf s)) ++ 18 ∷ []

@@ -2,21 +2,17 @@
 // that are in the form already as they are.
 ghost use mathlib.Core.Path.{_≡_};
 ghost use mathlib.Core.Bool.{true, false};
-ghost use Prim.Native.Nat.{_+_, _-_, _≤_, _<_};
+ghost use Prim.Native.Nat.{_+_, _-_, _≤_};
 ghost use lib.ListN.{length};
 ghost use lib.Seq.{sets};
 ghost use Rattle.refusal.specs.Causes.{NoneHolds};
 ghost use Rattle.refusal.specs.Outcomes.{accepted, _then_};
-ghost use Rattle.fields.specs.Fields.{meanings, headRows};
+ghost use Rattle.fields.specs.Fields.{headRows};
 ghost use Rattle.record.specs.Readings.{readRows};
 ghost use Rattle.writer.specs.Written.{written};
 ghost use Rattle.conversion.specs.Conversion.{counted, turned, fieldAs, sizeAs, turnedOf, hasNoCount, fieldsOf, recordIn, countRows, converted, lengthConverted, writtenIn};
-use fields::fields::FIRST_COUNT;
-use fields::fields::FIRST_DOUBLE;
 use fields::fields::Found;
-use fields::fields::HEADER;
 use fields::fields::Value;
-use fields::fields::data_size;
 use fields::fields::next_at;
 use reader::reader::field_from;
 use record::readings::read_record;
@@ -27,27 +23,26 @@ use thousandths::count_of;
 use thousandths::double_of_word;
 use thousandths::word_from;
 use writer::Written;
+use writer::field_size;
 use writer::write_field;
 
-// A field in a form: as it is, with another tag and value, or none, where a double has no count.
+// A field in a form: as it is, with the other value of its meaning, or none, where a double has no count.
 enum Turned {
     Kept,
-    Other(u8, Value),
+    Other(usize, Value),
     NoCount,
 }
 
 fn counted(meaning: usize, count: Counted) -> Turned
-    requires { ⌜ meaning < meanings ⌝ }
     ensures { λ r. ⌜ r ≡ counted meaning count ⌝ }
 {
     match count {
-        Counted::Count(n) => Turned::Other(FIRST_COUNT + meaning as u8, Value::Count(word_from(n))),
+        Counted::Count(n) => Turned::Other(meaning, Value::Count(word_from(n))),
         Counted::Missing => Turned::NoCount,
     }
 }
 
 fn turn(meaning: usize, value: Value, counts: bool) -> Turned
-    requires { ⌜ meaning < meanings ⌝ }
     ensures { λ r. ⌜ r ≡ turned counts meaning value ⌝ }
 {
     match value {
@@ -61,10 +56,7 @@ fn turn(meaning: usize, value: Value, counts: bool) -> Turned
             if counts {
                 return Turned::Kept;
             }
-            Turned::Other(
-                FIRST_DOUBLE + meaning as u8,
-                Value::Double(double_of_word(word)),
-            )
+            Turned::Other(meaning, Value::Double(double_of_word(word)))
         }
     }
 }
@@ -98,7 +90,7 @@ fn turned_size(size: usize, turned: Turned) -> usize
 {
     match turned {
         Turned::Kept => size,
-        Turned::Other(tag, _) => HEADER + data_size(tag),
+        Turned::Other(meaning, value) => field_size(meaning, value),
         Turned::NoCount => 0,
     }
 }
@@ -144,9 +136,9 @@ fn put_turned(field: &[u8], turned: Turned, out: &mut [u8], at: usize) -> usize
             copy(field, out, at);
             at + field.len()
         }
-        Turned::Other(tag, value) => {
-            write_field(tag, value, &mut out[at..]);
-            at + HEADER + data_size(tag)
+        Turned::Other(meaning, value) => {
+            write_field(meaning, value, &mut out[at..]);
+            at + field_size(meaning, value)
         }
         Turned::NoCount => at,
     }

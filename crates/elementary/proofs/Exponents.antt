@@ -1,14 +1,12 @@
--- The table of the exponents: each entry, times 2^58, is whole, is not zero and fits a word, by one test that antt computes; and where 3 and 4 stand in it.
+-- The table of the exponents: no entry is zero, by one test that antt computes; and where 3 and 4 stand in it.
 -- Assumes nothing.
 use mathlib.Core.Path.{_≡_, refl, sym, subst, _∙_}
 use mathlib.Core.Bool.{Bool, true, false, _&&_, Bool·beq}
 use mathlib.Core.Logic.{inl, inr}
-use Prim.Native.Nat.{ℕ, zero, suc, _*_, _%_, _^_, _<_}
+use Prim.Native.Nat.{ℕ, zero, suc, _<_}
 use native.Mathlib.Nat.{not-suc-le-zero, eq-or-lt-of-le, le-of-suc-le-suc}
 use borrow.Author.Tests.{eq-eqb, ne-eqb}
 use lib.Dec.{T, eqb, ltb, ltb→lt}
-use lib.ListN.{getD}
-use lib.Ieee.{Float, nan, inf, fin, up, down}
 use lib.Ieee.Fits.{and-l, and-r}
 use Rattle.elementary.specs.Exponents.{exponents, exponentAt, isThree, isFour}
 
@@ -30,16 +28,6 @@ same true true t = refl
 same true false t = absurd t
 same false true t = absurd t
 same false false t = refl
-
--- ---- every exponent is finite, and times 2^58 a whole number from 1 up to 2^64
-pub isWhole : Float → Bool
-isWhole nan = false
-isWhole (inf s) = false
-isWhole (fin s m e) = eqb (m * up e * 2 ^ 58 % down e) 0
-
-pub exponents-whole : T (every 27 (λ i. isWhole (getD exponents i nan) && ltb 0 (exponentAt i .magnitude) && ltb (exponentAt i .magnitude) (2 ^ 64)))
-unfolding isWhole exponents
-exponents-whole = tt
 
 pub magnitude-pos : (i : ℕ) → i < 27 → 0 < exponentAt i .magnitude
 unfolding exponents

@@ -16,13 +16,12 @@ use Rattle.arithmetic.specs.Whole.{signed, floorDiv, floorMod}
 use Rattle.arithmetic.specs.Nearest.{nearestRatio}
 use Rattle.antilog.specs.Log.{logWord}
 use Rattle.antilog.specs.Antilog.{antilogRoot, antilog}
-use Rattle.elementary.specs.Exponents.{Exponent, exponentAt, isThree, isFour}
-use Rattle.elementary.specs.Power.{positivePower, infinityOrZero, power, powerAt}
+use Rattle.elementary.specs.Exponents.{Exponent, isThree, isFour}
+use Rattle.elementary.specs.Power.{positivePower, infinityOrZero, power}
 use Rattle.elementary.specs.Ln.{ln2, ln}
 use Rattle.arithmetic.proofs.Integers.{le-of-pos, times-mono, times-anti, floorDiv-mono}
 use Rattle.arithmetic.proofs.Order.{FromZeroUp, Rises, RisesFromZero, FallsFromZero, count-of-le, number, numbers-of-le, unsigned, lowest, highest, zero-below, below-infinity, neg-below-unsigned, neg-turns, le-trans-double}
 use Rattle.arithmetic.proofs.Rounding.{round-unsigned, ratio-mono}
-use Rattle.elementary.proofs.PowerCases.{in-table}
 use Rattle.antilog.proofs.Ordered.{wordOfUnits-mono, antilog-mono}
 
 -- ---- the log word
@@ -195,19 +194,6 @@ cube p x y fx fy h = go (signs x (numbers-of-le x y h .0)) (signs y (numbers-of-
 
 pub cube-rises : (p : ℕ) (e : Exponent) → isThree e ≡ true → Rises (power p e)
 cube-rises p e h = subst (λ (q : Exponent). Rises (power p q)) (three-is e h) (cube p)
-
--- ---- by the number of the exponent
-by-number : (p i : ℕ) → i < 27 → power p (exponentAt i) ≡ powerAt p i
-by-number p i h = λ j x. in-table p i x h j
-
-pub powerAt-rises : (p i : ℕ) → i < 27 → exponentAt i .negative ≡ false → RisesFromZero (powerAt p i)
-powerAt-rises p i h s = subst RisesFromZero (by-number p i h) (power-rises p (exponentAt i) s)
-
-pub powerAt-falls : (p i : ℕ) → i < 27 → exponentAt i .negative ≡ true → FallsFromZero (powerAt p i)
-powerAt-falls p i h s = subst FallsFromZero (by-number p i h) (power-falls p (exponentAt i) s)
-
-pub cubeAt-rises : (p i : ℕ) → i < 27 → isThree (exponentAt i) ≡ true → Rises (powerAt p i)
-cubeAt-rises p i h t = subst Rises (by-number p i h) (cube-rises p (exponentAt i) t)
 
 -- ---- ln
 ratio-number : (z : ℤ) (p : ℕ) → T (number (nearestRatio z (2 ^ p)))

@@ -3,3 +3,5 @@ pub mod Powers
 pub mod Compared
 mod Tested
 mod Nearly
+mod Entries
+pub mod Near

@@ -81,8 +81,8 @@ below-64 p x A few h =
     lt-of-powers A (2 ^ 64) k (lt-of-le-of-lt h (subst (λ (n : ℕ). 2 ^ (63 * k + x) < n) (sym (pow-power 2 64 k)) (pow-lt less)))
 
 -- times B, which is at most d too small: of the units that it is then too small, one is what the division cuts off
-pub multiplied : (s p x y A B d e u : ℕ) → 0 < B → A * d + e * (B + d) ≤ u * 2 ^ s → Within e p x A → AtMost s p y B → AtLeast s p y (B + d) → Within (suc u) p (x + y) (A * B / 2 ^ s)
-multiplied s p x y A B d e u positive small within least most =
+pub times : (s p x y A B d e u : ℕ) → 0 < B → A * d + e * (B + d) ≤ u * 2 ^ s → Within e p x A → AtMost s p y B → AtLeast s p y (B + d) → Within (suc u) p (x + y) (A * B / 2 ^ s)
+times s p x y A B d e u positive small within least most =
     let W : ℕ = 2 ^ s in
     let C : ℕ = A * B / W in
     let cut : A * B < suc C * W = div-lt-iff-lt-mul (pow-pos s) .0 (lt-suc-self C) in

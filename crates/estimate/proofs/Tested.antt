@@ -10,7 +10,7 @@ use lib.Dec.{T, leb, leb→le}
 use lib.ListN.{length, getD}
 use lib.Pow.{pow-pos, pow-add}
 use lib.Ieee.Fits.{and-l, and-r}
-use Rattle.estimate.specs.Estimate.{AtMost, AtLeast, Excess}
+use Rattle.estimate.specs.Estimate.{AtMost, AtLeast}
 use Rattle.estimate.proofs.Powers.{pow-one, pow-power, pow-scaled}
 use Rattle.estimate.proofs.Compared.{Comparison, at-most, turned, next-place}
 
@@ -66,6 +66,10 @@ finer {R} c s p x B h =
     (subst₂ R (pow-scaled B 32 k) (ap (λ (n : ℕ). 2 ^ n) split ∙ pow-add 2 (s * k + x) (32 * k)) h)
 
 -- X is what 2 to the power x / 2 ^ p exceeds 1 by, in units of 2 ^ -s, cut to a whole number
+pub record Excess (s p x X : ℕ) : Type 0 where
+  pub notAbove : AtMost s p x (2 ^ s + X)
+  pub nextNotBelow : AtLeast s p x (2 ^ s + X + 1)
+
 abbrev pub isExcess : (s p x X : ℕ) → Bool
 isExcess s p x X = testAtMost (s + 32) p x ((2 ^ s + X) * 2 ^ 32) && testAtLeast (s + 32) p x ((2 ^ s + X + 1) * 2 ^ 32)
 

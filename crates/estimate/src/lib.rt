@@ -3,8 +3,8 @@
 mod table;
 
 ghost use mathlib.Core.Path.{_≡_};
-ghost use Prim.Native.Nat.{_+_, _*_, _/_, _%_, _^_, _<_};
-ghost use Rattle.estimate.specs.Estimate.{Estimates};
+ghost use Prim.Native.Nat.{_%_, _^_, _<_};
+ghost use Rattle.estimate.specs.Estimate.{multiplied, estimate};
 use crate::table::excess_table;
 use wide::words::product;
 
@@ -13,8 +13,8 @@ const LAST_EXCESS: u64 = 0xB17217F7D;
 
 // a times 1 and an excess in units of 2^-(64 + k), cut to a whole number.
 fn multiplied(a: u64, excess: u64, k: u64) -> u64
-    requires { ⌜ (k < 64) × (a * (2 ^ (64 + k) + excess) / 2 ^ (64 + k) < 2 ^ 64) ⌝ }
-    ensures { λ r. ⌜ r ≡ a * (2 ^ (64 + k) + excess) / 2 ^ (64 + k) ⌝ }
+    requires { ⌜ (k < 64) × (multiplied a excess k < 2 ^ 64) ⌝ }
+    ensures { λ r. ⌜ r ≡ multiplied a excess k ⌝ }
 {
     let more = product(a, excess);
     a + (more.hi >> k)
@@ -25,7 +25,7 @@ fn multiplied(a: u64, excess: u64, k: u64) -> u64
 // left each has the same excess, nearly: together they come to less than 2^-32, and its square to less
 // than a unit.
 pub fn estimate(f: u64) -> u64
-    ensures { λ r. ⌜ Estimates (f % 2 ^ 60) r ⌝ }
+    ensures { λ r. ⌜ r ≡ estimate (f % 2 ^ 60) ⌝ }
 {
     let excesses = excess_table();
     let part = f % 0x1000_0000_0000_0000;

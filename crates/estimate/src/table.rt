@@ -1,5 +1,6 @@
 // What the powers 2^(i / 16^(j + 1)) exceed 1 by.
-ghost use Rattle.estimate.specs.Estimate.{ExcessTable};
+ghost use mathlib.Core.Path.{_≡_};
+ghost use Rattle.estimate.specs.Estimate.{excessTable};
 
 // Row j, of sixteen entries, has that of i from 0 to 15, in units of 2^-(64 + 4 j) and cut
 // to a whole number.
@@ -135,7 +136,7 @@ const EXCESSES: [u64; 128] = [
 ];
 
 pub(crate) fn excess_table() -> [u64; 128]
-    ensures { λ r. ⌜ ExcessTable r ⌝ }
+    ensures { λ r. ⌜ r ≡ excessTable ⌝ }
 {
     EXCESSES
 }

@@ -9,8 +9,5 @@ use Rattle.functions_near.proofs.LnNear.{ln-near}
 pub functions-near : AllFunctionsNear
 functions-near p least most = record { power = power-near p least most; exponential = exp-near p least most; logarithm = ln-near p most }
 
-pub functions-near-52 : FunctionsNear 52
-functions-near-52 = functions-near 52 (lit≤ tt) (lit≤ tt)
-
 pub functions-near-60 : FunctionsNear 60
 functions-near-60 = functions-near 60 (lit≤ tt) (lit≤ tt)

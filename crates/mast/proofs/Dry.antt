@@ -78,7 +78,7 @@ unfolding ofBits
 dry = record { zero = λ t p. fraction false _ _ _; minus-zero = λ t p. fraction true _ _ _ }
 
 -- ---- 14 is not answered with 06
-absent : (e : Entry) → isPresent e ≡ false → e ≡ Absent
+pub absent : (e : Entry) → isPresent e ≡ false → e ≡ Absent
 absent Absent h = refl
 absent (Present x) h = absurd (true≢false h)
 

@@ -1,5 +1,7 @@
 -- When each number is answered.
 pub mod Causes
+pub mod Order
+pub mod Numbers
 -- What the answers depend on.
 pub mod Dry
 pub mod Records

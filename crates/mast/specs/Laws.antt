@@ -1,18 +1,20 @@
 -- What may be relied on of the judge beyond its contracts, document 01. Definitions only.
-use Prim.Native.Nat.{ℕ, _≤_}
+use Prim.Native.Nat.{ℕ, _≤_, _<_}
 use mathlib.Core.Path.{_≡_}
-use mathlib.Core.Bool.{true, false, cond}
-use mathlib.Core.List.{List, [], _∷_, _++_}
+use mathlib.Core.Logic.{_≢_}
+use mathlib.Core.Bool.{Bool, true, false, cond}
+use mathlib.Core.List.{List, [], _∷_, _++_, flatMap}
 use lib.Dec.{eqb}
 use lib.Ieee.{Float, lt}
 use lib.ListN.{length, take}
 use Rattle.arithmetic.specs.Places.{places}
 use Rattle.arithmetic.specs.Decimals.{decimal, one}
 use Rattle.humid_air.specs.Humidity.{moleFractionCelsius}
-use Rattle.refusal.specs.Outcomes.{accepted, refused, Row, _then_}
+use Rattle.refusal.specs.Outcomes.{accepted, refused, Row, _then_, numbers}
 use Rattle.entries.specs.declared.Readings.{Readings}
-use Rattle.fields.specs.Fields.{sizeOf, densityAltitude, humidity}
-use Rattle.record.specs.Readings.{readRecord}
+use Rattle.fields.specs.Fields.{meanings, sizeOf, densityAltitude, humidity}
+use Rattle.fields.specs.Tags.{tags}
+use Rattle.record.specs.Readings.{readRows, readRecord}
 use Rattle.limits.specs.Checks.{has}
 use Rattle.station.specs.Figures.{figuresOf}
 use Rattle.mast.specs.Judge.{resolved, readingRows, judged, judge}
@@ -48,3 +50,13 @@ abbrev pub AnyOrder : Type 0
 AnyOrder = (s f g t : List ℕ) (r q : Readings) → readRecord false s ≡ accepted r → length f ≡ sizeOf f → length g ≡ sizeOf g
     → readRecord false (s ++ (f ++ (g ++ t))) ≡ accepted q
     → judge (s ++ (g ++ (f ++ t))) ≡ judge (s ++ (f ++ (g ++ t)))
+
+-- ---- the order of the checks
+pub record OrderOfChecks : Type 0 where
+  -- of each field: cut header, 6, 7, cut data, 8, and to the strict reader 19
+  pub fields : (strict : Bool) (s : List ℕ) → numbers (readRows strict s) ≡ flatMap (λ _. 5 ∷ 6 ∷ 7 ∷ 5 ∷ 8 ∷ 19 ∷ []) (tags s)
+  -- of readings without 06, all others present: 9, 10, then the values of 01, 02, 03, 04, 05 and 07, then 14 and 15
+  pub without-06 : (r : Readings) → has r densityAltitude ≡ false → ((m : ℕ) → m < meanings → m ≢ densityAltitude → has r m ≡ true)
+      → numbers (readingRows r) ≡ 9 ∷ 10 ∷ 11 ∷ 2 ∷ 3 ∷ 11 ∷ 12 ∷ 11 ∷ 12 ∷ 11 ∷ 13 ∷ 11 ∷ 12 ∷ 14 ∷ 15 ∷ []
+  -- with 06, all present: 9, the inverse's 1 to 4, then those of 05, then 14 and 15
+  pub with-06 : (r : Readings) → ((m : ℕ) → m < meanings → has r m ≡ true) → numbers (readingRows r) ≡ 9 ∷ 1 ∷ 2 ∷ 3 ∷ 4 ∷ 11 ∷ 13 ∷ 14 ∷ 15 ∷ []

@@ -1,12 +1,15 @@
 -- The middle of three: at most one of them before it and at most one after it, which no other value has, and so it is the same in every order. Assumes nothing.
-use mathlib.Core.Path.{_≡_, refl, sym, ap₂, subst, _∙_}
+use mathlib.Core.Path.{_≡_, refl, sym, ap, ap₂, subst, _∙_}
 use mathlib.Core.Logic.{_⊎_, inl, inr}
-use mathlib.Core.Bool.{Bool, true, false, cond}
-use Prim.Native.Nat.{ℕ, _+_, _≤_, _<_}
-use native.Mathlib.Nat.{le-of-lt, le-of-eq, le-antisymm, le-of-suc-le-suc, lt-of-le-of-lt, lt-of-not-le}
+use mathlib.Core.Bool.{Bool, true, false, _||_, cond, or-false}
+use Prim.Native.Nat.{ℕ, zero, suc, _+_, _*_, _≤_, _<_}
+use native.Mathlib.Nat.{zero-mul, le-of-lt, le-of-eq, le-antisymm, le-of-suc-le-suc, lt-of-le-of-lt, lt-of-not-le}
 use native.Mathlib.Omega.{arith}
 use borrow.Author.Tests.{ltb-true, ltb-false, lt-ltb, le-ltb}
-use lib.Ieee.{Float, lt, ofBits}
+use lib.Dec.{T, ltb}
+use lib.Ieee.{Float, nan, inf, fin, up, down, lt, ofBits}
+use lib.Ieee.Bits.{is-true}
+use Rattle.arithmetic.specs.Decimals.{decimal}
 use Rattle.middle.specs.Middle.{isMinusZero, isPlusZero, precedes, earlier, later, middle, count, IsMiddle, IsNumber, MiddleOfThree, MiddleInEveryOrder, ZerosInOrder}
 use Rattle.middle.proofs.Order.{place, precedes-is, same-place}
 
@@ -128,6 +131,37 @@ two-equal x z =
     go true f = rw (f, f)
     go false f = rw f (same-either-way (precedes x x) x)
 
+-- ---- the zeros
+-- x comes before both of them, or after both
+zeros-after : (x : Float) → precedes (decimal "0") x ≡ false → precedes (decimal "-0") x ≡ false → middle x (decimal "0") (decimal "-0") ≡ decimal "-0"
+unfolding middle precedes isMinusZero isPlusZero lt ofBits
+zeros-after x p q = rw (p, q)
+
+zeros-before : (x : Float) → precedes (decimal "0") x ≡ true → precedes (decimal "-0") x ≡ true → middle x (decimal "0") (decimal "-0") ≡ decimal "0"
+unfolding middle precedes isMinusZero isPlusZero lt ofBits
+zeros-before x p q = rw (p, q)
+
+after-negative : (x : Float) → T (lt x (decimal "0")) → middle x (decimal "0") (decimal "-0") ≡ decimal "-0"
+unfolding precedes isMinusZero isPlusZero lt ofBits
+after-negative nan h = absurd h
+after-negative (inf true) h = zeros-after (inf true) refl refl
+after-negative (inf false) h = absurd h
+after-negative (fin true zero e) h = zeros-after (fin true zero e) refl (rw (zero-mul (up e), zero-mul (down e)))
+after-negative (fin true (suc m) e) h = zeros-after (fin true (suc m) e) refl (or-false (ltb (suc m * up e * 1) (0 * down e)) ∙ le-ltb (suc m * up e * 1) (0 * down e) (omega (arith, zero-mul (down e))))
+after-negative (fin false m e) h = let less = ltb-true (m * up e * 1) (0 * down e) (is-true (ltb (m * up e * 1) (0 * down e)) h) in absurd (omega (arith, zero-mul (down e)))
+
+before-positive : (x : Float) → T (lt (decimal "0") x) → middle x (decimal "0") (decimal "-0") ≡ decimal "0"
+unfolding precedes isMinusZero isPlusZero lt ofBits
+before-positive nan h = absurd h
+before-positive (inf true) h = absurd h
+before-positive (inf false) h = zeros-before (inf false) refl refl
+before-positive (fin true m e) h = absurd h
+before-positive (fin false m e) h =
+    let above = m * up e * 1 in
+    let less = ltb-true (0 * down e) above (is-true (ltb (0 * down e) above) h) in
+    zeros-before (fin false m e) (or-false (ltb (0 * down e) above) ∙ is-true (ltb (0 * down e) above) h)
+    (ap (λ (b : Bool). b || isPlusZero (fin false m e)) (lt-ltb 0 (0 * down e + above) (omega arith)))
+
 pub zeros-in-order : ZerosInOrder
 unfolding middle precedes isMinusZero isPlusZero lt ofBits
-zeros-in-order = record { after-minus-one = refl; before-one = refl }
+zeros-in-order = record { after-negative = after-negative; before-positive = before-positive; of-minus-zeros = refl; of-plus-zeros = refl }

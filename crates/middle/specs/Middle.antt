@@ -65,7 +65,9 @@ pub record SameInEveryOrder (x y z : Float) : Type 0 where
 abbrev pub MiddleInEveryOrder : Type 0
 MiddleInEveryOrder = (x y z : Float) → IsNumber x → IsNumber y → IsNumber z → SameInEveryOrder x y z
 
--- "minus zero before plus zero"
+-- "minus zero before plus zero": with both zeros the third of the values decides, a zero by its sign
 pub record ZerosInOrder : Type 0 where
-  pub after-minus-one : middle (decimal "-1") (decimal "0") (decimal "-0") ≡ decimal "-0"
-  pub before-one : middle (decimal "1") (decimal "0") (decimal "-0") ≡ decimal "0"
+  pub after-negative : (x : Float) → T (lt x (decimal "0")) → middle x (decimal "0") (decimal "-0") ≡ decimal "-0"
+  pub before-positive : (x : Float) → T (lt (decimal "0") x) → middle x (decimal "0") (decimal "-0") ≡ decimal "0"
+  pub of-minus-zeros : middle (decimal "-0") (decimal "0") (decimal "-0") ≡ decimal "-0"
+  pub of-plus-zeros : middle (decimal "0") (decimal "0") (decimal "-0") ≡ decimal "0"

@@ -8,22 +8,22 @@ use lib.ListN.{length, getD, drop}
 use Rattle.entries.specs.declared.Readings.{Readings}
 use Rattle.pieces.specs.Ascii.{ascii}
 use Rattle.typed_word.specs.declared.Problem.{Problem}
-use Rattle.typed_readings.specs.declared.WordCheck.{WordCheck}
 use Rattle.typed_readings.specs.declared.WordCheck.the-variants.{Passed, Wrong}
 use Rattle.typed_readings.specs.declared.TypedReadings.{TypedReadings}
 use Rattle.typed_readings.specs.Words.{words}
-use Rattle.typed_readings.specs.Understood.{understand, checked, understood}
+use Rattle.typed_readings.specs.Understood.{understand, answerFor}
 use Rattle.typed_word.proofs.Names.{Compared, compared}
 use Rattle.typed_readings.proofs.Split.{some-word}
+use Rattle.typed_readings.proofs.Told.{told-given, told-wrong}
 use Rattle.park_text.specs.ParkText.{problemLine, usageText, said, sheetWords, readingsWords, parkText}
 
 -- ---- words that are understood or not, where `text` is printed of their readings
-module _ (text : Readings → List ℕ) (ws : List (List ℕ)) (a : TypedReadings) (read : understood a ≡ understand ws) where
+module _ (text : Readings → List ℕ) (ws : List (List ℕ)) (a : TypedReadings) (read : a ≡ answerFor (understand ws)) where
   pub said-given : a .check ≡ Passed → text (a .readings) ≡ said text ws (understand ws)
-  said-given e = ap (said text ws) (ap (λ (k : WordCheck). checked k (a .readings)) (sym e) ∙ read)
+  said-given e = sym (ap (said text ws) (told-given (understand ws) a read e))
 
   pub said-wrong : {p : Problem} {i : ℕ} → a .check ≡ Wrong p i → problemLine (getD ws i []) p ≡ said text ws (understand ws)
-  said-wrong e = ap (said text ws) (ap (λ (k : WordCheck). checked k (a .readings)) (sym e) ∙ read)
+  said-wrong e = sym (ap (said text ws) (told-wrong (understand ws) a read e))
 
 -- ---- the first word
 pub no-word : (s : List ℕ) → length s ≡ 0 → usageText ≡ parkText (words s)

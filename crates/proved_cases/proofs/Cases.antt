@@ -15,8 +15,8 @@ use Rattle.proved_cases.specs.Cases.{Hold, table, isAccepted, RejectsRef
 
 pub cases-hold : Hold table
 unfolding ofBits neg add sub mul div lt le wordOfUnits antilogRoot exponents power powerAt absDouble isFinite standardAir station
-cases-hold = (refl, (refl, (refl, (refl, (refl, (refl, (refl, (refl, (refl, (refl, (refl, (refl, (refl, (refl, (refl, (refl, (refl, (refl, (refl, (refl, (refl, (refl, tt))))))))))))))))))))))
+cases-hold = (refl, (refl, (refl, (refl, (refl, (refl, (refl, (refl, (refl, (refl, (refl, (refl, (refl, (refl, (refl, (refl, (refl, (refl, (refl, (refl, (refl, (refl, (refl, tt)))))))))))))))))))))))
 
 -- the case of 0 m with no temperature is accepted
 pub rejects-refusal-always : RejectsRefusalAlways
-rejects-refusal-always inverse refuses hold = true≢false (sym (ap isAccepted (hold .1 .1 .1 .1 .1 .1 .0)) ∙ refuses nought FromLayer)
+rejects-refusal-always inverse refuses hold = true≢false (sym (ap isAccepted (hold .1 .1 .1 .1 .1 .1 .1 .0)) ∙ refuses nought FromLayer)

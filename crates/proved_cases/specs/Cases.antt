@@ -6,9 +6,10 @@ use mathlib.Core.List.{List, [], _∷_, map}
 use Prim.Native.Nat.{_*_, _^_}
 use lib.IntN.{pos, negℤ}
 use lib.ListN.{replicate}
-use lib.Ieee.{Float, nan, le}
+use lib.Ieee.{Float, nan, lt, le}
 use Rattle.arithmetic.specs.Places.{places}
 use Rattle.arithmetic.specs.Decimals.{decimal, nought, one, hundred}
+use Rattle.arithmetic.specs.Operators.{_⊖_}
 use Rattle.antilog.specs.Log.{logWord}
 use Rattle.antilog.specs.Antilog.{antilogRoot}
 use Rattle.elementary.specs.Exponents.{exponents, ofDouble}
@@ -53,8 +54,9 @@ tableOf inverse =
     case (stationPressure (decimal "1013") hundred) FromLayer ∷
     case (stationPressure (decimal "1012.75") hundred) (Given (decimal "1012.75")) ∷
     case (stationPressure (decimal "1013.25") one) (Given (decimal "1013.25")) ∷
-    -- `resolve_station_temperature`: 15.1 °C at 100 m is a default
+    -- `resolve_station_temperature`: 15.1 °C at 100 m is a default, since the double 15.1 - 15 is below the double 0.1
     case (stationTemperature (decimal "15.1") hundred) FromLayer ∷
+    case (lt (decimal "15.1" ⊖ decimal "15") (decimal "0.1")) true ∷
     -- `reduce_qnh_to_station_pressure`: 1013.25 at 0 m gives 1013.25
     case (reducedQnh places (decimal "1013.25") nought) (decimal "1013.25") ∷
     -- `station_for_density_altitude`: 0 m, no temperature: 0 m, 15 °C, 1013.25 hPa; 0 m with 15 °C: the same

@@ -5,7 +5,7 @@ use mathlib.Core.Bool.{Bool, _&&_}
 use mathlib.Core.List.{List, [], _∷_, _++_}
 use lib.Dec.{ltb}
 use lib.ListN.{length, drop}
-use Rattle.refusal.specs.Outcomes.{Outcome, accepted, _⟫_, Row, row, _then_, checked}
+use Rattle.refusal.specs.Outcomes.{Outcome, accepted, refused, _⟫_, Row, row, _then_, checked}
 use Rattle.fields.specs.declared.fields.Field.{Field}
 use Rattle.entries.specs.declared.Readings.{Readings}
 use Rattle.record.specs.declared.readings.Read.{Read}
@@ -51,3 +51,11 @@ readRecord strict s = readRows strict s then accepted (readings s)
 -- what the code's answer stands for
 abbrev pub readOutcome : Read → Outcome Readings
 readOutcome r = checked (r .check) ⟫ (λ _. accepted (r .readings))
+
+-- all that it holds: its check and its readings, none with a refusal
+abbrev pub parts : Read → Outcome (Unit {0}) × Readings
+parts r = (checked (r .check), r .readings)
+
+abbrev pub partsOf : Outcome Readings → Outcome (Unit {0}) × Readings
+partsOf (accepted r) = (accepted tt, r)
+partsOf (refused number values) = (refused number values, noReadings)

@@ -3,20 +3,21 @@ ghost use mathlib.Core.Path.{_≡_};
 ghost use mathlib.Core.Bool.{true, false, _&&_};
 ghost use mathlib.Core.List.{[], _∷_};
 ghost use lib.Dec.{ltb};
-ghost use Rattle.refusal.specs.Outcomes.{checked, passed, row};
+ghost use Rattle.refusal.specs.Outcomes.{refusal, checked, passed, row};
 ghost use Rattle.entries.specs.Entries.{entryFor, isPresent};
-ghost use Rattle.record.specs.Readings.{readOutcome, readRecord};
+ghost use Rattle.record.specs.Readings.{readRecord, parts, partsOf};
 use entries::Readings;
 use entries::Slot;
 use entries::Stored;
 use entries::is_stored;
+use entries::no_readings;
 use fields::fields::Found;
 use fields::fields::MEANINGS;
 use reader::reader::field_from;
 use refusal::Check;
 use refusal::Refusal;
 
-// Readings, where the check is passed.
+// Readings, where the check is passed; none where it is not.
 pub struct Read {
     pub check: Check,
     pub readings: Readings,
@@ -36,10 +37,20 @@ fn order_check(stored: Stored, tag: u8, last: u8, strict: bool) -> Check
     Check::Passed
 }
 
+// A refusal, with no readings.
+pub fn refused(cause: Refusal) -> Read
+    ensures { λ r. ⌜ parts r ≡ partsOf (refusal cause) ⌝ }
+{
+    Read {
+        check: Check::Refused(cause),
+        readings: no_readings(),
+    }
+}
+
 // The values are put in their places as they are read: handed on as a whole from field to field they
 // took longer than all else that a refused record costs.
 fn read_fields(bytes: &[u8], strict: bool) -> Read
-    ensures { λ r. ⌜ readOutcome r ≡ readRecord strict (now (bytes .entry)) ⌝ }
+    ensures { λ r. ⌜ parts r ≡ partsOf (readRecord strict (now (bytes .entry))) ⌝ }
     ensures kept { λ _. ⌜ now (bytes .exit) ≡ now (bytes .entry) ⌝ }
 {
     let mut slots = [Slot {
@@ -50,21 +61,14 @@ fn read_fields(bytes: &[u8], strict: bool) -> Read
     while at < bytes.len() {
         match field_from(bytes, at) {
             Found::Refused(refusal) => {
-                return Read {
-                    check: Check::Refused(refusal),
-                    readings: Readings { slots },
-                };
+                return refused(refusal);
             }
             Found::Field(field) => {
                 let meaning = field.meaning;
                 let slot = slots[meaning];
                 let stored = slot.stored;
-                let check = order_check(stored, field.tag, last, strict);
-                if let Check::Refused(_) = check {
-                    return Read {
-                        check,
-                        readings: Readings { slots },
-                    };
+                if let Check::Refused(refusal) = order_check(stored, field.tag, last, strict) {
+                    return refused(refusal);
                 }
                 let value = field.value;
                 slots[meaning] = Slot {
@@ -84,7 +88,7 @@ fn read_fields(bytes: &[u8], strict: bool) -> Read
 // The readings of a record with its tags in any order, or the first cause 5 to 8 in the order of its
 // fields. The record is left as it was.
 pub fn read_record(bytes: &[u8]) -> Read
-    ensures { λ r. ⌜ readOutcome r ≡ readRecord false (now (bytes .entry)) ⌝ }
+    ensures { λ r. ⌜ parts r ≡ partsOf (readRecord false (now (bytes .entry))) ⌝ }
     ensures kept { λ _. ⌜ now (bytes .exit) ≡ now (bytes .entry) ⌝ }
 {
     read_fields(bytes, false)
@@ -93,7 +97,7 @@ pub fn read_record(bytes: &[u8]) -> Read
 // The readings of a record whose tags rise, or the first cause 5 to 8 or 19 in the order of its fields.
 // The record is left as it was.
 pub fn read_record_strictly(bytes: &[u8]) -> Read
-    ensures { λ r. ⌜ readOutcome r ≡ readRecord true (now (bytes .entry)) ⌝ }
+    ensures { λ r. ⌜ parts r ≡ partsOf (readRecord true (now (bytes .entry))) ⌝ }
     ensures kept { λ _. ⌜ now (bytes .exit) ≡ now (bytes .entry) ⌝ }
 {
     read_fields(bytes, true)

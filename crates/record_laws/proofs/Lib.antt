@@ -2,3 +2,6 @@
 pub mod Numbers
 pub mod Strict
 pub mod Converted
+pub mod Pressures
+pub mod Moisture
+pub mod Named

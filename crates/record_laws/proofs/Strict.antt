@@ -1,6 +1,6 @@
 -- The strict judge beside the first, by the two readers, and beside the writer. Assumes nothing.
 use mathlib.Core.Path.{_≡_, refl, sym, ap, _∙_}
-use mathlib.Core.Bool.{true}
+use mathlib.Core.Bool.{Bool, true}
 use mathlib.Core.List.{List}
 use mathlib.Core.Logic.{inl, inr, ⊎-elim}
 use Prim.Native.Nat.{ℕ}
@@ -14,7 +14,7 @@ use Rattle.record.proofs.Walk.{all-slots}
 use Rattle.record.proofs.Strict as reader
 use Rattle.writer.proofs.WrittenAgain as writer
 use Rattle.answered.specs.declared.judge.Figures.{Figures}
-use Rattle.mast.specs.Judge.{judged, judge, judgeStrictly}
+use Rattle.mast.specs.Judge.{judged, judgeBy, judge, judgeStrictly}
 use Rattle.record_laws.specs.Strict.{SameWhereRising, SameOrFalling, AcceptedWhereRising, WrittenAgain, Strict}
 use Rattle.record_laws.proofs.Numbers.{no-nan}
 
@@ -37,6 +37,10 @@ pub read-of : (o : Outcome Readings) {f : Figures} → (o ⟫ judged) ≡ accept
 read-of (accepted r) e = record { readings = r; taken = refl; gives = e }
 read-of (refused n vs) e = let z : _≡_ {A = ℕ} 0 1 = cc in absurd (omega arith)
 
+-- and its figures are those of its readings, to either judge
+pub of-readings : (strict : Bool) (s : List ℕ) (f : Figures) → judgeBy strict s ≡ accepted f → judged (readings s) ≡ accepted f
+of-readings strict s f e = let read = read-of (readRecord strict s) e in ap judged (exactly (readings s) (readRows strict s) .accepted-because (read .taken) .1) ∙ read .gives
+
 rising : (s : List ℕ) {f : Figures} → judgeStrictly s ≡ accepted f → Rising (tags s)
 unfolding judgeStrictly
 rising s e = reader.accepted-rising s (read-of (readRecord true s) e .taken)
@@ -53,8 +57,7 @@ unfolding judgeStrictly
 written-again s f all e =
     let read = read-of (readRecord true s) e in
     let same : readings s ≡ read .readings = exactly (readings s) (readRows true s) .accepted-because (read .taken) .1 in
-    let gives = ap judged same ∙ read .gives in
-    writer.written-again s (readings s) all (no-nan (readings s) f (all-slots s) gives) (read .taken ∙ ap accepted (sym same))
+    writer.written-again s (readings s) all (no-nan (readings s) f (all-slots s) (of-readings true s f e)) (read .taken ∙ ap accepted (sym same))
 
 pub strict : Strict
 strict = record { same-where-rising = same-where-rising; same-or-falling = same-or-falling; accepted-where-rising = accepted-where-rising; written-again = written-again }

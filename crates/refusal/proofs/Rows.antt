@@ -1,13 +1,13 @@
 -- Lists of rows: one after the other, what comes after them, and that an outcome of rows is exactly caused by them. Assumes nothing.
-use mathlib.Core.Path.{_≡_, refl, sym, ap, ap₂, _∙_}
-use mathlib.Core.Bool.{Bool, true, false, cond}
+use mathlib.Core.Path.{_≡_, refl, sym, ap, ap₂, subst, _∙_}
+use mathlib.Core.Bool.{Bool, true, false, cond, true≢false}
 use mathlib.Core.Logic.{_⊎_, inl, inr}
 use mathlib.Core.List.{List, [], _∷_, _++_}
 use Prim.Native.Nat.{ℕ}
 use native.Mathlib.Omega.{arith}
 use lib.Ieee.{Float}
 use Rattle.refusal.specs.declared.Check.{Check}
-use Rattle.refusal.specs.Outcomes.{Outcome, accepted, refused, _⟫_, Row, _then_, checked, passed}
+use Rattle.refusal.specs.Outcomes.{Outcome, accepted, refused, _⟫_, Row, _then_, numbers, checked, passed}
 use Rattle.refusal.specs.Causes.{NoneHolds, FirstHolds, ExactlyCaused}
 
 -- ---- one list after the other
@@ -25,6 +25,14 @@ then-next (r ∷ xs) o k = go (r .holds) (then-next xs o k)
     go : (b : Bool) → ((xs then o) ⟫ k) ≡ (xs then (o ⟫ k)) → (cond b (refused (r .number) (r .values)) (xs then o) ⟫ k) ≡ cond b (refused (r .number) (r .values)) (xs then (o ⟫ k))
     go true rest = refl
     go false rest = rest
+
+-- what comes after rows that accept x, where it is rows too
+pub then-rows : {A B : Type 0} (xs ys : List Row) (x : A) (y : B) (next : A → Outcome B) → next x ≡ (ys then accepted y) → ((xs then accepted x) ⟫ next) ≡ ((xs ++ ys) then accepted y)
+then-rows {A} {B} xs ys x y next e = then-next xs (accepted x) next ∙ ap (λ (o : Outcome B). xs then o) e ∙ sym (then-append xs ys (accepted y))
+
+pub numbers-append : (xs ys : List Row) → numbers (xs ++ ys) ≡ numbers xs ++ numbers ys
+numbers-append [] ys = refl
+numbers-append (r ∷ xs) ys = ap (λ (ns : List ℕ). r .number ∷ ns) (numbers-append xs ys)
 
 pub passed-append : (xs ys : List Row) → (passed xs ⟫ λ _. passed ys) ≡ passed (xs ++ ys)
 passed-append xs ys = then-next xs (accepted tt) (λ _. passed ys) ∙ sym (then-append xs ys (accepted tt))
@@ -116,3 +124,24 @@ module _ {A : Type 0} (x : A) where
   -- an outcome of rows is exactly caused by them
   pub exactly : (rows : List Row) → ExactlyCaused rows x (rows then accepted x)
   exactly rows = record { refused-because = λ e. refusing rows e; refused-where = λ f. refused-at rows f; accepted-because = λ e. accepting rows e; accepted-where = λ h. then-none rows h }
+
+  pub exactly-by : (rows : List Row) {o : Outcome A} → o ≡ (rows then accepted x) → ExactlyCaused rows x o
+  exactly-by rows e = subst (λ (o : Outcome A). ExactlyCaused rows x o) (sym e) (exactly rows)
+
+-- ---- a number by which no row refuses
+module _ (n : ℕ) where
+  abbrev pub Never : List Row → Type 0
+  Never [] = Unit {0}
+  Never (r ∷ rows) = (r .number ≡ n → r .holds ≡ false) × Never rows
+
+  pub never-both : (xs ys : List Row) → Never xs → Never ys → Never (xs ++ ys)
+  never-both [] ys h k = k
+  never-both (r ∷ xs) ys h k = (h .0, never-both xs ys (h .1) k)
+
+  pub never-refused : {A : Type 0} (x : A) (rows : List Row) {vs : List Float} → Never rows → (rows then accepted x) ≡ refused n vs → ⊥
+  never-refused x [] h e = let z : _≡_ {A = ℕ} 0 1 = cc in omega arith
+  never-refused x (r ∷ rows) {vs} h e = go (r .holds) refl e (λ f. never-refused x rows (h .1) f)
+    where
+      go : (b : Bool) → r .holds ≡ b → cond b (refused (r .number) (r .values)) (rows then accepted x) ≡ refused n vs → ((rows then accepted x) ≡ refused n vs → ⊥) → ⊥
+      go true holds e rest = let number : r .number ≡ n = cc in true≢false (sym holds ∙ h .0 number)
+      go false holds e rest = rest e

@@ -38,6 +38,11 @@ abbrev pub _then_ : {A : Type 0} → List Row → Outcome A → Outcome A
 [] then o = o
 (r ∷ rows) then o = cond (r .holds) (refused (r .number) (r .values)) (rows then o)
 
+-- the order of the checks: the numbers of the rows, one after the other
+abbrev pub numbers : List Row → List ℕ
+numbers [] = []
+numbers (r ∷ rows) = r .number ∷ numbers rows
+
 -- ---- a check of the code's, and the rows that it tries
 abbrev pub checked : Check → Outcome (Unit {0})
 checked check.Passed = accepted tt

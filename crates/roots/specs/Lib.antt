@@ -1,2 +1,2 @@
 -- What the contracts of `roots` cite: what K13 asks of two roots.
-pub mod Both
+pub mod Quick

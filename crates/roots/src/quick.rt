@@ -1,7 +1,7 @@
 // The floor of the square root from a table, for numbers of 125 or 126 bits.
 ghost use mathlib.Core.Path.{_≡_};
 ghost use Prim.Native.Nat.{_+_, _-_, _*_, _/_, _^_, _≤_, _<_};
-ghost use Rattle.roots.specs.Both.{sameNumber};
+ghost use Rattle.roots.specs.Quick.{bothRoots, tableRoot};
 ghost use Rattle.wide.specs.Root.{root};
 ghost use Rattle.wide.specs.Value.{value};
 use super::roots::floor_root;
@@ -82,11 +82,16 @@ fn number(n: Wide) -> u64
     n.hi >> 52
 }
 
-// The floor of the square root. A number of 125 or 126 bits, whose n / 2^116 is from 256 to 1,023, starts from its entries of the two
-// tables, which the caller lends. Any other takes the first root, and so does one whose entry is not near: of `root_table` each is
-// (proofs/Entry).
-pub fn quick_root(n: Wide, roots: &[u64; 768], reciprocals: &[u32; 768]) -> u64
-    ensures { λ r. ⌜ r ≡ root (value n) ⌝ }
+// The root of a number from its entries of the tables, or that they do not serve it.
+pub enum TableRoot {
+    Root(u64),
+    NotServed,
+}
+
+// The floor of the square root of a number of 125 or 126 bits, whose n / 2^116 is from 256 to 1,023, from its entries of the two
+// tables, which the caller lends. One whose entry is not near is not served: of `root_table` each is (specs/Quick).
+pub fn table_root(n: Wide, roots: &[u64; 768], reciprocals: &[u32; 768]) -> TableRoot
+    ensures { λ r. ⌜ r ≡ tableRoot (now (roots .entry)) (value n) ⌝ }
 {
     let place = number(n);
     if 256 <= place {
@@ -97,12 +102,22 @@ pub fn quick_root(n: Wide, roots: &[u64; 768], reciprocals: &[u32; 768]) -> u64
             let top = n.hi * 4 + (n.lo >> 62);
             if e < 0x8000 {
                 if wrapping_sub_u64(top, e * e * 0x4_0000_0000) < 0x60_0000_0000_0000 {
-                    return root_from(n, top, e, i);
+                    return TableRoot::Root(root_from(n, top, e, i));
                 }
             }
         }
     }
-    floor_root(n)
+    TableRoot::NotServed
+}
+
+// The floor of the square root: from the tables, and the first root where they do not serve.
+pub fn quick_root(n: Wide, roots: &[u64; 768], reciprocals: &[u32; 768]) -> u64
+    ensures { λ r. ⌜ r ≡ root (value n) ⌝ }
+{
+    match table_root(n, roots, reciprocals) {
+        TableRoot::Root(r) => r,
+        TableRoot::NotServed => floor_root(n),
+    }
 }
 
 pub struct Both {
@@ -110,9 +125,9 @@ pub struct Both {
     pub quick: u64,
 }
 
-// The root by the first way and from the tables: the same number.
+// The root by the first way and from the tables.
 pub fn both_roots(n: Wide) -> Both
-    ensures { λ r. ⌜ (r .first ≡ root (value n)) × (r .quick ≡ r .first) × sameNumber n r ⌝ }
+    ensures { λ r. ⌜ r ≡ bothRoots (value n) ⌝ }
 {
     let roots = root_table();
     let reciprocals = reciprocal_table();

@@ -52,11 +52,11 @@ module _ (h p u : Float) where
       record { whole = whole; first = to; each = λ n lt. each n text (to (suc n) lt) (omega arith) }
 
 -- ---- temperatures: each pair of them is compared
-abbrev every : (ℕ → Bool) → ℕ → Bool
+abbrev pub every : (ℕ → Bool) → ℕ → Bool
 every f zero = true
 every f (suc n) = every f n && f n
 
-at-each : (f : ℕ → Bool) (n m : ℕ) → m < n → T (every f n) → T (f m)
+pub at-each : (f : ℕ → Bool) (n m : ℕ) → m < n → T (every f n) → T (f m)
 at-each f zero m h t = absurd (omega arith)
 at-each f (suc n) m h t = go (eq-or-lt-of-le h) (at-each f n m)
   where

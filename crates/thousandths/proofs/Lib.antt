@@ -3,4 +3,3 @@ pub mod Words
 pub mod Sizes
 pub mod Laws
 pub mod Fields
-pub mod Cases

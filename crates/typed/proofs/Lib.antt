@@ -1,4 +1,3 @@
--- The laws of the definitions: digits one after the other, the parts of a text, and texts that are read.
+-- The laws of the definitions: digits one after the other, and the parts of a text.
 pub mod Digits
 pub mod Parts
-pub mod Cases

@@ -9,7 +9,6 @@ use Rattle.typed_word.specs.declared.Problem.{Problem}
 use Rattle.typed_word.specs.declared.Problem.the-variants.{RepeatedWord}
 use Rattle.typed_word.specs.declared.Word.{Word}
 use Rattle.typed_word.specs.declared.Word.the-variants as word
-use Rattle.typed_readings.specs.declared.WordCheck.{WordCheck}
 use Rattle.typed_readings.specs.declared.WordCheck.the-variants as check
 use Rattle.typed_readings.specs.declared.TypedReadings.{TypedReadings}
 use Rattle.typed_word.specs.Word.{readWord}
@@ -36,10 +35,7 @@ understandFrom i r (w ∷ ws) = noted r i (readWord w) ⟫ (λ q. understandFrom
 abbrev pub understand : List (List ℕ) → Understood
 understand ws = understandFrom 0 noReadings ws
 
--- what the code's answer stands for
-abbrev pub checked : WordCheck → Readings → Understood
-checked check.Passed r = given r
-checked (check.Wrong p i) r = problem p i
-
-abbrev pub understood : TypedReadings → Understood
-understood a = checked (a .check) (a .readings)
+-- the code's answer: with a problem no readings
+abbrev pub answerFor : Understood → TypedReadings
+answerFor (given r) = record { check = check.Passed; readings = r }
+answerFor (problem p i) = record { check = check.Wrong p i; readings = noReadings }

@@ -6,7 +6,7 @@ ghost use mathlib.Core.List.{[]};
 ghost use Prim.Native.Nat.{_+_, min};
 ghost use lib.ListN.{length, getD};
 ghost use Rattle.typed_readings.specs.Words.{words, Starts};
-ghost use Rattle.typed_readings.specs.Understood.{understood, noted, understand};
+ghost use Rattle.typed_readings.specs.Understood.{problem, noted, understand, answerFor};
 use bytes::scan::find;
 use entries::Readings;
 use entries::entry_of;
@@ -25,27 +25,31 @@ pub enum WordCheck {
     Wrong(Problem, usize),
 }
 
-// Readings, where the check is passed.
+// Readings, where the check is passed; none where it is not.
 pub struct TypedReadings {
     pub check: WordCheck,
     pub readings: Readings,
 }
 
+// A problem, with no readings.
+fn wrong(what: Problem, number: usize) -> TypedReadings
+    ensures { λ r. ⌜ r ≡ answerFor (problem what number) ⌝ }
+{
+    TypedReadings {
+        check: WordCheck::Wrong(what, number),
+        readings: no_readings(),
+    }
+}
+
 // The readings with those of one word more.
 fn with_word(readings: Readings, word: Word, number: usize) -> TypedReadings
-    ensures { λ r. ⌜ understood r ≡ noted readings number word ⌝ }
+    ensures { λ r. ⌜ r ≡ answerFor (noted readings number word) ⌝ }
 {
     match word {
-        Word::Wrong(problem) => TypedReadings {
-            check: WordCheck::Wrong(problem, number),
-            readings,
-        },
+        Word::Wrong(problem) => wrong(problem, number),
         Word::Reading(meaning, count) => {
             if is_present(entry_of(readings, meaning)) {
-                return TypedReadings {
-                    check: WordCheck::Wrong(Problem::RepeatedWord, number),
-                    readings,
-                };
+                return wrong(Problem::RepeatedWord, number);
             }
             TypedReadings {
                 check: WordCheck::Passed,
@@ -69,7 +73,7 @@ fn after_newline(text: &[u8], end: usize) -> usize
 // The readings that the words of a text give, or the first problem in the order of the words. The text is
 // left as it was.
 pub fn read_words(text: &[u8]) -> TypedReadings
-    ensures answered { λ r. ⌜ understood r ≡ understand (words (now (text .entry))) ⌝ }
+    ensures answered { λ r. ⌜ r ≡ answerFor (understand (words (now (text .entry)))) ⌝ }
     ensures kept { λ _. ⌜ now (text .exit) ≡ now (text .entry) ⌝ }
 {
     let mut readings = no_readings();

@@ -70,9 +70,10 @@ fn value_for(meaning: usize, decimal: Typed) -> Word
     }
 }
 
-// One word: a name, `=` and a decimal.
+// One word: a name, `=` and a decimal. The word is left as it was.
 pub fn read_word(word: &[u8]) -> Word
     ensures { λ r. ⌜ r ≡ readWord (now (word .entry)) ⌝ }
+    ensures kept { λ _. ⌜ now (word .exit) ≡ now (word .entry) ⌝ }
 {
     let at = find(word, 0, word.len(), b'=');
     if at >= word.len() {

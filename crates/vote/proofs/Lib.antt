@@ -2,3 +2,5 @@
 pub mod ByMeaning
 pub mod Readings
 pub mod Laws
+-- When each number is answered.
+pub mod Causes

@@ -5,15 +5,17 @@ use mathlib.Core.List.{List, [], _++_}
 use Prim.Native.Nat.{ℕ, zero, suc, _+_, _-_, _*_, _≤_, _<_}
 use native.Mathlib.Omega.{arith}
 use native.Mathlib.Numerals.{add-one}
+use borrow.Author.Tests.{lt-ltb, le-ltb}
+use lib.Dec.{ltb}
 use lib.ListN.{length, length-append}
 use Rattle.fields.specs.declared.fields.Value.{Value}
 use Rattle.entries.specs.declared.Stored.{Stored}
 use Rattle.entries.specs.declared.Stored.the-variants.{Absent, Present}
 use Rattle.entries.specs.declared.Readings.{Readings}
-use Rattle.fields.specs.Fields.{meanings, meaningOf, dataSize}
+use Rattle.fields.specs.Fields.{meanings, meaningOf, tagIn, dataSize, isCount}
 use Rattle.entries.specs.Entries.{storedOf}
 use Rattle.fields.proofs.Forms.{at-most}
-use Rattle.writer.specs.Records.{bytes, dataOf, fieldWith, hasForm, storedField, fieldsFrom}
+use Rattle.writer.specs.Records.{bytes, dataOf, fieldWith, fieldFor, hasForm, storedField, fieldsFrom}
 use Rattle.writer.proofs.Bytes.{length-bytes}
 
 pub length-field : (tag : ℕ) (v : Value) → length (fieldWith tag v) ≡ 3 + dataSize tag
@@ -23,6 +25,22 @@ length-field tag v =
     let a = bytes 1 tag in
     let b = bytes 2 n in
     omega (arith, length-append (a ++ b) (bytes n (dataOf v)), length-append a b, length-bytes 1 tag, length-bytes 2 n, length-bytes n (dataOf v))
+
+-- the field of a meaning with a value
+module _ (m : ℕ) (v : Value) where
+  pub field-meant : m < meanings → fieldFor m v ≡ fieldWith (tagIn (isCount v) m) v
+  field-meant h = simp (lt-ltb m meanings h)
+
+  pub no-field-meant : meanings ≤ m → fieldFor m v ≡ []
+  no-field-meant h = simp (le-ltb m meanings h)
+
+  -- eleven bytes at most
+  pub field-short : length (fieldFor m v) ≤ 11
+  field-short = go (ltb m meanings)
+    where
+      go : (b : Bool) → length (cond b (fieldWith (tagIn (isCount v) m) v) []) ≤ 11
+      go true = omega (arith, length-field (tagIn (isCount v) m) v, at-most (tagIn (isCount v) m))
+      go false = omega arith
 
 -- the field of a tag, by what is stored
 module _ (tag : ℕ) {e : Stored} where

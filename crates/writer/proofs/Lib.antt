@@ -11,3 +11,5 @@ pub mod OneRun
 pub mod ReadBack
 pub mod FieldWritten
 pub mod WrittenAgain
+-- When each number is answered.
+pub mod Causes

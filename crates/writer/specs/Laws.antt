@@ -7,6 +7,7 @@ use lib.Dec.{T}
 use lib.Ieee.{binary64, fits, isNan}
 use lib.ListN.{length, getD}
 use Rattle.refusal.specs.Outcomes.{accepted}
+use Rattle.refusal.specs.Causes.{ExactlyCaused}
 use Rattle.fields.specs.declared.fields.Value.{Value}
 use Rattle.fields.specs.declared.fields.Value.the-variants.{Double, Count}
 use Rattle.entries.specs.declared.Stored.the-variants.{Present}
@@ -15,6 +16,7 @@ use Rattle.fields.specs.Fields.{meanings}
 use Rattle.record.specs.Readings.{readRecord}
 use Rattle.entries.specs.Entries.{storedOf}
 use Rattle.writer.specs.Records.{recordOf}
+use Rattle.writer.specs.Written.{roomRows, lengthWritten}
 
 -- a value as the code holds it: a double, or a count's word of 32 bits
 abbrev pub IsHeld : Value → Type 0
@@ -44,3 +46,7 @@ NoNan r = (m : ℕ) (v : Value) → storedOf r m ≡ Present v → NotNan v
 -- every record that the strict reader takes is byte for byte what is written of its readings, where none of them is NaN, which has other patterns too
 abbrev pub WrittenAgain : Type 0
 WrittenAgain = (s : List ℕ) (r : Readings) → AreBytes s → NoNan r → readRecord true s ≡ accepted r → s ≡ recordOf r
+
+-- ---- each number has exactly its cause: 18
+abbrev pub Caused : List ℕ → List ℕ → Type 0
+Caused s buffer = ExactlyCaused (roomRows s buffer) (length s) (lengthWritten s buffer)

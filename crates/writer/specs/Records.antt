@@ -2,13 +2,14 @@
 use Prim.Native.Nat.{ℕ, zero, suc, _+_, _/_, _%_, _^_}
 use mathlib.Core.Bool.{Bool, not, cond}
 use mathlib.Core.List.{List, [], _∷_, _++_}
+use lib.Dec.{ltb}
 use lib.Ieee.{binary64, toBits}
 use Rattle.fields.specs.declared.fields.Value.{Value}
 use Rattle.fields.specs.declared.fields.Value.the-variants.{Double, Count}
 use Rattle.entries.specs.declared.Stored.{Stored}
 use Rattle.entries.specs.declared.Stored.the-variants.{Absent, Present}
 use Rattle.entries.specs.declared.Readings.{Readings}
-use Rattle.fields.specs.Fields.{meanings, isCountTag, meaningOf, dataSize}
+use Rattle.fields.specs.Fields.{meanings, isCountTag, meaningOf, tagIn, dataSize, isCount}
 use Rattle.entries.specs.Entries.{storedOf}
 
 -- the last k bytes of n, the highest first
@@ -24,6 +25,10 @@ dataOf (Count word) = word
 -- a field: tag, length, data
 unfoldable pub fieldWith : ℕ → Value → List ℕ
 fieldWith tag v = bytes 1 tag ++ bytes 2 (dataSize tag) ++ bytes (dataSize tag) (dataOf v)
+
+-- the field of a meaning with a value, by the tag of the value's form; nothing where there is no such meaning
+abbrev pub fieldFor : ℕ → Value → List ℕ
+fieldFor m v = cond (ltb m meanings) (fieldWith (tagIn (isCount v) m) v) []
 
 -- whether a tag is of a value's form
 abbrev pub hasForm : ℕ → Value → Bool

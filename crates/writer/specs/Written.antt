@@ -4,13 +4,17 @@ use mathlib.Core.Bool.{cond}
 use mathlib.Core.List.{List, [], _∷_, _++_}
 use lib.Dec.{ltb}
 use lib.ListN.{length, drop}
-use Rattle.refusal.specs.Outcomes.{Outcome, accepted, refusal, row, _then_}
+use Rattle.refusal.specs.Outcomes.{Outcome, accepted, refusal, Row, row, _then_}
 use Rattle.writer.specs.declared.Written.{Written}
 use Rattle.writer.specs.declared.Written.the-variants as answer
 
--- how many bytes s has. 18: the buffer is shorter
+-- 18: the buffer is shorter than s
+abbrev pub roomRows : List ℕ → List ℕ → List Row
+roomRows s buffer = row (ltb (length buffer) (length s)) 18 [] ∷ []
+
+-- how many bytes s has
 abbrev pub lengthWritten : List ℕ → List ℕ → Outcome ℕ
-lengthWritten s buffer = row (ltb (length buffer) (length s)) 18 [] ∷ [] then accepted (length s)
+lengthWritten s buffer = roomRows s buffer then accepted (length s)
 
 -- s, then what was there; all that was there, where the buffer is shorter
 abbrev pub overwritten : List ℕ → List ℕ → List ℕ

@@ -1,11 +1,11 @@
 // The writer of mast records: the fields of readings, each in its form and by rising tags, into a lent
 // buffer; and a field by itself.
 ghost use mathlib.Core.Path.{_≡_};
-ghost use Prim.Native.Nat.{_+_, _≤_};
+ghost use Prim.Native.Nat.{_+_, _≤_, _<_};
 ghost use lib.ListN.{length};
 ghost use lib.Seq.{sets};
-ghost use Rattle.fields.specs.Fields.{meanings};
-ghost use Rattle.writer.specs.Records.{bytes, dataOf, fieldWith, hasForm, storedField, fieldsFrom, recordOf};
+ghost use Rattle.fields.specs.Fields.{meanings, tagIn, isCount};
+ghost use Rattle.writer.specs.Records.{bytes, dataOf, fieldWith, fieldFor, hasForm, storedField, fieldsFrom, recordOf};
 ghost use Rattle.writer.specs.Written.{written, lengthWritten, overwritten};
 use entries::Readings;
 use entries::Stored;
@@ -143,14 +143,38 @@ pub fn write(readings: Readings, out: &mut [u8]) -> Written
     Written::Length(length)
 }
 
-// The field of a tag with a value at the start of the buffer, and its length; a buffer that is shorter
-// is left as it was (cause 18).
-pub fn write_field(tag: u8, value: Value, out: &mut [u8]) -> Written
-    ensures answered { λ r. ⌜ written r ≡ lengthWritten (fieldWith tag value) (now (out .entry)) ⌝ }
-    ensures lent { λ _. ⌜ now (out .exit) ≡ overwritten (fieldWith tag value) (now (out .entry)) ⌝ }
+fn tag_for(meaning: usize, value: Value) -> u8
+    requires { ⌜ meaning < meanings ⌝ }
+    ensures { λ r. ⌜ r ≡ tagIn (isCount value) meaning ⌝ }
 {
-    if out.len() < HEADER + data_size(tag) {
+    match value {
+        Value::Double(_) => FIRST_DOUBLE + meaning as u8,
+        Value::Count(_) => FIRST_COUNT + meaning as u8,
+    }
+}
+
+// The length of the field of a meaning with a value, and 0 where there is no such meaning.
+pub fn field_size(meaning: usize, value: Value) -> usize
+    ensures { λ r. ⌜ r ≡ length (fieldFor meaning value) ⌝ }
+{
+    if MEANINGS <= meaning {
+        return 0;
+    }
+    HEADER + data_size(tag_for(meaning, value))
+}
+
+// The field of a meaning with a value, in the value's form, at the start of the buffer, and its length;
+// nothing where there is no such meaning. What is past it is left, and so is the whole of a buffer that is
+// shorter (cause 18).
+pub fn write_field(meaning: usize, value: Value, out: &mut [u8]) -> Written
+    ensures answered { λ r. ⌜ written r ≡ lengthWritten (fieldFor meaning value) (now (out .entry)) ⌝ }
+    ensures lent { λ _. ⌜ now (out .exit) ≡ overwritten (fieldFor meaning value) (now (out .entry)) ⌝ }
+{
+    if MEANINGS <= meaning {
+        return Written::Length(0);
+    }
+    if out.len() < field_size(meaning, value) {
         return Written::Refused(Refusal::BufferTooShort);
     }
-    Written::Length(put_field(out, 0, tag, value))
+    Written::Length(put_field(out, 0, tag_for(meaning, value), value))
 }

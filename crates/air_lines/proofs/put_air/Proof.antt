@@ -13,7 +13,10 @@ returns c =
     let pressure-altitude = matched-altitude .before .before .before .before .before .before in
     let sound = pressure-altitude .before .before .before .before .before .before in
     let density = sound .before .before .before .before .before .before in
-    and-then (and-then (and-then (and-then (density .put-figure .ensures) (sound .put-figure2 .ensures)) (pressure-altitude .put-figure3 .ensures)) (matched-altitude .put-figure4 .ensures)) (fraction .put-figure5 .ensures)
+    and-then (and-then (and-then (and-then (density .put-figure .ensures .0) (sound .put-figure2 .ensures .0)) (pressure-altitude .put-figure3 .ensures .0)) (matched-altitude .put-figure4 .ensures .0)) (fraction .put-figure5 .ensures .0)
+
+same-length : tie.Need-same-length
+same-length c = returns c .whole
 
 pub put-air-spec : {M : Type 1} → statement M
 put-air-spec =
@@ -34,5 +37,5 @@ put-air-spec =
     (λ c. search needs)
     (λ c. search needs)
     (λ c κs. search needs)
-    (λ c. search needs)
+    same-length
     returns)

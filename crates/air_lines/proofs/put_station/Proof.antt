@@ -11,7 +11,7 @@ returns c =
     let pressure = c .before .before in
     let temperature = pressure .before .before .before .before .before .before in
     let altitude = temperature .before .before .before .before .before .before in
-    and-then (and-then (altitude .put-figure .ensures) (temperature .put-figure2 .ensures)) (pressure .put-figure3 .ensures)
+    and-then (and-then (altitude .put-figure .ensures .0) (temperature .put-figure2 .ensures .0)) (pressure .put-figure3 .ensures .0)
 
 pub put-station-spec : {M : Type 1} → statement M
 put-station-spec =

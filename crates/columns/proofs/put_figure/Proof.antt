@@ -1,4 +1,5 @@
 -- `columns::put_figure` meets its contract. Assumes nothing.
+use mathlib.Core.Path.{refl}
 use borrow.Author.Needs.{needs}
 use Rattle.pieces.proofs.Growing.{and-then}
 use Rattle.columns.specs.Columns.{figureLine}
@@ -7,7 +8,10 @@ use Rattle.columns.proofs.put_figure.Tie as tie
 
 returns : tie.Need-returns
 unfolding figureLine
-returns c = and-then (and-then (c .before .before .before .before .before .before .before .before .before .before .put .ensures .0) (c .before .before .before .before .before .before .put-decimal .ensures)) (c .before .before .put2 .ensures .0)
+returns c =
+    let figured = c .before .before .before .before .before .before in
+    let named = figured .before .before .before .before in
+    (and-then (and-then (named .put .ensures .0) (figured .put-decimal .ensures)) (c .before .before .put2 .ensures .0), (refl, refl))
 
 pub put-figure-spec : {M : Type 1} → statement M
 put-figure-spec =

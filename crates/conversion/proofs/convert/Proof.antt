@@ -8,26 +8,31 @@ use Rattle.refusal.specs.declared.Check.{Check}
 use Rattle.refusal.specs.Outcomes.{accepted, _⟫_, checked}
 use Rattle.refusal.specs.Causes.{NoneHolds}
 use Rattle.refusal.proofs.Rows.{then-accepted}
-use Rattle.record.specs.Readings.{readRows}
+use Rattle.record.specs.Readings.{readRows, readRecord, readOutcome}
+use Rattle.record.proofs.Parts.{outcome-of-parts}
 use Rattle.writer.specs.Written.{written}
 use Rattle.conversion.specs.Conversion.{recordIn, converted}
 use Rattle.conversion.proofs.Outcome.{reader-refuses, no-count, counted, refuses, has-no-room, has-room}
 use Rattle.conversion.proofs.convert.Statement.{statement}
 use Rattle.conversion.proofs.convert.Tie as tie
 
+-- the outcome of the record, by what was read
+outcome : (c : tie.After-read-record) → readOutcome (c .read-record .result) ≡ readRecord false (c .before .before .before .args .bytes .now)
+outcome c = outcome-of-parts (c .read-record .result) (readRecord false (c .before .before .before .args .bytes .now)) (c .read-record .ensures .0)
+
 returns : tie.Need-returns
 returns c =
     let read = c .before .before .before in
     let a = read .before .before .before .args in
     let refusal = ap (λ (k : Check). checked k ⟫ (λ _. accepted (read .read-record .result .readings))) (c .before .check .given .1) in
-    refuses (a .counts) (a .bytes .now) (a .out .now) (reader-refuses (a .counts) (a .bytes .now) (sym (read .read-record .ensures .0) ∙ refusal))
+    refuses (a .counts) (a .bytes .now) (a .out .now) (reader-refuses (a .counts) (a .bytes .now) (sym (outcome read) ∙ refusal))
 
 -- the record is read
 is-read : (c : tie.After-enum-told) → NoneHolds (readRows false (c .before .before .before .before .before .args .bytes .now))
 is-read c =
     let read = c .before .before in
     let passed = ap (λ (k : Check). checked k ⟫ (λ _. accepted (read .read-record .result .readings))) (c .enum-told .given .1) in
-    then-accepted (readRows false (read .before .before .before .args .bytes .now)) (sym (read .read-record .ensures .0) ∙ passed) .0
+    then-accepted (readRows false (read .before .before .before .args .bytes .now)) (sym (outcome read) ∙ passed) .0
 
 converted-length-requires : tie.Need-converted-length-requires
 converted-length-requires c κs = is-read c

@@ -9,9 +9,8 @@ use borrow.Author.Tests.{le-ltb}
 use borrow.Rule.Slice.PartMut.{putMid}
 use lib.ListN.{length, take, drop, length-drop, drop-of-length-le}
 use lib.Seq.{sets, sets-eq, take-all, drop-drop}
-use Rattle.writer.specs.Records.{fieldWith}
+use Rattle.writer.specs.Records.{fieldFor}
 use Rattle.writer.specs.Written.{overwritten}
-use Rattle.writer.proofs.Fields.{length-field}
 use Rattle.conversion.specs.declared.Turned.{Turned}
 use Rattle.conversion.specs.Conversion.{fieldAs}
 use Rattle.conversion.proofs.put_turned.Statement.{statement}
@@ -44,26 +43,31 @@ rest-put out f at {part} fits e =
     ∙ sym (append-assoc (take at out) f (drop (at + length f) out))
     ∙ sym (sets-eq f out at fits)
 
-add-result-3 : tie.Need-add-result-3
-add-result-3 c =
-    let put = c .before .before .before in
-    let given = put .before .before .before .turned .given in
-    let start = put .before .before .before .before .before .before .before in
-    let a = start .args in
-    let fits = subst (λ (t : Turned). a .at + length (fieldAs (a .field .now) t) ≤ length (a .out .now)) (given .1) (start .pre) in
-    omega (arith, fits, c .data-size .ensures, length-field (given .0 .0) (given .0 .1 .0))
+-- the field that is put, and that it has room
+module _ (c : tie.After-field-size) where
+  abbrev put : tie.After-write-field
+  put = c .before .before .before
+
+  abbrev start : tie.Start
+  start = put .before .before .before .before .before .before .before
+
+  abbrev f : List ℕ
+  f = let given = put .before .before .before .turned .given in fieldFor (given .0 .0) (given .0 .1 .0)
+
+  told : fieldAs (start .args .field .now) (start .args .turned) ≡ f
+  told = ap (fieldAs (start .args .field .now)) (put .before .before .before .turned .given .1)
+
+  fits : start .args .at + length f ≤ length (start .args .out .now)
+  fits = subst (λ (l : List ℕ). start .args .at + length l ≤ length (start .args .out .now)) told (start .pre)
+
+add-result-2 : tie.Need-add-result-2
+add-result-2 c = omega (arith, fits c, c .field-size .ensures)
 
 returns-2 : tie.Need-returns-2
 returns-2 c =
-    let put = c .before .before .before in
-    let given = put .before .before .before .turned .given in
-    let start = put .before .before .before .before .before .before .before in
-    let a = start .args in
-    let f = fieldWith (given .0 .0) (given .0 .1 .0) in
-    let told = ap (fieldAs (a .field .now)) (given .1) in
-    let fits = subst (λ (l : List ℕ). a .at + length l ≤ length (a .out .now)) told (start .pre) in (
-      omega (arith, c .data-size .ensures, length-field (given .0 .0) (given .0 .1 .0), ap length told),
-      rest-put (a .out .now) f (a .at) fits (put .write-field .ensures .1) ∙ sym (ap (sets (a .out .now) (a .at)) told),
+    let a = start c .args in (
+      ap (λ (n : ℕ). a .at + n) (c .field-size .ensures) ∙ sym (ap (λ (l : List ℕ). a .at + length l) (told c)),
+      rest-put (a .out .now) (f c) (a .at) (fits c) (put c .write-field .ensures .1) ∙ sym (ap (sets (a .out .now) (a .at)) (told c)),
     )
 
 returns-3 : tie.Need-returns-3
@@ -84,9 +88,8 @@ put-turned-spec =
     (λ c. search needs)
     (λ c. search needs)
     (λ c κs. search needs)
-    (λ c. search needs)
     (λ c κs. search needs)
-    add-result-3
+    add-result-2
     (λ c. search needs)
     (λ c. search needs)
     returns

@@ -1,7 +1,6 @@
 -- `conversion::turn` meets its contract, by the value's form and the one that is asked for. Assumes nothing.
 use mathlib.Core.Path.{sym, ap, ap₂, _∙_}
 use mathlib.Core.Bool.{Bool}
-use Prim.Native.Nat.{_+_}
 use borrow.Author.Needs.{needs}
 use lib.Ieee.{Float}
 use Rattle.fields.specs.declared.fields.Value.{Value}
@@ -23,7 +22,7 @@ returns-4 : tie.Need-returns-4
 returns-4 c =
     let test = c .before in
     let a = test .before .before .before .before .args in
-    ap (λ (x : Float). Other (1 + a .meaning) (Double x)) (c .double-of-word .ensures)
+    ap (λ (x : Float). Other (a .meaning) (Double x)) (c .double-of-word .ensures)
     ∙ sym (ap₂ (λ (b : Bool) (v : Value). turned b (a .meaning) v) (test .if2 .left) (test .before .before .value2 .given .1))
 
 pub turn-spec : {M : Type 1} → statement M
@@ -34,8 +33,6 @@ turn-spec =
     (λ c κs. search needs)
     (λ c κs. search needs)
     returns
-    (λ c. search needs)
-    (λ c. search needs)
     (λ c. search needs)
     (λ c. search needs)
     (λ c κs. search needs)

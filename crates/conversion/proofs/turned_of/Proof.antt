@@ -1,18 +1,16 @@
 -- `conversion::turned_of` meets its contract: a field that no row refuses is found. Assumes nothing.
 use mathlib.Core.Path.{_≡_, sym, ap, _∙_}
 use mathlib.Core.List.{List}
-use Prim.Native.Nat.{ℕ, _<_}
+use Prim.Native.Nat.{ℕ}
 use native.Mathlib.Omega.{arith}
 use borrow.Author.Needs.{needs}
-use borrow.Author.Tests.{not-false}
 use Rattle.refusal.specs.Outcomes.{accepted}
 use Rattle.refusal.specs.Causes.{NoneHolds}
 use Rattle.refusal.proofs.Rows.{then-none}
 use Rattle.fields.specs.declared.fields.Field.{Field}
 use Rattle.fields.specs.declared.fields.Found.{Found}
 use Rattle.fields.specs.declared.fields.Found.the-variants as found-as
-use Rattle.fields.specs.Fields.{meanings, tagOf, field, headRows, found, fieldOf}
-use Rattle.fields.proofs.Forms.{tagged}
+use Rattle.fields.specs.Fields.{field, headRows, found, fieldOf}
 use Rattle.conversion.specs.Conversion.{turned}
 use Rattle.conversion.proofs.turned_of.Statement.{statement}
 use Rattle.conversion.proofs.turned_of.Tie as tie
@@ -22,16 +20,6 @@ module _ (f : List ℕ) (none : NoneHolds (headRows f)) (o : Found) (e : found o
   is-field x told =
       let same : accepted x ≡ accepted (field f) = ap found (sym told) ∙ e ∙ then-none (headRows f) none in
       cc
-
-  is-meant : (x : Field) → o ≡ found-as.Field x → x .meaning < meanings
-  unfolding headRows field
-  is-meant x told = omega (arith, tagged (tagOf f) (not-false _ (none .1 .0)) .meant, ap (λ (y : Field). y .meaning) (is-field x told))
-
-turn-requires : tie.Need-turn-requires
-turn-requires c κs =
-    let read = c .before .before .before in
-    let start = read .before .before in
-    is-meant (start .args .field .now) (start .pre) (read .field-from .result) (read .field-from .ensures .0) _ (c .before .found .given .1)
 
 returns : tie.Need-returns
 unfolding field
@@ -52,4 +40,4 @@ returns-2 c =
     absurd (omega arith)
 
 pub turned-of-spec : {M : Type 1} → statement M
-turned-of-spec = tie.close (tie.spec (λ c κs. search needs) (λ c. search needs) turn-requires (λ c. search needs) returns returns-2)
+turned-of-spec = tie.close (tie.spec (λ c κs. search needs) (λ c. search needs) (λ c κs. search needs) (λ c. search needs) returns returns-2)

@@ -1,28 +1,12 @@
 -- `conversion::turned_size` meets its contract. Assumes nothing.
 use mathlib.Core.Path.{sym, ap, _∙_}
-use Prim.Native.Nat.{ℕ, _+_}
-use native.Mathlib.Omega.{arith}
 use borrow.Author.Needs.{needs}
-use Rattle.fields.proofs.Forms.{at-most}
 use Rattle.conversion.specs.Conversion.{sizeAs}
 use Rattle.conversion.proofs.turned_size.Statement.{statement}
 use Rattle.conversion.proofs.turned_size.Tie as tie
 
-add-result : tie.Need-add-result
-add-result c = omega (arith, c .data-size .ensures, at-most (c .before .before .turned .given .0 .0))
-
 returns-2 : tie.Need-returns-2
-returns-2 c = ap (λ (n : ℕ). 3 + n) (c .data-size .ensures) ∙ ap (sizeAs (c .before .before .before .before .args .size)) (sym (c .before .before .turned .given .1))
+returns-2 c = c .field-size .ensures ∙ ap (sizeAs (c .before .before .before .before .args .size)) (sym (c .before .before .turned .given .1))
 
 pub turned-size-spec : {M : Type 1} → statement M
-turned-size-spec =
-    tie.close
-    (tie.spec
-    (λ c. search needs)
-    (λ c. search needs)
-    (λ c κs. search needs)
-    add-result
-    (λ c. search needs)
-    (λ c. search needs)
-    returns-2
-    (λ c. search needs))
+turned-size-spec = tie.close (tie.spec (λ c. search needs) (λ c. search needs) (λ c κs. search needs) (λ c. search needs) (λ c. search needs) returns-2 (λ c. search needs))

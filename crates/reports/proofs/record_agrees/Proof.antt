@@ -7,14 +7,15 @@ use borrow.Author.Needs.{needs}
 use Rattle.refusal.specs.declared.Check.{Check}
 use Rattle.refusal.specs.Outcomes.{accepted, _⟫_, checked}
 use Rattle.record.specs.declared.readings.Read.{Read}
-use Rattle.record.specs.Readings.{readRecord, readOutcome}
+use Rattle.record.specs.Readings.{readRecord, parts, partsOf}
+use Rattle.record.proofs.Parts.{outcome-of-parts}
 use Rattle.reports.specs.Reports.{reported, recordAgrees}
 use Rattle.reports.proofs.record_agrees.Statement.{statement}
 use Rattle.reports.proofs.record_agrees.Tie as tie
 
-by-read : (s expected : List ℕ) (r : Read) {k : Check} → r .check ≡ k → readOutcome r ≡ readRecord false s
+by-read : (s expected : List ℕ) (r : Read) {k : Check} → r .check ≡ k → parts r ≡ partsOf (readRecord false s)
     → reported expected (checked k ⟫ (λ _. accepted (r .readings))) ≡ recordAgrees s expected
-by-read s expected r told e = ap (reported expected) (ap (λ (k : Check). checked k ⟫ (λ _. accepted (r .readings))) (sym told) ∙ e)
+by-read s expected r told e = ap (reported expected) (ap (λ (k : Check). checked k ⟫ (λ _. accepted (r .readings))) (sym told) ∙ outcome-of-parts r (readRecord false s) e)
 
 returns : tie.Need-returns
 returns c =

@@ -7,9 +7,9 @@ use native.Mathlib.Omega.{arith}
 use borrow.Author.Needs.{needs}
 use lib.ListN.{length, drop, drop-of-length-le}
 use Rattle.entries.specs.declared.Readings.{Readings}
-use Rattle.typed_readings.specs.declared.WordCheck.{WordCheck}
 use Rattle.typed_readings.specs.Words.{words}
-use Rattle.typed_readings.specs.Understood.{Understood, _⟫_, noted, understandFrom, understand, checked, understood}
+use Rattle.typed_readings.specs.Understood.{Understood, _⟫_, noted, understandFrom, understand, answerFor}
+use Rattle.typed_readings.proofs.Told.{told-given, told-wrong}
 use Rattle.typed_readings.proofs.Split.{next-word}
 use Rattle.typed_readings.proofs.read_words.Statement.{statement}
 use Rattle.typed_readings.proofs.read_words.Tie as tie
@@ -30,7 +30,7 @@ loop-holds c =
 turned : (c : tie.After-with-word Inv-loop μ-loop) → let found = c .before .before .before in let turn = found .before .before .loop in
     let text = found .before .before .before .before .before .args .text .now in
     understand (words text)
-    ≡ (understood (c .with-word .result) ⟫ (λ q. understandFrom (turn .number + 1) q (words (drop (min (found .find .result + 1) (length text)) text))))
+    ≡ (noted (turn .readings) (turn .number) (c .before .read-word .result) ⟫ (λ q. understandFrom (turn .number + 1) q (words (drop (min (found .find .result + 1) (length text)) text))))
 unfolding understandFrom
 turned c =
     let found = c .before .before .before in
@@ -41,7 +41,7 @@ turned c =
     turn .inv .1 .1
     ∙ ap (understandFrom (turn .number) (turn .readings)) (next-word text (turn .at) end (found .before .loop-test .taken) (found .find .ensures .0))
     ∙ ap (λ (o : Understood). o ⟫ (λ q. understandFrom (turn .number + 1) q others))
-    (sym (c .with-word .ensures ∙ ap (noted (turn .readings) (turn .number)) (c .before .read-word .ensures)))
+    (sym (ap (noted (turn .readings) (turn .number)) (c .before .read-word .ensures .0)))
 
 returns : tie.Need-returns Inv-loop μ-loop
 returns c =
@@ -49,9 +49,9 @@ returns c =
     let found = read .before .before .before in
     let turn = found .before .before .loop in
     let text = found .before .before .before .before .before .args .text .now in
-    let wrong = ap (λ (k : WordCheck). checked k (read .with-word .result .readings)) (c .enum-told .given .1) in
+    let wrong = told-wrong (noted (turn .readings) (turn .number) (read .before .read-word .result)) (read .with-word .result) (read .with-word .ensures) (c .enum-told .given .1) in
     let next : Readings → Understood = λ q. understandFrom (turn .number + 1) q (words (drop (min (found .find .result + 1) (length text)) text)) in
-    (wrong ∙ sym (turned read ∙ ap (λ (o : Understood). o ⟫ next) wrong), refl)
+    (read .with-word .ensures ∙ ap answerFor (wrong ∙ sym (turned read ∙ ap (λ (o : Understood). o ⟫ next) wrong)), refl)
 
 loop-less : tie.Need-loop-less Inv-loop μ-loop
 loop-less c =
@@ -67,7 +67,7 @@ loop-again c =
     let text = found .before .before .before .before .before .args .text .now in
     let end : ℕ = found .find .result in
     let next : Readings → Understood = λ q. understandFrom (turn .number + 1) q (words (drop (min (end + 1) (length text)) text)) in
-    let passed = ap (λ (k : WordCheck). checked k (read .with-word .result .readings)) (told .enum-told2 .given .1) in (
+    let passed = told-given (noted (turn .readings) (turn .number) (read .before .read-word .result)) (read .with-word .result) (read .with-word .ensures) (told .enum-told2 .given .1) in (
       omega (arith, c .after-newline .ensures),
       (
         omega (arith, c .after-newline .ensures, found .find .ensures .0),
@@ -81,7 +81,7 @@ unfolding words understandFrom
 returns-2 c =
     let text = c .before .before .before .before .args .text .now in
     let turn = c .before .loop in
-    (sym (turn .inv .1 .1 ∙ ap (λ (l : List ℕ). understandFrom (turn .number) (turn .readings) (words l)) (drop-of-length-le text (c .loop-test .left))), refl)
+    (sym (ap answerFor (turn .inv .1 .1 ∙ ap (λ (l : List ℕ). understandFrom (turn .number) (turn .readings) (words l)) (drop-of-length-le text (c .loop-test .left)))), refl)
 
 pub read-words-spec : {M : Type 1} → statement M
 read-words-spec =

@@ -9,7 +9,7 @@ use Rattle.entries.specs.Entries.{isPresent, entryOf, withValue}
 use Rattle.typed_word.specs.declared.Problem.the-variants.{RepeatedWord}
 use Rattle.typed_word.specs.declared.Word.{Word}
 use Rattle.typed_word.specs.declared.Word.the-variants.{Reading}
-use Rattle.typed_readings.specs.Understood.{given, problem, noted}
+use Rattle.typed_readings.specs.Understood.{given, problem, noted, answerFor}
 use Rattle.typed_readings.proofs.with_word.Statement.{statement}
 use Rattle.typed_readings.proofs.with_word.Tie as tie
 
@@ -25,27 +25,34 @@ present c = ap isPresent (sym (c .before .entry-of .ensures)) ∙ sym (c .is-pre
 
 returns : tie.Need-returns
 returns c =
-    let word = c .before .before .before .before in
+    let test = c .before in
+    let word = test .before .before .before .before in
     let a = word .before .before .args in
-    by-entry (a .readings) (a .number) (word .word2 .given .0 .0) (word .word2 .given .0 .1 .0) (word .word2 .given .1) (present (c .before) ∙ c .if1 .taken)
+    c .wrong2 .ensures
+    ∙ ap answerFor (by-entry (a .readings) (a .number) (word .word2 .given .0 .0) (word .word2 .given .0 .1 .0) (word .word2 .given .1) (present (test .before) ∙ test .if1 .taken))
 
 returns-2 : tie.Need-returns-2
-returns-2 c = let a = c .before .before .before .args in ap (noted (a .readings) (a .number)) (sym (c .before .word .given .1))
+returns-2 c =
+    let word = c .before .before in
+    let a = word .before .before .args in
+    c .wrong .ensures ∙ ap (λ (w : Word). answerFor (noted (a .readings) (a .number) w)) (sym (word .word .given .1))
 
 returns-3 : tie.Need-returns-3
 returns-3 c =
     let test = c .before in
     let word = test .before .before .before .before in
     let a = word .before .before .args in
-    ap given (c .with-value .ensures)
-    ∙ by-entry (a .readings) (a .number) (word .word2 .given .0 .0) (word .word2 .given .0 .1 .0) (word .word2 .given .1) (present (test .before) ∙ test .if1 .left)
+    ap (λ (r : Readings). answerFor (given r)) (c .with-value .ensures)
+    ∙ ap answerFor (by-entry (a .readings) (a .number) (word .word2 .given .0 .0) (word .word2 .given .0 .1 .0) (word .word2 .given .1) (present (test .before) ∙ test .if1 .left))
 
 pub with-word-spec : {M : Type 1} → statement M
 with-word-spec =
     tie.close
     (tie.spec
     (λ c. search needs)
+    (λ c κs. search needs)
     (λ c. search needs)
+    (λ c κs. search needs)
     (λ c κs. search needs)
     (λ c κs. search needs)
     returns

@@ -1,5 +1,5 @@
 -- `typed_word::read_word` meets its contract, by where the first `=` stands and the name before it. Assumes nothing.
-use mathlib.Core.Path.{_≡_, sym, ap, _∙_}
+use mathlib.Core.Path.{_≡_, refl, sym, ap, _∙_}
 use Prim.Native.Nat.{ℕ, _+_, _-_}
 use native.Mathlib.Nat.{zero-add}
 use native.Mathlib.Omega.{arith}
@@ -18,7 +18,7 @@ mark : (c : tie.After-find) → c .find .result ≡ indexOf 61 (c .before .befor
 mark c = found 61 (c .before .before .args .word .now) 0 (c .find .ensures .0) ∙ zero-add _
 
 returns : tie.Need-returns
-returns c = no-mark (c .before .before .before .args .word .now) (c .before .find .result) (mark (c .before)) (c .if1 .taken)
+returns c = (no-mark (c .before .before .before .args .word .now) (c .before .find .result) (mark (c .before)) (c .if1 .taken), refl)
 
 slice-aggregate-meaning-named : tie.Need-slice-aggregate-meaning-named
 slice-aggregate-meaning-named c =
@@ -28,8 +28,8 @@ slice-aggregate-meaning-named c =
 returns-2 : tie.Need-returns-2
 returns-2 c =
     let found = c .before .before .before .before in
-    no-name (found .before .before .args .word .now) (found .find .result) (mark found) (c .before .meaning-named .result) (c .before .meaning-named .ensures)
-    (c .before .before .before .if1 .left) (c .if2 .taken)
+    let named = c .before .meaning-named in
+    (no-name (found .before .before .args .word .now) (found .find .result) (mark found) (named .result) (named .ensures) (c .before .before .before .if1 .left) (c .if2 .taken), refl)
 
 returns-3 : tie.Need-returns-3
 returns-3 c =
@@ -38,10 +38,12 @@ returns-3 c =
     let w = found .before .before .args .word .now in
     let at : ℕ = found .find .result in
     let m : ℕ = named .meaning-named .result in
-    let rest : take (length w - (at + 1)) (drop (at + 1) w) ≡ drop (at + 1) w = take-all (length w - (at + 1)) (drop (at + 1) w) (rw length-drop (omega arith)) in
-    c .value-for .ensures
-    ∙ ap (valueFor m) (c .before .read-decimal .ensures .0 ∙ ap typed rest)
-    ∙ known w at (mark found) m (named .meaning-named .ensures) (named .before .before .if1 .left) (c .before .before .before .if2 .left)
+    let rest : take (length w - (at + 1)) (drop (at + 1) w) ≡ drop (at + 1) w = take-all (length w - (at + 1)) (drop (at + 1) w) (rw length-drop (omega arith)) in (
+      c .value-for .ensures
+          ∙ ap (valueFor m) (c .before .read-decimal .ensures .0 ∙ ap typed rest)
+          ∙ known w at (mark found) m (named .meaning-named .ensures) (named .before .before .if1 .left) (c .before .before .before .if2 .left),
+      refl,
+    )
 
 pub read-word-spec : {M : Type 1} → statement M
 read-word-spec =

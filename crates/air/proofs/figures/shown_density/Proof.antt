@@ -5,6 +5,7 @@ use lib.Ieee.{Float}
 use Rattle.arithmetic.specs.Places.{places}
 use Rattle.air.specs.declared.moist.MoistDensity.{MoistDensity}
 use Rattle.air.specs.Moist.{densityOf}
+use Rattle.air.proofs.One.{one-double}
 use Rattle.air.proofs.figures.shown_density.Statement.{statement}
 use Rattle.air.proofs.figures.shown_density.Tie as tie
 
@@ -13,7 +14,7 @@ returns c =
     let second = c .before .before in
     let first = second .before in
     let start = first .before in
-    start .pre .1 ∙ ap₂ (λ (T p : Float). densityOf places T p (start .args .humidity-percent) .«density_kg_m3») (first .is-one .ensures (c .before .if1 .taken)) (second .is-one2 .ensures (c .if2 .taken))
+    start .pre .1 ∙ ap₂ (λ (T p : Float). densityOf places T p (start .args .humidity-percent) .«density_kg_m3») (one-double _ _ (search needs) (search needs) (first .is-one .ensures) (c .before .if1 .taken)) (one-double _ _ (search needs) (search needs) (second .is-one2 .ensures) (c .if2 .taken))
 
 returns-2 : tie.Need-returns-2
 returns-2 c = ap (λ (d : MoistDensity). d .«density_kg_m3») (c .density-of .ensures)

@@ -1,7 +1,7 @@
 -- `antilog::antilog::scaled_root` meets its contract: the root lies between the two ends, and rounds as they do where they round alike. Assumes nothing.
 use mathlib.Core.Path.{_≡_, sym, ap, _∙_, subst, subst₂}
 use mathlib.Core.Bool.{Bool, true, cond}
-use Prim.Native.Nat.{ℕ, _+_, _-_}
+use Prim.Native.Nat.{ℕ, _≤_}
 use native.Mathlib.Omega.{arith}
 use borrow.Author.Needs.{needs}
 use lib.IntN.{ℤ, pos, negsuc, _-ℤ_}
@@ -9,8 +9,9 @@ use lib.Dec.{T}
 use lib.Ieee.{Float, le}
 use Rattle.arithmetic.specs.Nearest.{nearestScaled}
 use Rattle.arithmetic.specs.Places.{places}
+use Rattle.antilog.specs.Antilog.{antilogRoot}
 use Rattle.antilog.proofs.Range.{antilogRoot-mantissa}
-use Rattle.antilog.proofs.Window.{Window, window, rounds-alike}
+use Rattle.antilog.proofs.Window.{window, rounds-alike}
 use Rattle.antilog.proofs.antilog.scaled_root.Statement.{statement}
 use Rattle.antilog.proofs.antilog.scaled_root.Tie as tie
 
@@ -20,18 +21,21 @@ sub-scaled c =
     omega (arith, window f (c .estimate .result) (c .before .pre .0) (c .estimate .ensures) .high, antilogRoot-mantissa places f (c .before .pre .0) .low)
 
 -- what is answered where the ends round alike
-alike : (e : ℤ) (half Y : ℕ) {low high : Float} → Window half Y → low ≡ nearestScaled (half - 3) e → high ≡ nearestScaled (half + 10) e → le high low ≡ true → low ≡ nearestScaled Y e
-alike e half Y w is-low is-high test =
-    let ends : T (le (nearestScaled (half + 10) e) (nearestScaled (half - 3) e)) = subst₂ (λ (x y : Float). T (le x y)) is-high is-low (subst T (sym test) tt) in
-    is-low ∙ rounds-alike e (half - 3) Y (half + 10) (w .low) (w .high) ends
+alike : (e : ℤ) (Y : ℕ) {from to : ℕ} {low high : Float} → low ≡ nearestScaled from e → high ≡ nearestScaled to e → le high low ≡ true → from ≤ Y → Y ≤ to → low ≡ nearestScaled Y e
+alike e Y {from} {to} is-low is-high test below above =
+    let ends : T (le (nearestScaled to e) (nearestScaled from e)) = subst₂ (λ (x y : Float). T (le x y)) is-high is-low (subst T (sym test) tt) in
+    is-low ∙ rounds-alike e from Y to below above ends
 
 abbrev exponent : Bool → ℕ → ℤ
 exponent negative whole = cond negative (negsuc whole) (pos whole) -ℤ pos 62
 
+-- the ends are the code's own: they need be no nearer than the window
 returns : tie.Need-returns
 returns c =
     let start = c .before .before .before .before in
-    alike (exponent (start .args .negative) (start .args .whole)) _ _ (window (start .args .f) _ (start .pre .0) (c .before .before .before .estimate .ensures)) (c .before .before .scaled .ensures) (c .before .scaled2 .ensures) (c .if1 .taken)
+    let within = window (start .args .f) _ (start .pre .0) (c .before .before .before .estimate .ensures) in
+    alike (exponent (start .args .negative) (start .args .whole)) (antilogRoot places (start .args .f)) (c .before .before .scaled .ensures) (c .before .scaled2 .ensures) (c .if1 .taken)
+    (omega (arith, within .low)) (omega (arith, within .high))
 
 returns-2 : tie.Need-returns-2
 returns-2 c =

@@ -12,7 +12,7 @@ use Rattle.atmosphere.proofs.layers.calculate_icao_standard_atmosphere.
 use Rattle.atmosphere.proofs.layers.calculate_icao_standard_atmosphere.Tie as tie
 
 in-table : (c : tie.After-layer-number) → c .layer-number .result < 7
-in-table c = omega (arith, layer-lt (c .before .standard-geopotential-height-m .result), c .layer-number .ensures .0)
+in-table c = omega (arith, layer-lt (c .before .standard-geopotential-height-m .result), c .layer-number .ensures)
 
 -- of a height and a layer that are the definition's
 at-height : (altitude H : Float) (i : ℕ) → H ≡ standardHeight altitude → i ≡ layerAt H → layerAir places i H ≡ standardAir places altitude
@@ -27,7 +27,7 @@ returns c =
     let H = lifted .standard-geopotential-height-m .result in
     let i = numbered .layer-number .result in
     (λ k. record { «temperature_k» = layerTemperature i (H ⊖ baseHeight i); «pressure_pa» = (c .layer-pressure .ensures) k })
-    ∙ at-height (lifted .before .args .altitude-m) H i (lifted .standard-geopotential-height-m .ensures) (numbered .layer-number .ensures .0)
+    ∙ at-height (lifted .before .args .altitude-m) H i (lifted .standard-geopotential-height-m .ensures) (numbered .layer-number .ensures)
 
 pub calculate-icao-standard-atmosphere-spec : {M : Type 1} → statement M
 calculate-icao-standard-atmosphere-spec =

@@ -7,12 +7,11 @@ use Prim.Native.Nat.{ℕ, _+_, _-_, _≤_, _<_}
 use native.Mathlib.Omega.{arith}
 use borrow.Author.Needs.{needs}
 use lib.ListN.{length, drop, drop-of-length-le}
-use Rattle.refusal.specs.declared.Check.{Check}
-use Rattle.refusal.specs.Outcomes.{Outcome, accepted, _⟫_, checked, passed}
+use Rattle.refusal.specs.Outcomes.{Outcome, accepted, checked, passed}
 use Rattle.entries.specs.declared.Slot.{Slot}
 use Rattle.entries.specs.declared.Readings.{Readings}
 use Rattle.fields.specs.Fields.{found, fieldOf, meanings}
-use Rattle.record.specs.Readings.{orderRows, readRecord}
+use Rattle.record.specs.Readings.{orderRows, readRecord, partsOf}
 use Rattle.record.proofs.Walk.{no-bytes, read}
 use Rattle.record.proofs.Turn.{field-refuses, in-place, further, order-refuses, moves-on}
 use Rattle.record.proofs.readings.read_fields.Statement.{statement}
@@ -34,12 +33,17 @@ abbrev μ-loop : tie.MeasureT-loop
 loop-holds : tie.Need-loop-holds Inv-loop μ-loop
 loop-holds c = (omega arith, refl)
 
+-- a refusal is that of the whole record
+refused-as : (strict : Bool) (s : List ℕ) {o : Outcome Readings} {p : Outcome (Unit {0}) × Readings} → readRecord strict s ≡ o → p ≡ partsOf o → p ≡ partsOf (readRecord strict s)
+refused-as strict s e h = h ∙ sym (ap partsOf e)
+
 returns : tie.Need-returns Inv-loop μ-loop
 returns c =
-    let found-at = c .before .before .before in
+    let told = c .before .before in
+    let found-at = told .before .before in
     let a = found-at .before .before .before .before .args in
     let turn = found-at .before .before .loop in
-    (sym (turn .inv .1 ∙ field-refuses (a .strict) (a .bytes .now) (turn .at) (from (turn .slots)) (turn .last) (found-at .before .loop-test .taken) (sym (found-at .field-from .ensures .0) ∙ ap found (c .before .refusal .given .1))), refl)
+    (refused-as (a .strict) (a .bytes .now) (turn .inv .1 ∙ field-refuses (a .strict) (a .bytes .now) (turn .at) (from (turn .slots)) (turn .last) (found-at .before .loop-test .taken) (sym (found-at .field-from .ensures .0) ∙ ap found (told .refusal .given .1))) (c .refused .ensures), refl)
 
 -- the field that is found
 is-field : (c : tie.After-known-told2 Inv-loop μ-loop) → let found-at = c .before .before .before in
@@ -64,13 +68,14 @@ ordered c = c .order-check .ensures
 
 returns-2 : tie.Need-returns-2 Inv-loop μ-loop
 returns-2 c =
-    let order = c .before .before in
+    let told = c .before .before in
+    let order = told .before .before in
     let field-at = order .before .before in
     let found-at = field-at .before .before .before in
     let a = found-at .before .before .before .before .args in
     let turn = found-at .before .before .loop in
-    let refused-by = order-refuses (a .strict) (a .bytes .now) (turn .at) (from (turn .slots)) (turn .last) (found-at .before .loop-test .taken) (is-field field-at) (order .order-check .result) (ordered order) (ap checked (c .enum-told .given .1)) in
-    (ap (λ (k : Check). checked k ⟫ (λ _. accepted (from (turn .slots)))) (c .enum-told .given .1) ∙ sym (turn .inv .1 ∙ refused-by), refl)
+    let refused-by = order-refuses (a .strict) (a .bytes .now) (turn .at) (from (turn .slots)) (turn .last) (found-at .before .loop-test .taken) (is-field field-at) (order .order-check .result) (ordered order) (ap checked (told .refusal2 .given .1)) in
+    (refused-as (a .strict) (a .bytes .now) (turn .inv .1 ∙ refused-by) (c .refused2 .ensures), refl)
 
 mul-slots : tie.Need-mul-slots Inv-loop μ-loop
 mul-slots c = omega (arith, meant (c .before .before .before .before))
@@ -98,13 +103,13 @@ loop-again c =
     let found-at = field-at .before .before .before in
     let a = found-at .before .before .before .before .args in
     let turn = found-at .before .before .loop in
-    (on field-at .1, turn .inv .1 ∙ moves-on (a .strict) (a .bytes .now) (turn .at) (from (turn .slots)) (turn .last) (found-at .before .loop-test .taken) (is-field field-at) (order .order-check .result) (ordered order) (ap checked (told .enum-told2 .given .1)))
+    (on field-at .1, turn .inv .1 ∙ moves-on (a .strict) (a .bytes .now) (turn .at) (from (turn .slots)) (turn .last) (found-at .before .loop-test .taken) (is-field field-at) (order .order-check .result) (ordered order) (ap checked (told .enum-told .given .1)))
 
 returns-3 : tie.Need-returns-3 Inv-loop μ-loop
 returns-3 c =
     let a = c .before .before .before .args in
     let turn = c .before .loop in
-    (sym (turn .inv .1 ∙ ap (read (a .strict) (from (turn .slots)) (turn .last)) (drop-of-length-le (a .bytes .now) (c .loop-test .left)) ∙ no-bytes (a .strict) 0 (from (turn .slots)) (turn .last)), refl)
+    (sym (ap partsOf (turn .inv .1 ∙ ap (read (a .strict) (from (turn .slots)) (turn .last)) (drop-of-length-le (a .bytes .now) (c .loop-test .left)) ∙ no-bytes (a .strict) 0 (from (turn .slots)) (turn .last))), refl)
 
 pub read-fields-spec : {M : Type 1} → statement M
 read-fields-spec =
@@ -115,12 +120,14 @@ read-fields-spec =
     loop-holds
     (λ c κs. search needs)
     (λ c. search needs)
+    (λ c κs. search needs)
     returns
     (λ c. search needs)
     mul-slot
     meant
     (λ c κs. search needs)
     (λ c. search needs)
+    (λ c κs. search needs)
     returns-2
     (λ c. search needs)
     mul-slots

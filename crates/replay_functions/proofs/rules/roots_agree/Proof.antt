@@ -8,8 +8,7 @@ returns : tie.Need-returns
 returns c =
     let roots = c .before .before in
     rw (
-      roots .both-roots .ensures .1,
-      roots .both-roots .ensures .0,
+      roots .both-roots .ensures,
       roots .before .word3 .ensures,
       roots .before .before .word2 .ensures,
       roots .before .before .before .word .ensures,

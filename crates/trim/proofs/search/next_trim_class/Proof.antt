@@ -8,15 +8,16 @@ use Rattle.refusal.specs.declared.Check.{Check}
 use Rattle.refusal.specs.Outcomes.{Outcome, accepted, _⟫_, checked}
 use Rattle.entries.specs.declared.Readings.{Readings}
 use Rattle.record.specs.declared.readings.Read.{Read}
-use Rattle.record.specs.Readings.{readRecord, readOutcome}
+use Rattle.record.specs.Readings.{readRecord, parts, partsOf}
+use Rattle.record.proofs.Parts.{outcome-of-parts}
 use Rattle.trim.specs.Search.{nextOf, nextTrimClass}
 use Rattle.trim.proofs.search.next_trim_class.Statement.{statement}
 use Rattle.trim.proofs.search.next_trim_class.Tie as tie
 
-by-read : (s : List ℕ) (r : Read) {k : Check} → r .check ≡ k → readOutcome r ≡ readRecord false s
+by-read : (s : List ℕ) (r : Read) {k : Check} → r .check ≡ k → parts r ≡ partsOf (readRecord false s)
     → ((checked k ⟫ (λ _. accepted (r .readings))) ⟫ nextOf) ≡ nextTrimClass s
 unfolding nextTrimClass
-by-read s r told e = ap (λ (o : Outcome Readings). o ⟫ nextOf) (ap (λ (k : Check). checked k ⟫ (λ _. accepted (r .readings))) (sym told) ∙ e)
+by-read s r told e = ap (λ (o : Outcome Readings). o ⟫ nextOf) (ap (λ (k : Check). checked k ⟫ (λ _. accepted (r .readings))) (sym told) ∙ outcome-of-parts r (readRecord false s) e)
 
 returns : tie.Need-returns
 returns c =

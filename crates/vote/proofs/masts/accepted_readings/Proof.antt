@@ -8,7 +8,8 @@ use Rattle.refusal.specs.declared.Check.{Check}
 use Rattle.refusal.specs.Outcomes.{Outcome, accepted, _⟫_, checked}
 use Rattle.entries.specs.declared.Readings.{Readings}
 use Rattle.record.specs.declared.readings.Read.{Read}
-use Rattle.record.specs.Readings.{readRecord, readOutcome}
+use Rattle.record.specs.Readings.{readRecord, parts, partsOf}
+use Rattle.record.proofs.Parts.{outcome-of-parts}
 use Rattle.answered.specs.declared.judge.Figures.{Figures}
 use Rattle.answered.specs.declared.judge.Answer.{Answer}
 use Rattle.mast.specs.Judge.{judged}
@@ -20,9 +21,9 @@ use Rattle.vote.proofs.masts.accepted_readings.Tie as tie
 abbrev whereAccepted : Readings → Outcome Readings
 whereAccepted r = judged r ⟫ (λ _. accepted r)
 
-by-read : (s : List ℕ) (r : Read) {k : Check} → r .check ≡ k → readOutcome r ≡ readRecord false s → ((checked k ⟫ (λ _. accepted (r .readings))) ⟫ whereAccepted) ≡ acceptedReadings s
+by-read : (s : List ℕ) (r : Read) {k : Check} → r .check ≡ k → parts r ≡ partsOf (readRecord false s) → ((checked k ⟫ (λ _. accepted (r .readings))) ⟫ whereAccepted) ≡ acceptedReadings s
 unfolding acceptedReadings
-by-read s r told e = ap (λ (o : Outcome Readings). o ⟫ whereAccepted) (ap (λ (k : Check). checked k ⟫ (λ _. accepted (r .readings))) (sym told) ∙ e)
+by-read s r told e = ap (λ (o : Outcome Readings). o ⟫ whereAccepted) (ap (λ (k : Check). checked k ⟫ (λ _. accepted (r .readings))) (sym told) ∙ outcome-of-parts r (readRecord false s) e)
 
 by-answer : (r : Readings) {a a′ : Answer} → a ≡ a′ → outcome a ≡ judged r → (outcome a′ ⟫ (λ _. accepted r)) ≡ whereAccepted r
 by-answer r told e = ap (λ (o : Outcome Figures). o ⟫ (λ _. accepted r)) (ap outcome (sym told) ∙ e)

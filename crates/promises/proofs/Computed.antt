@@ -1,0 +1,51 @@
+-- The promises that are cases: each computes. Assumes nothing.
+use mathlib.Core.Path.{_≡_, refl}
+use mathlib.Core.Bool.{Bool}
+use Prim.Native.Nat.{ℕ, _*_, _^_, _<_}
+use lib.Dec.{T, eqb, eqb→eq}
+use lib.IntN.{pos, negsuc}
+use lib.ListN.{getD}
+use lib.Ieee.{nan, round, ofBits, toBits}
+use lib.Ieee.Positive.{num, den}
+use Rattle.arithmetic.specs.Decimals.{decimal}
+use Rattle.elementary.specs.Exponents.{exponents, exponentAt}
+use Rattle.elementary.proofs.Exponents.{every, at}
+use Rattle.thousandths.specs.declared.Counted.the-variants as counted-as
+use Rattle.thousandths.specs.Thousandths.{countOf, thousandths, nearestCount, counted, tried, countFor}
+use Rattle.pieces.specs.Ascii.{ascii}
+use Rattle.typed.specs.declared.Typed.the-variants as typed-as
+use Rattle.typed.specs.Typed.{digitsIn, numberFrom, inCounts, withDecimals, afterWhole, afterSign, typed}
+
+-- ---- document 01
+isScaled : ℕ → Bool
+isScaled i = eqb (num (getD exponents i nan) * 2 ^ 58) (exponentAt i .magnitude * den (getD exponents i nan))
+
+pub exponents-whole : (i : ℕ) → i < 27 → num (getD exponents i nan) * 2 ^ 58 ≡ exponentAt i .magnitude * den (getD exponents i nan)
+unfolding isScaled exponents
+exponents-whole i h = eqb→eq (num (getD exponents i nan) * 2 ^ 58) (exponentAt i .magnitude * den (getD exponents i nan)) (at 27 isScaled tt i h)
+
+-- ---- counts
+pub greatest-count : (countOf 0x7FFFFFFF ≡ pos 2147483647) × (thousandths (pos 2147483647) ≡ decimal "2147483.647")
+unfolding countOf thousandths round ofBits
+greatest-count = (refl, refl)
+
+pub least-count : (countOf 0x80000000 ≡ negsuc 2147483647) × (thousandths (negsuc 2147483647) ≡ decimal "-2147483.648")
+unfolding countOf thousandths round ofBits
+least-count = (refl, refl)
+
+pub minus-zero : countFor (decimal "-0") ≡ counted-as.Missing
+unfolding countFor tried counted nearestCount thousandths round ofBits toBits
+minus-zero = refl
+
+-- ---- typed decimals
+pub typed-decimals : (typed (ascii "1586") ≡ typed-as.Count (pos 1586000)) × (typed (ascii "-15.25") ≡ typed-as.Count (negsuc 15249)) × (typed (ascii "-0") ≡ typed-as.Count (pos 0))
+unfolding typed afterSign afterWhole withDecimals inCounts numberFrom digitsIn counted
+typed-decimals = (refl, refl, refl)
+
+pub typed-ends : (typed (ascii "2147483.647") ≡ typed-as.Count (pos 2147483647)) × (typed (ascii "2147483.648") ≡ typed-as.OutOfRange) × (typed (ascii "1.2345") ≡ typed-as.TooManyDecimals)
+unfolding typed afterSign afterWhole withDecimals inCounts numberFrom digitsIn counted
+typed-ends = (refl, refl, refl)
+
+pub typed-badly : (typed (ascii "") ≡ typed-as.NotANumber) × (typed (ascii ".5") ≡ typed-as.NotANumber) × (typed (ascii "5.") ≡ typed-as.NotANumber) × (typed (ascii "1e3") ≡ typed-as.NotANumber)
+unfolding typed afterSign afterWhole withDecimals inCounts numberFrom digitsIn counted
+typed-badly = (refl, refl, refl, refl)

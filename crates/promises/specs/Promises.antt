@@ -1,0 +1,477 @@
+-- What the customer is promised beyond what each function's contract says, in the order of their documents: a record for each part of them, and a field for each
+-- promise, under the customer's words. `proofs/Promises` has the one value of all of it. Definitions only.
+--
+-- To read it: "(x : A) → .." is "for every x", "P → Q" is "if P then Q", "×" is "and", "⊎" is "or", "→ ⊥" is "never", and "≡" is "is the same as". "T (le x y)" says
+-- that x is at most y, as numbers: -0 is +0, and NaN is in order with nothing; "lt" is "below". An outcome is `accepted` with what is answered, or `refused` with a
+-- number and the values that it hands out. `judge s` is the answer to a record's bytes s, `judged r` that to its readings r, `entryOf r m` the reading of a meaning,
+-- `station places d t` the answer to a density altitude d with a temperature t, `decimal "15.1"` the double nearest to 15.1. Every other name is defined in the
+-- specs/ of the crate that its `use` line names.
+use Prim.Native.Nat.{ℕ, _+_, _-_, _*_, _/_, _^_, _≤_, _<_}
+use mathlib.Core.Path.{_≡_}
+use mathlib.Core.Logic.{_≢_, _⊎_}
+use mathlib.Core.Bool.{Bool, true, false, not, _||_, cond}
+use mathlib.Core.List.{List, [], _++_, List·Memᴰ, _∷_, flatMap, map}
+use lib.IntN.{ℤ, pos, negsuc, _+ℤ_, _*ℤ_}
+use lib.Signed.{_≤ℤ_}
+use lib.Dec.{T, ltb}
+use lib.Ieee.{Float, nan, fin, binary64, fits, isNan, lt, le, round}
+use lib.Ieee.Positive.{positive, num, den}
+use lib.Ieee.Scale.{finite}
+use lib.ListN.{length, take, drop, getD, replicate}
+use Prim.Native.String.{String}
+use Rattle.arithmetic.specs.Places.{places}
+use Rattle.wide.specs.Root.{root}
+use Rattle.root_tables.specs.Tables.{rootTable}
+use Rattle.roots.specs.Quick.{tableRoot, bothRoots}
+use Rattle.roots.specs.declared.quick.TableRoot.the-variants.{Root}
+use Rattle.antilog.specs.Log.{logWord}
+use Rattle.antilog.specs.Antilog.{antilogRoot, antilog}
+use Rattle.antilog.specs.HowNear.{Fraction, _isAtMost_, _isBelow_, _toThe_, twoToThe, value}
+use Rattle.elementary.specs.Exp.{exp}
+use Rattle.thousandths.specs.Thousandths.{inRange, countOf, wordOf, thousandths, countFor}
+use Rattle.thousandths.specs.declared.Counted.the-variants as counted
+use Rattle.atmosphere.specs.declared.station.Reading.{Reading}
+use Rattle.atmosphere.specs.declared.station.Reading.the-variants.{Given, FromLayer}
+use Rattle.atmosphere.specs.Layers.{layerAt, OnlyRange, highestUpTo}
+use Rattle.altitudes.specs.Altitudes.{faaDensityAltitude}
+use Rattle.refusal.specs.Outcomes.{Outcome, accepted, refused, _then_, _⟫_, row, numbers}
+use Rattle.refusal.specs.Causes.{ExactlyCaused, NoneHolds}
+use Rattle.density_altitude.specs.Inverse.{resolve, stationRows, station}
+use Rattle.density_order.specs.Order.{Accepted, altitude, pressure, temperature, InRange, OneMetreApart, Temperate}
+use Rattle.density_order.specs.Rejected.{Rejected, RejectedByWarmth}
+use Rattle.proved_cases.specs.Cases.{Hold, tableOf, RefusesAlways}
+use Rattle.entries.specs.declared.Readings.{Readings}
+use Rattle.entries.specs.Entries.{entryOf, noReadings, withEntry, valueOrZero}
+use Rattle.fields.specs.Fields.{sizeOf, meanings, humidity, densityAltitude}
+use Rattle.fields.specs.Tags.{tags, Rising}
+use Rattle.record.specs.Readings.{readings, readRecord, readRows}
+use Rattle.answered.specs.declared.inverse.Station.{Station}
+use Rattle.answered.specs.declared.judge.Figures.{Figures}
+use Rattle.station.specs.Figures.{figuresOf}
+use Rattle.mast.specs.Judge.{resolved, readingRows, recordRows, judged, judgeBy, judge, judgeStrictly, airOutcome}
+use Rattle.mast.specs.Laws.{without}
+use Rattle.limits.specs.Checks.{has}
+use Rattle.sheet.specs.Row.{rowOutcome, figuresOutcome}
+use Rattle.sheet.specs.Sheet.{celsius, rows, settingSheet, inputRows}
+use Rattle.sheet.specs.Laws.{HandedOut, linesRows, linesText, repeated}
+use Rattle.writer.specs.Records.{recordOf}
+use Rattle.writer.specs.Laws.{AreBytes, AreHeld}
+use Rattle.conversion.specs.Conversion.{fieldsOf, converted, lengthConverted, countRows, recordIn}
+use Rattle.conversion.specs.Laws.{AllIn}
+use Rattle.load_records.specs.SplitMix.{stateAfter, output}
+use Rattle.load_records.specs.Counts.{loadCounts, drawn}
+use Rattle.load_writer.specs.Records.{loadReadings, loadRecord}
+use Rattle.bench_load.specs.Laws.{IsOfTheLoad}
+use Rattle.resolved.specs.Resolved.{ordinary, resolvedTemperature}
+use Rattle.vote.specs.Vote.{byMast, byNoMast, acceptedReadings, vote}
+use Rattle.vote.specs.Laws.{Accepts, SameFields, middleEntry, inHowMany}
+use Rattle.voted.specs.Fields.{voted, sharedRows}
+use Rattle.trim_change.specs.declared.changes.Start.{Start}
+use Rattle.trim.specs.Laws.{Asks, FirstToGive, NoneGives, place, nextAt}
+use Rattle.trim.specs.Search.{nextTrimClass, Next}
+use Rattle.trim_change.specs.declared.changes.Turn.{Turn}
+use Rattle.trim_change.specs.declared.changes.Quantity.{Quantity}
+use Rattle.trim_change.specs.declared.changes.Quantity.the-variants.{Temperature, MeasuredPressure}
+use Rattle.trim_change.specs.declared.changes.Direction.the-variants.{Up, Down}
+use Rattle.trim_change.specs.Changes.{change}
+use Rattle.trim_change.specs.declared.changes.Found.the-variants as found
+use Rattle.fields.specs.Fields as meaning
+use Rattle.entries.specs.declared.Entry.the-variants.{Absent, Present}
+use Rattle.doubles.specs.Doubles.{isFinite, clampDouble}
+use Rattle.arithmetic.specs.Nearest.{unitsOf}
+use Rattle.square_root.specs.Sqrt.{sqrt, twiceRootSquared, twiceMidpointSquared}
+use Rattle.elementary.specs.Exponents.{exponents, exponentAt, Exponent, isThree}
+use Rattle.elementary.specs.Power.{powerAt, power}
+use Rattle.functions_near.specs.FunctionsNear.{Normal, Within, raised, raisedBy, eBelow, eAbove, LnWithin}
+use Rattle.elementary.specs.Ln.{ln2, ln}
+use Rattle.arithmetic.specs.Whole.{floorDiv}
+use Rattle.pieces.specs.Ascii.{ascii}
+use Rattle.text.specs.Text.{answerText}
+use Rattle.text.specs.Samples.{bytes, fieldWith}
+use Rattle.decimals.specs.Decimal.{decimalText}
+use Rattle.report.specs.Report.{reportText}
+use Rattle.typed.specs.Typed.{typed}
+use Rattle.typed.specs.declared.Typed.the-variants as typed-as
+use Rattle.arithmetic.specs.Decimals.{decimal, nought, hundred, fraction}
+use Rattle.typed_readings.specs.Understood.{given, understand}
+use Rattle.typed_readings.specs.Laws.{Nearest, Typed}
+use Rattle.typed_word.specs.Word.{Says}
+use Rattle.arithmetic.specs.Operators.{_⊖_, _⊘_}
+use Rattle.moist_air.specs.MoistAir.{icePoint, capped, airDensityAt}
+use Rattle.humid_air.specs.Humidity.{moleFractionCelsius}
+use Rattle.atmosphere.specs.Station.{stationPressure}
+use Rattle.air.specs.Station.{kelvins, pascals, atmosphere}
+use Rattle.fault.specs.Fault.{readingOf}
+use Rattle.writer.specs.Written.{lengthWritten}
+use Rattle.middle.specs.Middle as three
+use Rattle.trim_class.specs.Classes.{classOf}
+
+-- a double, and a reading that is one if it is given
+abbrev pub IsDouble : Float → Type 0
+IsDouble x = T (fits binary64 x)
+
+abbrev pub IsRead : Reading → Type 0
+IsRead (Given t) = IsDouble t
+IsRead FromLayer = Unit {0}
+
+-- ---- document 01
+pub record Document01 : Type 0 where
+  -- "◆ marks a proved case": the table of all of them
+  pub cases : Hold (tableOf (station places))
+  -- "contracts reject .. refusal always"
+  pub not-refused-always : (inverse : Float → Reading → Outcome Station) → RefusesAlways inverse → Hold (tableOf inverse) → ⊥
+  -- "each number has exactly its cause": of a record, to both readers, and of a density altitude
+  pub record-caused : (strict : Bool) (s : List ℕ) → ExactlyCaused (recordRows strict s) (figuresOf (resolved (readings s))) (judgeBy strict s)
+  pub inverse-caused : (d : Float) (t : Reading) → ExactlyCaused (stationRows places d t) (resolve places d t) (station places d t)
+  -- what is said below of readings holds of a record that is accepted: its figures are those of its readings
+  pub of-readings : (strict : Bool) (s : List ℕ) (f : Figures) → judgeBy strict s ≡ accepted f → judged (readings s) ≡ accepted f
+  -- the order of the checks, as the numbers in a line. "Order per field: cut header, 6, 7, cut data, 8", and to the strict reader 19
+  pub field-order : (strict : Bool) (s : List ℕ) → numbers (readRows strict s) ≡ flatMap (λ _. 5 ∷ 6 ∷ 7 ∷ 5 ∷ 8 ∷ 19 ∷ []) (tags s)
+  -- "then 9, 10; then values field by field by rising tag, in each field not finite first .. then 14, 15", with every field but 06
+  pub order-without-06 : (r : Readings) → has r densityAltitude ≡ false → ((m : ℕ) → m < meanings → m ≢ densityAltitude → has r m ≡ true)
+      → numbers (readingRows r) ≡ 9 ∷ 10 ∷ 11 ∷ 2 ∷ 3 ∷ 11 ∷ 12 ∷ 11 ∷ 12 ∷ 11 ∷ 13 ∷ 11 ∷ 12 ∷ 14 ∷ 15 ∷ []
+  -- "with 06, its value (1), the temperature (2, 3), then 4", then humidity's 11 and 13, then 14 and 15, with every field
+  pub order-with-06 : (r : Readings) → ((m : ℕ) → m < meanings → has r m ≡ true) → numbers (readingRows r) ≡ 9 ∷ 1 ∷ 2 ∷ 3 ∷ 4 ∷ 11 ∷ 13 ∷ 14 ∷ 15 ∷ []
+  -- "judged by its first 256 bytes"
+  pub first-bytes : (s : List ℕ) → judge (take 256 s) ≡ judge s
+  -- "any tag order": two fields f and g that follow each other, after whole fields s and before any t
+  pub any-order : (s f g t : List ℕ) (r q : Readings) → readRecord false s ≡ accepted r → length f ≡ sizeOf f → length g ≡ sizeOf g
+      → readRecord false (s ++ (f ++ (g ++ t))) ≡ accepted q → judge (s ++ (g ++ (f ++ t))) ≡ judge (s ++ (f ++ (g ++ t)))
+  -- "order per field": a refusal 6, 7 or 8 stays whatever follows
+  pub nothing-after : (number : ℕ) (values : List Float) → 6 ≤ number → number ≤ 8 → (s t : List ℕ) → judge s ≡ refused number values → judge (s ++ t) ≡ refused number values
+  -- what the program prints: a cut record, "an empty record is 10", the first line of 01 with 0 m, and "at 1,000 °C and 50 percent, 1013.5 hPa, 0 m: 15"
+  pub cut-record : answerText (judge (bytes 3 0x070008)) ≡ ascii "refused 5\n"
+  pub empty-record : answerText (judge []) ≡ ascii "refused 10\n"
+  pub sea-level : take 59 (answerText (judge (bytes 11 0x0100080000000000000000))) ≡ ascii "station 0000000000000000 402E000000000000 408FAA0000000000\n"
+  pub too-hot : answerText (judge (fieldWith 1 (decimal "0") ++ fieldWith 2 (decimal "1000") ++ fieldWith 3 (decimal "1013.5") ++ fieldWith 5 (decimal "50"))) ≡ ascii "refused 15\n"
+  -- "`sqrt` is correctly rounded, here too": of every other double, the point half way to it lies on its own side of the root
+  pub sqrt-nearest-below : (x : Float) → IsDouble x → T (positive x) → (n : ℕ) (e : ℤ) → IsDouble (fin false n e) → unitsOf (fin false n e) < unitsOf (sqrt x)
+      → twiceMidpointSquared (fin false n e) (sqrt x) < twiceRootSquared x
+  pub sqrt-nearest-above : (x : Float) → IsDouble x → T (positive x) → (n : ℕ) (e : ℤ) → IsDouble (fin false n e) → unitsOf (sqrt x) < unitsOf (fin false n e)
+      → twiceRootSquared x < twiceMidpointSquared (fin false n e) (sqrt x)
+  -- "every exponent q is a constant of the source, and q × 2^58 is whole": the magnitude that stands in the table
+  pub exponents-whole : (i : ℕ) → i < 27 → num (getD exponents i nan) * 2 ^ 58 ≡ exponentAt i .magnitude * den (getD exponents i nan)
+  -- "with both overrides given, two altitudes give the same pair", and the same fraction
+  pub same-air : (altitude other t p h : Float) → atmosphere places altitude (Given t) (Given p) h ≡ atmosphere places other (Given t) (Given p) h
+  -- "14 (not with 06)"
+  pub not-14-with-06 : (r : Readings) → has r densityAltitude ≡ true → has r humidity ≡ false → judged r ≡ (without 14 (readingRows r) then accepted (figuresOf (resolved r)))
+
+-- ---- demand 3: "whichever doubles d1 ≤ d ≤ d2 are asked about as density altitudes, all three with one given temperature or all three with none"
+pub record Asked (t : Reading) (d₁ d d₂ : Float) : Type 0 where
+  pub given : IsRead t
+  pub doubles : IsDouble d₁ × (IsDouble d × IsDouble d₂)
+  pub from : T (le d₁ d)
+  pub to : T (le d d₂)
+  pub first : Accepted (station places d₁ t)
+  pub last : Accepted (station places d₂ t)
+
+pub record Demand3 : Type 0 where
+  -- it is asked of equal density altitudes and of distant ones, with a temperature and with none
+  pub asked-of-one : Asked (Given (decimal "15")) (decimal "0") (decimal "0") (decimal "0")
+  pub asked-with-none : Asked FromLayer (decimal "-5e62") (decimal "0") (decimal "44283")
+  pub asked-with-one : Asked (Given (decimal "15")) (decimal "-6e62") (decimal "0") (decimal "54852")
+  -- "if d1 and d2 are accepted, then d is accepted"
+  pub accepted : (t : Reading) (d₁ d d₂ : Float) → Asked t d₁ d d₂ → Accepted (station places d t)
+  -- "altitude never falls and pressure never rises, from d1 to d and from d to d2"
+  pub altitude-to-d : (t : Reading) (d₁ d d₂ : Float) → Asked t d₁ d d₂ → T (le (altitude (station places d₁ t)) (altitude (station places d t)))
+  pub altitude-from-d : (t : Reading) (d₁ d d₂ : Float) → Asked t d₁ d d₂ → T (le (altitude (station places d t)) (altitude (station places d₂ t)))
+  pub pressure-to-d : (t : Reading) (d₁ d d₂ : Float) → Asked t d₁ d d₂ → T (le (pressure (station places d t)) (pressure (station places d₁ t)))
+  pub pressure-from-d : (t : Reading) (d₁ d d₂ : Float) → Asked t d₁ d d₂ → T (le (pressure (station places d₂ t)) (pressure (station places d t)))
+  -- "nor does the temperature rise where none was given"
+  pub temperature-to-d : (d₁ d d₂ : Float) → Asked FromLayer d₁ d d₂ → T (le (temperature (station places d FromLayer)) (temperature (station places d₁ FromLayer)))
+  pub temperature-from-d : (d₁ d d₂ : Float) → Asked FromLayer d₁ d d₂ → T (le (temperature (station places d₂ FromLayer)) (temperature (station places d FromLayer)))
+  -- "if also d1 and d2 lie in −500 to 3,000 m, at least 1 m apart, and a given temperature in −40 to 50 °C, altitude strictly rises and pressure strictly falls"
+  pub altitude-strictly : (t : Reading) (d₁ d d₂ : Float) → Asked t d₁ d d₂ → InRange d₁ → InRange d₂ → OneMetreApart d₁ d₂ → Temperate t
+      → T (lt (altitude (station places d₁ t)) (altitude (station places d₂ t)))
+  pub pressure-strictly : (t : Reading) (d₁ d d₂ : Float) → Asked t d₁ d d₂ → InRange d₁ → InRange d₂ → OneMetreApart d₁ d₂ → Temperate t
+      → T (lt (pressure (station places d₂ t)) (pressure (station places d₁ t)))
+  -- "contracts reject .. an inverse echoing the height .., one set of air for all": at both ends of the ranges
+  pub rejects-wrong-inverses : Rejected
+
+-- ---- K1, the setting sheet
+pub record K1 : Type 0 where
+  -- "the first n rows of a good sheet are always the rows of the first n temperatures, rising"
+  pub whole : (h p u : Float) (room : ℕ) (text : List ℕ) → settingSheet h p u room ≡ accepted text → length text ≡ 1530
+  pub first-rows : (h p u : Float) (room : ℕ) (text : List ℕ) → settingSheet h p u room ≡ accepted text → (n : ℕ) → n ≤ 51 → rows h p u n ≡ accepted (take (30 * n) text)
+  pub each-row : (h p u : Float) (room : ℕ) (text : List ℕ) → settingSheet h p u room ≡ accepted text → (n : ℕ) → n < 51
+      → rowOutcome h p u (celsius n) ≡ accepted (take 30 (drop (30 * n) text))
+  pub rising : (m n : ℕ) → m < n → n < 51 → T (lt (celsius m) (celsius n))
+  -- "the double's exact value rounded to nearest, halves away from zero; one that rounds to zero has no sign"
+  pub halves-away : (decimalText 0 (decimal "2.5") ≡ ascii "3") × (decimalText 0 (decimal "-2.5") ≡ ascii "-3")
+  pub zero-unsigned : (decimalText 1 (decimal "-0") ≡ ascii "0.0") × (decimalText 1 (decimal "-0.04") ≡ ascii "0.0")
+  -- "temperature and pressure count as given, with no default band, so the 15 °C row is 15 °C": each row but row 25, of 15 °C, which is in the band, is that of
+  -- the record of its altitude, temperature, humidity and measured pressure; and each row is that of such a record at sea level, where nothing is a default
+  pub record-row : (h p u : Float) (n : ℕ) → n < 51 → n ≢ 25 → NoneHolds (inputRows h p u)
+      → rowOutcome h p u (celsius n) ≡ (judged (withEntry (withEntry (withEntry (withEntry noReadings meaning.altitude h) meaning.temperature (celsius n)) humidity u) meaning.measuredPressure p) ⟫ figuresOutcome (celsius n))
+  pub sea-level-row : (h p u : Float) (n : ℕ) → n < 51 → NoneHolds (inputRows h p u)
+      → rowOutcome h p u (celsius n) ≡ (judged (withEntry (withEntry (withEntry (withEntry noReadings meaning.altitude nought) meaning.temperature (celsius n)) humidity u) meaning.measuredPressure p) ⟫ figuresOutcome (celsius n))
+  -- and the sheet does not depend on the altitude
+  pub any-altitude : (h k p u : Float) (room : ℕ) → isFinite h ≡ true → isFinite k ≡ true → settingSheet h p u room ≡ settingSheet k p u room
+  -- "16 .. checked first", "input is checked as a record's would be, row by row", "17 .. after that row's other checks": each number has exactly its cause
+  pub sheet-caused : (h p u : Float) (room : ℕ) → ExactlyCaused ((row (ltb room 1530) 16 [] ∷ inputRows h p u) ++ linesRows h p u 51) (linesText h p u 51) (settingSheet h p u room)
+  pub sheet-order : (h p u : Float) (room : ℕ)
+      → numbers ((row (ltb room 1530) 16 [] ∷ inputRows h p u) ++ linesRows h p u 51) ≡ 16 ∷ 11 ∷ 11 ∷ 12 ∷ 11 ∷ 13 ∷ repeated 51 (14 ∷ 15 ∷ 17 ∷ [])
+  -- "from 16 on a refusal hands out its number alone"
+  pub refusals : (h p u : Float) (room number : ℕ) (values : List Float) → settingSheet h p u room ≡ refused number values → HandedOut number values
+
+-- ---- K2, layers an engineer can tick off
+pub record K2 : Type 0 where
+  -- "NaN still goes to layer 0", "every other double lies in exactly one range"
+  pub nan-in-0 : layerAt nan ≡ 0
+  pub one-range : (H : Float) → IsDouble H → isNan H ≡ false → OnlyRange (layerAt H) H
+  -- "no answer moves": it is the highest layer whose base is at most the height, as before
+  pub unmoved : (H : Float) → IsDouble H → layerAt H ≡ highestUpTo 6 H
+
+-- ---- K3, a reading is a reading
+pub record K3 : Type 0 where
+  -- "measured station pressure in hPa: used as it comes, whatever the altitude", and shown as it came
+  pub shown : (r : Readings) (p : Float) (f : Figures) → entryOf r meaning.measuredPressure ≡ Present p → judged r ≡ accepted f → f .«pressure_hpa» ≡ p
+  pub used : (r : Readings) (h p : Float) (f : Figures) → entryOf r meaning.altitude ≡ Present h → entryOf r meaning.measuredPressure ≡ Present p → judged r ≡ accepted f
+      → f ≡ figuresOf (record { «altitude_m» = h; temperature = resolvedTemperature (entryOf r meaning.temperature) h; pressure = Given p; «humidity_percent» = valueOrZero (entryOf r humidity) })
+  -- "tag 03 and `resolve_station_pressure` go on matching the Rust": it passes its band
+  pub banded : (r : Readings) (h p : Float) (f : Figures) → entryOf r meaning.altitude ≡ Present h → entryOf r meaning.stationPressure ≡ Present p → judged r ≡ accepted f
+      → f ≡ figuresOf (record { «altitude_m» = h; temperature = resolvedTemperature (entryOf r meaning.temperature) h; pressure = stationPressure p h; «humidity_percent» = valueOrZero (entryOf r humidity) })
+
+-- ---- K4, records written, in tag order
+pub record K4 : Type 0 where
+  -- "otherwise both judge a record alike": what rises is judged the same, and the rest the same or refused by 19
+  pub alike : (s : List ℕ) → Rising (tags s) → judgeStrictly s ≡ judge s
+  pub or-19 : (s : List ℕ) → (judgeStrictly s ≡ judge s) ⊎ (judgeStrictly s ≡ refused 19 [])
+  -- "a strict reader that takes only rising tags"
+  pub only-rising : (s : List ℕ) (f : Figures) → judgeStrictly s ≡ accepted f → (judge s ≡ accepted f) × Rising (tags s)
+  -- "every record that the strict reader accepts is byte for byte what the writer makes of its fields"
+  pub written-again : (s : List ℕ) (f : Figures) → AreBytes s → judgeStrictly s ≡ accepted f → s ≡ recordOf (readings s)
+  -- and it reads back what is written
+  pub read-back : (r : Readings) → AreHeld r → readRecord true (recordOf r) ≡ accepted r
+  -- "18: the writer's buffer is shorter than the record", "answers its length"
+  pub writer-caused : (r : Readings) (buffer : List ℕ) → ExactlyCaused (row (ltb (length buffer) (length (recordOf r))) 18 [] ∷ []) (length (recordOf r)) (lengthWritten (recordOf r) buffer)
+
+-- ---- K5, thousandths for the new masts
+pub record K5 : Type 0 where
+  -- "no count in the signed 32-bit range gives exactly this double": the count of a double is found wherever there is one
+  pub count-gives : (x : Float) (n : ℤ) → IsDouble x → countFor x ≡ counted.Count n → T (inRange n) × (thousandths n ≡ x)
+  pub count-found : (x : Float) (n : ℤ) → T (inRange n) → thousandths n ≡ x → countFor x ≡ counted.Count n
+  -- "a signed count of thousandths in four bytes, two's complement", from one end of the range to the other, and "minus zero has none"
+  pub word-of-count : (n : ℤ) → T (inRange n) → wordOf n < 2 ^ 32 × (countOf (wordOf n) ≡ n)
+  pub greatest-count : (countOf 0x7FFFFFFF ≡ pos 2147483647) × (thousandths (pos 2147483647) ≡ decimal "2147483.647")
+  pub least-count : (countOf 0x80000000 ≡ negsuc 2147483647) × (thousandths (negsuc 2147483647) ≡ decimal "-2147483.648")
+  pub minus-zero : countFor (decimal "-0") ≡ counted.Missing
+  -- "a record wholly in doubles that converts comes back with the same bytes", "and so does one wholly in counts"
+  pub doubles-come-back : (s t : List ℕ) → AreBytes s → AllIn false (fieldsOf s) → converted true s ≡ accepted t → converted false t ≡ accepted s
+  pub counts-come-back : (s t : List ℕ) → AreBytes s → AllIn true (fieldsOf s) → converted false s ≡ accepted t → converted true t ≡ accepted s
+  -- "to the first reader figures and refusals are the same before and after"
+  pub judged-alike : (counts : Bool) (s t : List ℕ) → AreBytes s → converted counts s ≡ accepted t → judge t ≡ judge s
+  -- "20: converting to counts"
+  pub never-20-to-doubles : (s buffer : List ℕ) (values : List Float) → lengthConverted false s buffer ≡ refused 20 values → ⊥
+  -- "checked after the field checks 5 to 8 of the whole record. Last, an output too short is 18"
+  pub conversion-caused : (counts : Bool) (s buffer : List ℕ)
+      → ExactlyCaused ((readRows false s ++ countRows counts (fieldsOf s)) ++ row (ltb (length buffer) (length (recordIn counts s))) 18 [] ∷ []) (length (recordIn counts s)) (lengthConverted counts s buffer)
+  pub conversion-order : (counts : Bool) (s buffer : List ℕ)
+      → numbers ((readRows false s ++ countRows counts (fieldsOf s)) ++ row (ltb (length buffer) (length (recordIn counts s))) 18 [] ∷ [])
+      ≡ (flatMap (λ _. 5 ∷ 6 ∷ 7 ∷ 5 ∷ 8 ∷ 19 ∷ []) (tags s) ++ flatMap (λ _. 20 ∷ []) (fieldsOf s)) ++ 18 ∷ []
+
+-- ---- K6, a load for the acceptance bench
+pub record K6 : Type 0 where
+  -- "SplitMix64 from state 0": its published outputs; "five outputs make one record"
+  pub first-output : output 0 ≡ 0xE220A8397B1DCDAF
+  pub third-output : output 2 ≡ 0x06C45D188009454F
+  pub five-each : (n : ℕ) → drawn (stateAfter (5 * n)) ≡ record { counts = loadCounts n; state = stateAfter (5 * (n + 1)) }
+  -- "altitude −500 to 3,000 m ..": every record's counts lie in their ranges; both readers take it, and no check of a field refuses it
+  pub in-ranges : (n : ℕ) → IsOfTheLoad (loadReadings n)
+  pub judged-as-air : (strict : Bool) (n : ℕ) → judgeBy strict (loadRecord n) ≡ airOutcome (ordinary (loadReadings n))
+
+-- ---- K7, three masts, one reading
+pub record K7 : Type 0 where
+  -- "each field takes the middle of the three values"
+  pub middle : (a b c : Readings) (m : ℕ) → m < meanings → entryOf (voted a b c) m ≡ middleEntry (entryOf a m) (entryOf b m) (entryOf c m)
+  -- "the first that isn't gives its refusal and its mast"
+  pub first-mast : (a b c : List ℕ) (number : ℕ) (values : List Float) → judge a ≡ refused number values → vote a b c ≡ byMast 1 (refused number values)
+  pub second-mast : (a b c : List ℕ) (number : ℕ) (values : List Float) → Accepts a → judge b ≡ refused number values → vote a b c ≡ byMast 2 (refused number values)
+  pub third-mast : (a b c : List ℕ) (number : ℕ) (values : List Float) → Accepts a → Accepts b → judge c ≡ refused number values → vote a b c ≡ byMast 3 (refused number values)
+  pub no-mast : (a b c : List ℕ) → Accepts a → Accepts b → Accepts c → vote a b c .mast ≡ 0
+  -- and only that one
+  pub first-mast-because : (a b c : List ℕ) (number : ℕ) (values : List Float) → vote a b c ≡ byMast 1 (refused number values) → judge a ≡ refused number values
+  pub second-mast-because : (a b c : List ℕ) (number : ℕ) (values : List Float) → vote a b c ≡ byMast 2 (refused number values) → Accepts a × (judge b ≡ refused number values)
+  pub third-mast-because : (a b c : List ℕ) (number : ℕ) (values : List Float) → vote a b c ≡ byMast 3 (refused number values) → Accepts a × (Accepts b × (judge c ≡ refused number values))
+  -- the masts' refusals, then 21, then "the voted record is then judged as any record is": each number has exactly its cause
+  pub vote-caused : (a b c : List ℕ) → let q = voted (readings a) (readings b) (readings c) in
+      ExactlyCaused (recordRows false a ++ (recordRows false b ++ (recordRows false c ++ (sharedRows (readings a) (readings b) (readings c) ++ readingRows q)))) (figuresOf (resolved q)) (vote a b c .outcome)
+  -- "21: a field, by meaning and in either form, is in one or two of the three records; checked after the masts and before the vote"
+  pub by-21 : (a b c : List ℕ) (m : ℕ) → Accepts a → Accepts b → Accepts c → m < meanings → 1 ≤ inHowMany a b c m → inHowMany a b c m ≤ 2 → vote a b c ≡ byNoMast (refused 21 [])
+  pub because-21 : (a b c : List ℕ) (values : List Float) → vote a b c .outcome ≡ refused 21 values
+      → (Accepts a × (Accepts b × Accepts c)) × ((m : ℕ) × ((m < meanings) × ((1 ≤ inHowMany a b c m) × (inHowMany a b c m ≤ 2))))
+  -- "minus zero before plus zero"
+  pub zeros-after-negative : (x : Float) → T (lt x (decimal "0")) → three.middle x (decimal "0") (decimal "-0") ≡ decimal "-0"
+  pub zeros-before-positive : (x : Float) → T (lt (decimal "0") x) → three.middle x (decimal "0") (decimal "-0") ≡ decimal "0"
+  pub two-minus-zeros : three.middle (decimal "-0") (decimal "0") (decimal "-0") ≡ decimal "-0"
+  pub two-plus-zeros : three.middle (decimal "0") (decimal "0") (decimal "-0") ≡ decimal "0"
+  -- so three equal records vote as the one, and two equal ones outvote a third with the same fields
+  pub three-equal : (s : List ℕ) (f : Figures) → judge s ≡ accepted f → vote s s s ≡ byNoMast (accepted f)
+  pub two-equal : (s t : List ℕ) (r q : Readings) (f : Figures) → acceptedReadings s ≡ accepted r → acceptedReadings t ≡ accepted q → SameFields r q → judge s ≡ accepted f
+      → vote t s s ≡ byNoMast (accepted f)
+  -- "exchanging the masts changes no accepted figures"
+  pub first-exchange : (a b c : List ℕ) (f : Figures) → vote a b c ≡ byNoMast (accepted f) → vote b a c ≡ byNoMast (accepted f)
+  pub last-exchange : (a b c : List ℕ) (f : Figures) → vote a b c ≡ byNoMast (accepted f) → vote a c b ≡ byNoMast (accepted f)
+
+-- ---- K8, warmer means lower: "between two accepted given temperatures"
+pub record Warmed (d t₁ t t₂ : Float) : Type 0 where
+  pub doubles : IsDouble t₁ × (IsDouble t × IsDouble t₂)
+  pub from : T (le t₁ t)
+  pub to : T (le t t₂)
+  pub coldest : Accepted (station places d (Given t₁))
+  pub warmest : Accepted (station places d (Given t₂))
+
+pub record K8 : Type 0 where
+  -- it is asked of equal temperatures and of distant ones, from the least that is accepted
+  pub warmed-to-itself : Warmed (decimal "0") (decimal "15") (decimal "15") (decimal "15")
+  pub warmed-from-the-least : Warmed (decimal "0") (decimal "-273.1499999999999") (decimal "0") (decimal "1e55")
+  -- "every temperature is accepted"
+  pub accepted : (d t₁ t t₂ : Float) → Warmed d t₁ t t₂ → Accepted (station places d (Given t))
+  -- "the resolved altitude never rises with warmth and the pressure never falls"
+  pub altitude-to-t : (d t₁ t t₂ : Float) → Warmed d t₁ t t₂ → T (le (altitude (station places d (Given t))) (altitude (station places d (Given t₁))))
+  pub altitude-from-t : (d t₁ t t₂ : Float) → Warmed d t₁ t t₂ → T (le (altitude (station places d (Given t₂))) (altitude (station places d (Given t))))
+  pub pressure-to-t : (d t₁ t t₂ : Float) → Warmed d t₁ t t₂ → T (le (pressure (station places d (Given t₁))) (pressure (station places d (Given t))))
+  pub pressure-from-t : (d t₁ t t₂ : Float) → Warmed d t₁ t t₂ → T (le (pressure (station places d (Given t))) (pressure (station places d (Given t₂))))
+  -- "`faa_rule_density_altitude_ft` never falls with temperature, for finite temperatures and a finite pressure of at least 0"
+  pub faa-never-falls : (p t₁ t₂ : Float) → IsDouble p → IsDouble t₁ → IsDouble t₂ → T (isFinite p) → T (le nought p) → T (isFinite t₁) → T (isFinite t₂) → T (le t₁ t₂)
+      → T (le (faaDensityAltitude places p t₁) (faaDensityAltitude places p t₂))
+  pub rejects-wrong-answers : RejectedByWarmth
+
+-- ---- K9, how close is the next trim class
+pub record K9 : Type 0 where
+  -- "the smallest single change that gives another class", by the order of the 800
+  pub smallest : (bytes : List ℕ) (s : Start) (t : Turn) → Asks bytes s → nextTrimClass bytes ≡ accepted (record { class = s .class; turn = found.Turn t })
+      → FirstToGive s (t .change) (t .class)
+  -- "equal k: temperature before pressure, up before down", and every k before the next
+  pub up-before-down : (q : Quantity) (k : ℕ) → place (change q Up k) < place (change q Down k)
+  pub temperature-first : (k : ℕ) → place (change Temperature Down k) < place (change MeasuredPressure Up k)
+  pub smaller-first : (k : ℕ) → place (change MeasuredPressure Down k) < place (change Temperature Up (k + 1))
+  -- "the answer 'no change within 200' comes only if none of the 800 does it"
+  pub none-because : (bytes : List ℕ) (s : Start) → Asks bytes s → nextTrimClass bytes ≡ accepted (record { class = s .class; turn = found.Nothing }) → NoneGives s
+  pub none-where : (bytes : List ℕ) (s : Start) → Asks bytes s → NoneGives s → nextTrimClass bytes ≡ accepted (record { class = s .class; turn = found.Nothing })
+  -- "22: no temperature or no measured pressure in an otherwise accepted record"
+  pub own-refusal : (bytes : List ℕ) (number : ℕ) (values : List Float) → judge bytes ≡ refused number values → nextTrimClass bytes ≡ refused number values
+  pub by-22 : (bytes : List ℕ) (r : Readings) (f : Figures) → readRecord false bytes ≡ accepted r → judged r ≡ accepted f
+      → (entryOf r meaning.temperature ≡ Absent) ⊎ (entryOf r meaning.measuredPressure ≡ Absent) → nextTrimClass bytes ≡ refused 22 []
+  -- each number has exactly its cause: those of the record, then 22
+  pub trim-caused : (bytes : List ℕ) → let r = readings bytes in
+      ExactlyCaused (recordRows false bytes ++ row (not (has r meaning.temperature) || not (has r meaning.measuredPressure)) 22 [] ∷ []) (nextAt bytes) (nextTrimClass bytes)
+  -- "for a reading with temperature and measured pressure": it is answered, never refused
+  pub answered : (bytes : List ℕ) (f : Figures) (t p : Float) → judge bytes ≡ accepted f → entryOf (readings bytes) meaning.temperature ≡ Present t
+      → entryOf (readings bytes) meaning.measuredPressure ≡ Present p → (n : Next) × (nextTrimClass bytes ≡ accepted n)
+  -- "the count of these densities at or below the figure: 1.00, 1.05, 1.10, 1.15, 1.20, 1.25 kg/m³"
+  pub class-counts : (r : Readings) (f : Figures) → judged r ≡ accepted f → let d = f .«density_kg_m3» in
+      classOf r ≡ accepted (cond (le (decimal "1.00") d) 1 0 + cond (le (decimal "1.05") d) 1 0 + cond (le (decimal "1.10") d) 1 0 + cond (le (decimal "1.15") d) 1 0 + cond (le (decimal "1.20") d) 1 0 + cond (le (decimal "1.25") d) 1 0)
+
+-- ---- K10, sixty places
+pub record K10 : Type 0 where
+  -- "a greater input still never gives a smaller word or antilog"
+  pub word-rises : (x y : Float) → IsDouble x → IsDouble y → T (positive x) → T (positive y) → T (le x y) → logWord 60 x ≤ℤ logWord 60 y
+  pub antilog-rises : (P Q : ℤ) → P ≤ℤ Q → T (le (antilog 60 P) (antilog 60 Q))
+  pub exp-rises : (x y : Float) → IsDouble x → IsDouble y → T (le x y) → T (le (exp 60 x) (exp 60 y))
+  -- nor a smaller ln or power, from 0 up; a power with a negative exponent never rises, and the power 3 never falls over all doubles
+  pub ln-rises : (x y : Float) → IsDouble x → IsDouble y → T (le nought x) → T (le x y) → T (le (ln 60 x) (ln 60 y))
+  pub power-rises : (q : Exponent) → q .negative ≡ false → (x y : Float) → IsDouble x → IsDouble y → T (le nought x) → T (le x y) → T (le (power 60 q x) (power 60 q y))
+  pub power-falls : (q : Exponent) → q .negative ≡ true → (x y : Float) → IsDouble x → IsDouble y → T (le nought x) → T (le x y) → T (le (power 60 q y) (power 60 q x))
+  pub cube-rises : (q : Exponent) → isThree q ≡ true → (x y : Float) → IsDouble x → IsDouble y → T (le x y) → T (le (power 60 q x) (power 60 q y))
+
+-- ---- K11, moisture and range in the answer
+pub record K11 : Type 0 where
+  -- "the mark is set exactly if the shown temperature is 15 to 27 °C and the pressure 600 to 1,100 hPa, ends included"
+  pub marked-because : (r : Readings) (f : Figures) → judged r ≡ accepted f → f .«in_cipm_range» ≡ true
+      → T (le (decimal "15") (f .«temperature_c»)) × T (le (f .«temperature_c») (decimal "27")) × T (le (decimal "600") (f .«pressure_hpa»)) × T (le (f .«pressure_hpa») (decimal "1100"))
+  pub marked-where : (r : Readings) (f : Figures) → judged r ≡ accepted f → T (le (decimal "15") (f .«temperature_c»)) → T (le (f .«temperature_c») (decimal "27"))
+      → T (le (decimal "600") (f .«pressure_hpa»)) → T (le (f .«pressure_hpa») (decimal "1100")) → f .«in_cipm_range» ≡ true
+  -- "the capped vapour mole fraction that the density uses", both of the resolved temperature and pressure by K and Pa
+  pub fraction-capped : (r : Readings) (f : Figures) → judged r ≡ accepted f → let a = resolved r in
+      f .«vapor_mole_fraction» ≡ capped (moleFractionCelsius places (kelvins places (a .«altitude_m») (a .temperature) ⊖ icePoint) (pascals places (a .«altitude_m») (a .pressure) ⊘ hundred) (clampDouble (a .«humidity_percent») nought hundred))
+  pub density-uses-it : (r : Readings) (f : Figures) → judged r ≡ accepted f → let a = resolved r in
+      f .«density_kg_m3» ≡ airDensityAt (kelvins places (a .«altitude_m») (a .temperature) ⊖ icePoint) (pascals places (a .«altitude_m») (a .pressure) ⊘ hundred) (f .«vapor_mole_fraction»)
+
+-- ---- K12, humid density altitudes
+pub record K12 : Type 0 where
+  -- "two records that differ only in humidity resolve to the same first three figures where both are accepted"
+  pub same-station : (r q : Readings) → ((m : ℕ) → m ≢ humidity → entryOf r m ≡ entryOf q m) → (f g : Figures) → judged r ≡ accepted f → judged q ≡ accepted g
+      → (f .«altitude_m» ≡ g .«altitude_m») × ((f .«temperature_c» ≡ g .«temperature_c») × (f .«pressure_hpa» ≡ g .«pressure_hpa»))
+
+-- ---- K13, quicker roots
+pub record K13 : Type 0 where
+  -- "entry n, for n from 256 to 1,023, is the greatest whole number whose square is at most n × 2^20"
+  pub entries : (n : ℕ) → 256 ≤ n → n < 1024 → getD rootTable (n - 256) 0 ≡ root (n * 2 ^ 20)
+  -- "the two give the same number for every radicand from 2^124 up to but not including 2^126", and there the first root is never taken: the table serves each
+  pub alike : (n : ℕ) → 2 ^ 124 ≤ n → n < 2 ^ 126 → bothRoots n .quick ≡ bothRoots n .first
+  pub served : (n : ℕ) → 2 ^ 124 ≤ n → n < 2 ^ 126 → tableRoot rootTable n ≡ Root (root n)
+
+-- ---- K14, how near is near: "over any number of places from 1 to 60"
+pub record K14 : Type 0 where
+  -- "2 to the L is at most x to the 2^60, and that is less than 2 to the (L + 2)"
+  pub word-at-most : (n : ℕ) → 1 ≤ n → n ≤ 60 → (x : Float) → IsDouble x → T (positive x) → twoToThe (logWord n x) isAtMost value x toThe (2 ^ n)
+  pub word-near : (n : ℕ) → 1 ≤ n → n ≤ 60 → (x : Float) → IsDouble x → T (positive x) → value x toThe (2 ^ n) isBelow twoToThe (logWord n x +ℤ pos 2)
+  -- "Y to the 2^60 is at most 2 to the (62 × 2^60 + f), and that is less than (Y + 4) to the 2^60"
+  pub antilog-at-most : (n : ℕ) → 1 ≤ n → n ≤ 60 → (f : ℕ) → f < 2 ^ n → antilogRoot n f ^ 2 ^ n ≤ 2 ^ (62 * 2 ^ n + f)
+  pub antilog-near : (n : ℕ) → 1 ≤ n → n ≤ 60 → (f : ℕ) → f < 2 ^ n → 2 ^ (62 * 2 ^ n + f) < (antilogRoot n f + 4) ^ 2 ^ n
+  -- fewer than two units, and than four, are too few
+  pub word-needs-two : let x = fin false 3614860327554031 (pos 1) in (value x toThe (2 ^ 12) isBelow twoToThe (logWord 12 x +ℤ pos 1)) → ⊥
+  pub antilog-needs-two : 2 ^ (62 * 2 ^ 4 + 7) < (antilogRoot 4 7 + 1) ^ 2 ^ 4 → ⊥
+  -- and what it makes of the 27 powers, in units of 2^-60: half a unit in the double's last place is 2^7 of them
+  pub power-near : (i : ℕ) → i < 27 → (x : Float) → IsDouble x → T (positive x) → Normal (powerAt 60 i x)
+      → Within (2 ^ 7 + 5 + 2 * (exponentAt i .magnitude / 2 ^ 58)) 60 (powerAt 60 i x) (2 ^ 58) (raised (exponentAt i) (value x))
+  -- of exp, for every b that lies as near to e as 21 decimals tell
+  pub exp-near : (b : Fraction) → 0 < b .under → eBelow isAtMost b → b isAtMost eAbove → (x : Float) → IsDouble x → T (finite x) → Normal (exp 60 x)
+      → Within (2 ^ 7 + 6 + num x / (4 * den x)) 60 (exp 60 x) (den x) (raisedBy x b)
+  -- and of ln, which rounds F / 2^60
+  pub ln-near : (b : Fraction) → 0 < b .under → eBelow isAtMost b → b isAtMost eAbove → (x : Float) → IsDouble x → T (positive x)
+      → LnWithin 60 b x (floorDiv (logWord 60 x *ℤ pos ln2) (2 ^ 62))
+
+-- ---- typed at the park
+pub record AtThePark : Type 0 where
+  -- decimals as they are typed, and whole reports
+  pub typed-decimals : (typed (ascii "1586") ≡ typed-as.Count (pos 1586000)) × (typed (ascii "-15.25") ≡ typed-as.Count (negsuc 15249)) × (typed (ascii "-0") ≡ typed-as.Count (pos 0))
+  pub typed-ends : (typed (ascii "2147483.647") ≡ typed-as.Count (pos 2147483647)) × (typed (ascii "2147483.648") ≡ typed-as.OutOfRange) × (typed (ascii "1.2345") ≡ typed-as.TooManyDecimals)
+  pub typed-badly : (typed (ascii "") ≡ typed-as.NotANumber) × (typed (ascii ".5") ≡ typed-as.NotANumber) × (typed (ascii "5.") ≡ typed-as.NotANumber) × (typed (ascii "1e3") ≡ typed-as.NotANumber)
+  pub report-at-sea-level : reportText (withEntry noReadings meaning.altitude nought)
+      ≡ ascii "altitude                             0.0 m\ntemperature                        15.00 C\nstation pressure                 1013.25 hPa\ndensity                           1.2255 kg/m3\nspeed of sound                     340.3 m/s\npressure altitude                    0.0 m\ndensity-matched altitude             0.0 m\nvapour mole fraction            0.000000 mol/mol\ntrim class 5\nfor the next class, give temperature and measured pressure\nin the range for which CIPM-2007 states its formula\nrecord 0100080000000000000000\n"
+  -- a word's decimal is the reading, and there is no other; the record that a new mast would send is judged as the readings are
+  pub word-is-reading : (ws : List (List ℕ)) (r : Readings) → understand ws ≡ given r → (w : List ℕ) (m : ℕ) (d : List ℕ) → List·Memᴰ w ws → Says w m d → Nearest r m d
+  pub no-other : (ws : List (List ℕ)) (r : Readings) → understand ws ≡ given r → (m : ℕ) (x : Float) → entryOf r m ≡ Present x → Typed ws m
+  pub record-judged : (ws : List (List ℕ)) (r : Readings) → understand ws ≡ given r → judge (recordOf r) ≡ judged r
+
+-- ---- the report of refused readings: the reading that it names
+pub record Reports : Type 0 where
+  -- "number, value": it is the one whose value the refusal hands out first
+  pub named : (r : Readings) (number : ℕ) (v : Float) (values : List Float) → judged r ≡ refused number (v ∷ values) → entryOf r (readingOf r number) ≡ Present v
+  -- of 1 and 4 the density altitude, of 2 and 3 the temperature, of 13 the humidity; of 11 and 12 one of those that they check
+  pub named-alone : (r : Readings) → (readingOf r 1 ≡ densityAltitude) × (readingOf r 2 ≡ meaning.temperature) × (readingOf r 3 ≡ meaning.temperature) × (readingOf r 4 ≡ densityAltitude) × (readingOf r 13 ≡ humidity)
+  pub named-11 : (r : Readings) → List·Memᴰ (readingOf r 11) (meaning.altitude ∷ meaning.stationPressure ∷ meaning.qnh ∷ humidity ∷ meaning.measuredPressure ∷ [])
+  pub named-12 : (r : Readings) → List·Memᴰ (readingOf r 12) (meaning.stationPressure ∷ meaning.qnh ∷ meaning.measuredPressure ∷ [])
+
+-- ---- the decimals of the definitions, as in `decimal "287.0531"`
+pub record Decimals : Type 0 where
+  -- digits, a point and digits, a power of ten
+  pub reads : (fraction "-0.0065" .negative ≡ true) × (fraction "-0.0065" .numerator ≡ 65) × (fraction "-0.0065" .denominator ≡ 10 ^ 4) × (fraction "3.14e-8" .denominator ≡ 10 ^ 10)
+  -- one that is a number, below 2^3022, is the double nearest to its fraction, ties to even
+  pub nearest : (t : String) → let f = fraction t in f .isNumber ≡ true → f .numerator * 2 ^ 1074 / f .denominator < 2 ^ 2 ^ 12 → decimal t ≡ round binary64 (f .negative) (f .numerator) (f .denominator)
+  -- any other text is NaN: nothing, a minus alone, a letter for a digit, no digit before or after the point or in the power, a second point or minus, a plus, a blank
+  pub no-number : (t : String) → fraction t .isNumber ≡ false → decimal t ≡ nan
+  pub none-of-these : map decimal ("" ∷ "-" ∷ "1.O5" ∷ ".5" ∷ "1." ∷ "1e" ∷ "1e-" ∷ "1.2.3" ∷ "--1" ∷ "+1" ∷ " 1" ∷ []) ≡ replicate 11 nan
+
+pub record Promises : Type 0 where
+  pub document-01 : Document01
+  pub demand-3 : Demand3
+  pub k1 : K1
+  pub k2 : K2
+  pub k3 : K3
+  pub k4 : K4
+  pub k5 : K5
+  pub k6 : K6
+  pub k7 : K7
+  pub k8 : K8
+  pub k9 : K9
+  pub k10 : K10
+  pub k11 : K11
+  pub k12 : K12
+  pub k13 : K13
+  pub k14 : K14
+  pub at-the-park : AtThePark
+  pub reports : Reports
+  pub decimals : Decimals

@@ -1,0 +1,135 @@
+-- A row of the sheet beside the record of the same air: temperature and pressure are given, so that a row is that of the record with 01, 02, 05 and 07
+-- wherever 02 is no default, and no row looks at the altitude but to see that it is finite. Assumes nothing.
+use mathlib.Core.Path.{_≡_, refl, sym, ap, ap₂, subst, _∙_}
+use mathlib.Core.Logic.{_≢_}
+use mathlib.Core.Bool.{Bool, true, false, not, _&&_, _||_, cond, and-false}
+use mathlib.Core.List.{List, [], _∷_, _++_}
+use Prim.Native.Nat.{ℕ, zero, suc, _<_}
+use borrow.Author.Tests.{ne-eqb, not-false}
+use lib.Dec.{T, ltb, eqb}
+use lib.Ieee.{Float, sub, lt, le, ofInt, ofBits}
+use lib.Ieee.Bits.{is-true, is-false}
+use lib.Ieee.Fits.{and-l, and-r}
+use Rattle.arithmetic.specs.Places.{places}
+use Rattle.arithmetic.specs.Decimals.{nought, one}
+use Rattle.doubles.specs.Doubles.{absDouble, isFinite}
+use Rattle.atmosphere.specs.declared.station.Reading.{Reading}
+use Rattle.atmosphere.specs.declared.station.Reading.the-variants.{Given, FromLayer}
+use Rattle.atmosphere.specs.Station.{inTemperatureBand, resolved, stationTemperature}
+use Rattle.density_altitude.specs.Inverse.{absoluteZero, temperatureRows, isFiniteAbove}
+use Rattle.humid_air.specs.Humidity.{moleFractionCelsius}
+use Rattle.air.specs.Station.{atmosphere}
+use Rattle.refusal.specs.Outcomes.{Outcome, accepted, refused, _⟫_, row, _then_}
+use Rattle.refusal.specs.Causes.{NoneHolds}
+use Rattle.refusal.proofs.Rows.{then-append, then-none, then-next}
+use Rattle.entries.specs.declared.Readings.{Readings}
+use Rattle.entries.specs.Entries.{noReadings, withEntry}
+use Rattle.fields.specs.Fields.{altitude, temperature, humidity, measuredPressure}
+use Rattle.limits.specs.Checks.{pressureRows, humidityRows, valueRows}
+use Rattle.answered.specs.declared.judge.Figures.{Figures}
+use Rattle.resolved.specs.declared.resolved.Resolved.{Resolved}
+use Rattle.resolved.specs.Resolved.{ordinary}
+use Rattle.station.specs.Figures.{figuresWith, figuresOf}
+use Rattle.mast.specs.Judge.{airRows, airOutcome, judged}
+use Rattle.sheet.specs.Row.{rowText, figuresOutcome, station, rowOutcome}
+use Rattle.sheet.specs.Sheet.{celsius, rows, inputRows, settingSheet}
+use Rattle.sheet.proofs.GoodSheet.{every, at-each}
+
+-- ---- the altitude
+-- whether figures are air, if b says that the altitude is finite
+abbrev airIf : Bool → Figures → Bool
+airIf b f =
+    b
+    && isFinite (f .«temperature_c»)
+    && isFiniteAbove nought (f .«pressure_hpa»)
+    && isFiniteAbove nought (f .«density_kg_m3»)
+    && isFiniteAbove nought (f .«speed_of_sound_mps»)
+    && isFinite (f .«pressure_altitude_m»)
+    && isFinite (f .«density_matched_altitude_m»)
+    && isFinite (f .«vapor_mole_fraction»)
+
+module _ (h k p u : Float) (finite : isFinite h ≡ true) (also : isFinite k ≡ true) where
+  pub same-row : (t : Float) → rowOutcome h p u t ≡ rowOutcome k p u t
+  unfolding rowOutcome airOutcome figuresOutcome rowText figuresWith atmosphere
+  same-row t =
+      let f = figuresOf (station h p u t) in
+      let row-if : Bool → Outcome (List ℕ) = λ b. (row (lt one (moleFractionCelsius places t p u)) 14 [] ∷ row (not (airIf b f)) 15 [] ∷ []) then figuresOutcome t f in
+      then-next (airRows (station h p u t)) (accepted f) (figuresOutcome t)
+      ∙ ap row-if (finite ∙ sym also)
+      ∙ sym (then-next (airRows (station k p u t)) (accepted (figuresOf (station k p u t))) (figuresOutcome t))
+
+  same-rows : (n : ℕ) → rows h p u n ≡ rows k p u n
+  unfolding rows
+  same-rows zero = refl
+  same-rows (suc n) =
+      ap₂ (λ (o line : Outcome (List ℕ)). o ⟫ (λ x. line ⟫ (λ y. accepted (x ++ y)))) (same-rows n) (same-row (celsius n))
+
+  pub any-altitude : (room : ℕ) → settingSheet h p u room ≡ settingSheet k p u room
+  unfolding settingSheet
+  any-altitude room =
+      let sheet : Float → Bool → Outcome (List ℕ) → Outcome (List ℕ) = λ x b o. cond (ltb room 1530) (refused 16 []) (cond b (refused 11 (x ∷ [])) ((pressureRows p ++ humidityRows u) then o)) in
+      ap (λ (b : Bool). sheet h (not b) (rows h p u 51)) finite
+      ∙ ap (sheet k false) (same-rows 51)
+      ∙ ap (λ (b : Bool). sheet k (not b) (rows k p u 51)) (sym also)
+
+-- ---- the record
+abbrev readingsOf : Float → Float → Float → Float → Readings
+readingsOf h p u t = withEntry (withEntry (withEntry (withEntry noReadings altitude h) temperature t) humidity u) measuredPressure p
+
+of-record : (h p u t : Float) → NoneHolds (inputRows h p u) → NoneHolds (temperatureRows t) → stationTemperature t h ≡ Given t → judged (readingsOf h p u t) ≡ airOutcome (station h p u t)
+unfolding judged ordinary airOutcome
+of-record h p u t i w given =
+    let r = readingsOf h p u t in
+    let none : NoneHolds (valueRows r) = (i .0, (w .0, (w .1 .0, (i .1 .1 .1 .0, (i .1 .1 .1 .1 .0, (i .1 .0, (i .1 .1 .0, tt))))))) in
+    let at : Reading → Resolved = λ x. record { «altitude_m» = h; temperature = x; pressure = Given p; «humidity_percent» = u } in
+    then-append (valueRows r) (airRows (ordinary r)) (accepted (figuresOf (ordinary r)))
+    ∙ then-none (valueRows r) none
+    ∙ ap (λ (x : Reading). airOutcome (at x)) given
+
+row-of-record : (h p u t : Float) → NoneHolds (inputRows h p u) → NoneHolds (temperatureRows t) → stationTemperature t h ≡ Given t
+    → rowOutcome h p u t ≡ (judged (readingsOf h p u t) ⟫ figuresOutcome t)
+unfolding rowOutcome
+row-of-record h p u t i w given = ap (λ (o : Outcome Figures). o ⟫ figuresOutcome t) (sym (of-record h p u t i w given))
+
+-- the temperatures of the sheet pass their checks, and all but 15 °C lie outside the default band
+abbrev passes : ℕ → Bool
+passes n = isFinite (celsius n) && not (le (celsius n) absoluteZero)
+
+all-pass : T (every passes 51)
+unfolding le celsius ofInt isFinite ofBits
+all-pass = tt
+
+abbrev outside : ℕ → Bool
+outside n = eqb n 25 || not (inTemperatureBand (celsius n))
+
+all-outside : T (every outside 51)
+unfolding lt sub absDouble celsius ofInt ofBits
+all-outside = tt
+
+passed : (n : ℕ) → n < 51 → NoneHolds (temperatureRows (celsius n))
+passed n below =
+    let t = celsius n in
+    let both = at-each passes 51 n below all-pass in
+    (ap not (is-true (isFinite t) (and-l (isFinite t) (not (le t absoluteZero)) both)), (is-false (le t absoluteZero) (and-r (isFinite t) (not (le t absoluteZero)) both), tt))
+
+not-15 : (n : ℕ) → n < 51 → n ≢ 25 → inTemperatureBand (celsius n) ≡ false
+not-15 n below other =
+    let band = inTemperatureBand (celsius n) in
+    is-false band (subst (λ (b : Bool). T (b || not band)) (ne-eqb n 25 other) (at-each outside 51 n below all-outside))
+
+pub record-row : (h p u : Float) (n : ℕ) → n < 51 → n ≢ 25 → NoneHolds (inputRows h p u)
+    → rowOutcome h p u (celsius n) ≡ (judged (readingsOf h p u (celsius n)) ⟫ figuresOutcome (celsius n))
+record-row h p u n below other i =
+    row-of-record h p u (celsius n) i (passed n below) (ap (λ (b : Bool). resolved b (celsius n) h) (not-15 n below other))
+
+-- at sea level no temperature is a default
+at-sea-level : (t : Float) → stationTemperature t nought ≡ Given t
+unfolding lt absDouble ofBits
+at-sea-level t = ap (λ (b : Bool). cond b FromLayer (Given t)) (and-false (inTemperatureBand t))
+
+pub sea-level-row : (h p u : Float) (n : ℕ) → n < 51 → NoneHolds (inputRows h p u)
+    → rowOutcome h p u (celsius n) ≡ (judged (readingsOf nought p u (celsius n)) ⟫ figuresOutcome (celsius n))
+unfolding isFinite ofBits
+sea-level-row h p u n below i =
+    same-row h nought p u (not-false (isFinite h) (i .0)) refl (celsius n)
+    ∙ row-of-record nought p u (celsius n) (refl, i .1) (passed n below) (at-sea-level (celsius n))

@@ -1,0 +1,19 @@
+-- What the code's answer tells of words that were understood or not. Assumes nothing.
+use mathlib.Core.Path.{_≡_, sym, ap, _∙_}
+use Prim.Native.Nat.{ℕ}
+use native.Mathlib.Omega.{arith}
+use Rattle.typed_word.specs.declared.Problem.{Problem}
+use Rattle.typed_readings.specs.declared.WordCheck.the-variants.{Passed, Wrong}
+use Rattle.typed_readings.specs.declared.TypedReadings.{TypedReadings}
+use Rattle.typed_readings.specs.Understood.{Understood, given, problem, answerFor}
+
+its-check : {a b : TypedReadings} → a ≡ b → a .check ≡ b .check
+its-check e = ap (λ (x : TypedReadings). x .check) e
+
+pub told-given : (u : Understood) (a : TypedReadings) → a ≡ answerFor u → a .check ≡ Passed → u ≡ given (a .readings)
+told-given (given r) a e h = ap (λ (x : TypedReadings). given (x .readings)) (sym e)
+told-given (problem p i) a e h = let c : Wrong p i ≡ Passed = sym (its-check e) ∙ h in let z : _≡_ {A = ℕ} 0 1 = cc in absurd (omega arith)
+
+pub told-wrong : (u : Understood) (a : TypedReadings) {p : Problem} {i : ℕ} → a ≡ answerFor u → a .check ≡ Wrong p i → u ≡ problem p i
+told-wrong (given r) a {p} {i} e h = let c : Passed ≡ Wrong p i = sym (its-check e) ∙ h in let z : _≡_ {A = ℕ} 0 1 = cc in absurd (omega arith)
+told-wrong (problem q j) a {p} {i} e h = let c : Wrong q j ≡ Wrong p i = sym (its-check e) ∙ h in cc

@@ -1,0 +1,10 @@
+-- `typed_readings::wrong` meets its contract. Assumes nothing.
+use borrow.Author.Needs.{needs}
+use Rattle.typed_readings.proofs.wrong.Statement.{statement}
+use Rattle.typed_readings.proofs.wrong.Tie as tie
+
+returns : tie.Need-returns
+returns c = cc
+
+pub wrong-spec : {M : Type 1} → statement M
+wrong-spec = tie.close (tie.spec (λ c κs. search needs) returns)
