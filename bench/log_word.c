@@ -1,5 +1,5 @@
 /* The log word by tables, tried and not proved: what a power would cost if its double were decided from an
- * estimate of the logarithm, and how often it would not be. docs/ANTILOG.md says what came of it. */
+ * estimate of the logarithm, and how often it would not be. docs/HOW-NEAR.md says what came of it. */
 #define _POSIX_C_SOURCE 200809L
 #include <math.h>
 #include <quadmath.h>
@@ -71,7 +71,7 @@ static bool rounds_alike(uint64_t low, uint64_t high) {
 }
 
 /* The log word w lies at or less than 2 units below the true logarithm, so in units of 2^-60 it is one of two or
- * three; the antilog's window is 13 units for one of them, as in docs/ANTILOG.md, and 5.6 more for each unit that
+ * three; the antilog's window is 13 units for one of them, as in docs/HOW-NEAR.md, and 5.6 more for each unit that
  * the product of another lies above. */
 static bool is_decided(double x, uint64_t magnitude, bool negative) {
     int exponent;

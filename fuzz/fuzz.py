@@ -59,7 +59,8 @@ def record(random):
 
 def answers(records):
     """The oracle's, one for each record."""
-    done = subprocess.run([ORACLE, "answers"], input="".join(r.hex() + "\n" for r in records).encode(), stdout=subprocess.PIPE, check=True)
+    asked = "".join(f"judge {r.hex() or '-'}\n" for r in records).encode()
+    done = subprocess.run([ORACLE, "ask"], input=asked, stdout=subprocess.PIPE, check=True)
     found = ANSWER.findall(done.stdout)
     if len(found) != len(records) or b"".join(found) != done.stdout:
         sys.exit("the oracle printed something else than answers")

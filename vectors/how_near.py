@@ -1,5 +1,5 @@
 """Measures how far the rules of document 01 lie from the true values, at 60 places and at 52, and the estimate of the antilog from its
-root: docs/HOW-NEAR.md and docs/ANTILOG.md have what it prints.
+root: docs/HOW-NEAR.md and docs/HOW-NEAR.md have what it prints.
 
 The rules in Python's whole numbers, the true values by mpmath at 400 bits. The only argument is the number of points for each line;
 the estimate has twice as many.

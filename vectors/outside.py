@@ -1,20 +1,17 @@
-"""Writes the lists outside_*.txt: what two public libraries answer, each figure as two ends. README.md says how far apart and why.
+"""Writes the bounds `outside_*`: what two public libraries answer, each figure as two ends. README.md says how far apart and why.
 
 The libraries are Debian's python3-iapws (IAPWS-95, the vapour pressure equation, TEOS-10's humid air) and python3-fluids (U.S.
-Standard Atmosphere 1976). Nothing of this repository is called. The only argument is the folder to write to.
+Standard Atmosphere 1976).
 """
 
 from itertools import product
 from math import exp, log
-from pathlib import Path
-from struct import pack
-from sys import argv
 
+import bounds
+from bounds import DENSITY, HEIGHT, PRESSURE, SATURATION, SOUND, TEMPERATURE
 from fluids.atmosphere import ATMOSPHERE_1976
 from iapws import IAPWS95
 from iapws.humidAir import Air, HumidAir
-
-TEMPERATURE, PRESSURE, SATURATION, DENSITY, SOUND, HEIGHT = range(6)
 
 KELVIN = 273.15
 MPA_PER_HPA = 1e-4
@@ -130,9 +127,8 @@ def layers():
 
 
 def line(figure, inputs, value, width):
-    """The figure's number, three inputs, and the ends, `width` to either side of the value."""
-    numbers = [*inputs, *[0] * (3 - len(inputs)), value - width, value + width]
-    return " ".join([f"{figure:016x}", *(pack(">d", n).hex() for n in numbers)]) + "\n"
+    """The ends lie `width` to either side of the value."""
+    return bounds.figure_line(figure, inputs, value - width, value + width)
 
 
 def air_at(celsius, hpa, percent):
@@ -145,4 +141,4 @@ def air_at(celsius, hpa, percent):
 
 ANSWERS = [air_at(*air) for air in AIR]
 for name, values in ("saturation", saturations()), ("density", densities()), ("sound", sounds()), ("layers", layers()):
-    Path(argv[1], f"outside_{name}.txt").write_text("".join(line(*v) for v in values))
+    bounds.write(f"outside_{name}", (line(*v) for v in values))

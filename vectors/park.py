@@ -1,19 +1,19 @@
-"""Writes the list words.txt: words as they are typed after `park`, and what the program prints for them; or holds a program to it.
+"""What `park` prints for words that are typed, and the list `words`; or holds a program to it.
 
 The words are understood as docs/PARK.md says: a decimal is checked by its form and counted with decimal.Decimal. The reports are those
-of report.py, over the oracle, and the rows of a sheet those of crates/setting_sheet/stdout. Nothing of the proved code is called to
-write the list. Arguments: the folder to write to; or `compare` and a program, which is run on the words of each case. target/oracle/oracle
-has to be built.
+of report.py, the rows of a sheet the oracle's. Nothing of the proved code is called. Arguments: the folder to write the list's questions
+to; or `compare` and a program, which is run on the words of each case.
 """
 
 from decimal import Decimal
 from fractions import Fraction
-from pathlib import Path
 from re import fullmatch
 from subprocess import run
 from sys import argv
 
+import oracle
 import report
+from words import question, save
 
 MEANINGS = {
     "altitude": report.ALTITUDE,
@@ -81,18 +81,6 @@ def understood(words):
 
 
 # ---- what is printed
-def reports_of(all_readings):
-    """The report of each readings, by their items."""
-    searched = [r for r in all_readings if {report.TEMPERATURE, report.MEASURED} <= r.keys()]
-    found = report.answers([report.record_of(changed) for r in searched for changed, _ in report.changed(r)])
-    changes = {id(r): [next(found) for _ in report.changed(r)] for r in searched}
-    answers = report.answers([report.record_of(r) for r in all_readings])
-    return {
-        frozenset(r.items()): "".join(line + "\n" for line in report.report_lines(r, answer, changes.get(id(r))))
-        for r, answer in zip(all_readings, answers)
-    }
-
-
 def heading(altitude, pressure, humidity):
     def line(name, count, unit):
         return f"{name} {report.decimal(count / 1000, 3):>16} {unit}\n"
@@ -107,31 +95,41 @@ def heading(altitude, pressure, humidity):
     )
 
 
-def sheet_text(readings):
+def text_or_counts(readings):
+    """What is printed in place of a sheet, or the counts of altitude, pressure and humidity that it is asked by."""
     if readings.keys() - {report.ALTITUDE, report.MEASURED, report.HUMIDITY}:
         return SHEET_ONLY
     if not {report.ALTITUDE, report.MEASURED} <= readings.keys():
         return SHEET_NEEDS
-    altitude, pressure, humidity = readings[report.ALTITUDE], readings[report.MEASURED], readings.get(report.HUMIDITY, 0)
-    refusal = 12 if pressure <= 0 else 13 if not 0 <= humidity <= 100000 else None
-    if refusal is not None:
-        return f"refused {refusal}\n{SHEET_REFUSED[refusal]}\n"
-    assert (altitude, pressure, humidity) == (1586000, 841897, 32000)
-    return heading(altitude, pressure, humidity) + Path("crates/setting_sheet/stdout").read_text("ascii")
+    return readings[report.ALTITUDE], readings[report.MEASURED], readings.get(report.HUMIDITY, 0)
 
 
-def all_printed(cases):
-    """Each case with what is printed for it."""
-    readings = [understood(words) for words in cases if words[:1] != ["sheet"]]
-    reports = reports_of([r for r in readings if isinstance(r, dict) and r])
-    for words in cases:
-        sheet = words[:1] == ["sheet"]
-        said = understood(words[1:] if sheet else words)
-        if not words:
-            said = USAGE
-        elif not isinstance(said, str):
-            said = sheet_text(said) if sheet else reports[frozenset(said.items())]
-        yield words, said
+def sheets(all_counts):
+    """Each sheet under its heading, or its refusal."""
+    questions = [question("sheet", *(count / 1000 for count in counts)) for counts in all_counts]
+    for counts, rows in zip(all_counts, oracle.answers(questions)):
+        if rows.startswith("refused "):
+            yield f"{rows}{SHEET_REFUSED[int(rows.split()[1])]}\n"
+        else:
+            yield heading(*counts) + rows
+
+
+def text_or_asked(words):
+    """What is printed for the words where no figure is needed; else the readings of a report, or the counts of a sheet."""
+    if not words:
+        return USAGE
+    if words[0] != "sheet":
+        return understood(words)
+    said = understood(words[1:])
+    return said if isinstance(said, str) else text_or_counts(said)
+
+
+def printed(cases):
+    """What is printed for the words of each case."""
+    said = [text_or_asked(words) for words in cases]
+    reported = report.reports([asked for asked in said if isinstance(asked, dict)])
+    ruled = sheets([asked for asked in said if isinstance(asked, tuple)])
+    return [text if isinstance(text, str) else next(reported if isinstance(text, dict) else ruled) for text in said]
 
 
 # ---- the cases
@@ -178,6 +176,9 @@ def cases():
     yield ["sheet"]
     yield ["sheet", *PARK]
     yield ["sheet", *reversed(PARK)]
+    yield ["sheet", *PARK[:2]]
+    yield ["sheet", "pressure=1065.25", "altitude=-430.5", "humidity=100"]
+    yield ["sheet", "altitude=+4300", "humidity=0.001", "pressure=000600"]
     yield ["sheet", *PARK[:1]]
     yield ["sheet", *PARK[1:]]
     yield ["sheet", PARK[2]]
@@ -193,24 +194,24 @@ def cases():
     yield [*PARK, "sheet"]
 
 
-def write(folder):
-    lines = []
-    for words, said in all_printed(list(cases())):
-        typed, text = "".join(word + "\n" for word in words).encode("ascii"), said.encode("ascii")
-        lines.append(f"{len(typed):016x} {len(text):016x}\n{typed.hex()}\n{text.hex()}\n")
-    Path(folder, "words.txt").write_text("".join(lines))
+def questions():
+    """A blank in a word is a tab: the question has blanks between its words."""
+    return [" ".join(["park", *(word.replace(" ", "\t") for word in words)]) for words in cases()]
 
 
 def compare(program):
     """Each case by the program itself, whose arguments are the words."""
-    differ = []
-    for count, (words, said) in enumerate(all_printed(list(cases())), 1):
+    differ, all_cases = 0, list(cases())
+    for words, said in zip(all_cases, printed(all_cases)):
         got = run([program, *words], capture_output=True, check=True).stdout.decode("ascii")
         if got != said:
-            differ.append(words)
+            differ += 1
             print(f"{words}\nexpected:\n{said}got:\n{got}")
-    print(f"{count} cases, {len(differ)} differ")
+    print(f"{len(all_cases)} cases, {differ} differ")
 
 
 if __name__ == "__main__":
-    compare(argv[2]) if argv[1] == "compare" else write(argv[1])
+    if argv[1] == "compare":
+        compare(argv[2])
+    else:
+        save(argv[1], "words", questions())

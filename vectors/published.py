@@ -1,10 +1,8 @@
-"""Writes published.txt: values as printed, each as the two ends half a unit of its last digit away."""
+"""Writes the bounds `published`: values as printed, each as the two ends half a unit of its last digit away."""
 from decimal import Decimal
-from pathlib import Path
-from struct import pack
-from sys import argv
 
-TEMPERATURE, PRESSURE, SATURATION, DENSITY, SOUND, HEIGHT, NWS, FAA = range(8)
+import bounds
+from bounds import DENSITY, FAA, HEIGHT, NWS, PRESSURE, SATURATION, SOUND, TEMPERATURE
 
 EARTH_RADIUS_M = 6356766
 
@@ -90,15 +88,10 @@ def values():
     yield FAA, (1013.25, 77), "1200"
 
 
-def bits(value):
-    return pack(">d", value).hex()
-
-
 def line(figure, inputs, printed):
     value = Decimal(printed)
     half = Decimal((0, (5,), value.as_tuple().exponent - 1))
-    numbers = [*inputs, *[0] * (3 - len(inputs)), value - half, value + half]
-    return " ".join([f"{figure:016x}", *(bits(float(n)) for n in numbers)]) + "\n"
+    return bounds.figure_line(figure, map(float, inputs), float(value - half), float(value + half))
 
 
-Path(argv[1], "published.txt").write_text("".join(line(*v) for v in values()), newline="")
+bounds.write("published", (line(*v) for v in values()))

@@ -1,19 +1,19 @@
-"""Writes the list reports.txt: records and the reports of their readings, in the form that docs/REPORT.md has.
+"""The report of a record's readings in the form that docs/PARK.md has, and the list `reports`.
 
 The figures are those of the oracle, bit for bit; a figure's text is made from the double's exact value in fractions, and the next
-trim class by asking the oracle about each changed record. Nothing of the proved code is called. The only argument is the folder to
-write to; target/oracle/oracle has to be built.
+trim class by asking the oracle about each changed record. Nothing of the proved code is called. Run as a program it writes the
+list's questions to the folder that is its only argument.
 """
 
 from fractions import Fraction
+from itertools import islice
 from math import inf, isfinite, nan
-from pathlib import Path
 from random import Random
 from struct import pack, unpack
-from subprocess import run
 from sys import argv
 
-ORACLE = "target/oracle/oracle"
+import oracle
+import words
 
 ALTITUDE, TEMPERATURE, STATION, QNH, HUMIDITY, DENSITY_ALTITUDE, MEASURED = range(1, 8)
 
@@ -61,9 +61,15 @@ READING_OF = {1: DENSITY_ALTITUDE, 2: TEMPERATURE, 3: TEMPERATURE, 4: DENSITY_AL
 
 CLASS_DENSITIES = [1.00, 1.05, 1.10, 1.15, 1.20, 1.25]
 
-# quantity, sign, words; in the order of trial
+# quantity, sign, phrase; in the order of trial
 CHANGES = [(TEMPERATURE, 1, "C warmer"), (TEMPERATURE, -1, "C colder"), (MEASURED, 1, "hPa higher"), (MEASURED, -1, "hPa lower")]
 MOST_TENTHS = 200
+
+# so many changed records of each reading are asked about first, then twice as many each time
+FIRST_TRIALS = 50
+
+# refusals of a record that is not read, so that there are no readings to report
+NOT_READ = range(5, 9)
 
 
 # ---- readings: a double, or a count of thousandths as an int, by tag
@@ -83,17 +89,25 @@ def double_of(value):
     return value if isinstance(value, float) else value / 1000
 
 
+def readings_of(record):
+    """The readings of a record that is read."""
+    readings = {}
+    while record:
+        tag, length = unpack(">BH", record[:3])
+        data, record = record[3 : 3 + length], record[3 + length :]
+        readings[tag % 16] = unpack(">d" if tag < 16 else ">i", data)[0]
+    return readings
+
+
 def answers(records):
     """The oracle's answer to each record: a refusal's number, or eight doubles and the mark."""
-    asked = "".join(record.hex() + "\n" for record in records)
-    lines = iter(run([ORACLE, "answers"], input=asked, capture_output=True, text=True, check=True).stdout.splitlines())
-    for line in lines:
-        word, *rest = line.split()
+    for answer in oracle.answers(f"judge {words.record(record)}" for record in records):
+        word, *rest = answer.split()
         if word == "refused":
             yield int(rest[0])
         else:
-            *digits, mark = rest + next(lines).split()[1:]
-            yield [unpack(">d", bytes.fromhex(d))[0] for d in digits], mark == "1"
+            *digits, mark = (digits for digits in rest if digits != "air")
+            yield list(map(words.double, digits)), mark == "1"
 
 
 # ---- the text
@@ -116,18 +130,27 @@ def trim_class(figures):
 def changed(readings):
     """The 800 changed readings in the order of trial, with what a report says of each."""
     for tenths in range(1, MOST_TENTHS + 1):
-        for tag, sign, words in CHANGES:
+        for tag, sign, phrase in CHANGES:
             value = double_of(readings[tag]) + sign * tenths / 10
-            yield {**readings, tag: value}, f"at {tenths // 10}.{tenths % 10} {words}"
+            yield {**readings, tag: value}, f"at {tenths // 10}.{tenths % 10} {phrase}"
 
 
-def next_line(figures, readings, changed_answers):
-    if not {TEMPERATURE, MEASURED} <= readings.keys():
-        return "for the next class, give temperature and measured pressure"
-    for (_, words), answer in zip(changed(readings), changed_answers):
-        if not isinstance(answer, int) and trim_class(answer[0]) != trim_class(figures):
-            return f"next class {trim_class(answer[0])} {words}"
-    return "no other class within 20 C or 20 hPa"
+def next_classes(searched):
+    """For each of the readings, with its class, what a report says of the next one."""
+    trials = [changed(readings) for readings, _ in searched]
+    said = ["no other class within 20 C or 20 hPa"] * len(searched)
+    left, count = range(len(searched)), FIRST_TRIALS
+    while left:
+        tried = [(i, trial) for i in left for trial in islice(trials[i], count)]
+        count *= 2
+        found = {}
+        for (i, (_, phrase)), answer in zip(tried, answers(record_of(readings) for _, (readings, _) in tried)):
+            if not isinstance(answer, int) and trim_class(answer[0]) != searched[i][1]:
+                found.setdefault(i, f"next class {trim_class(answer[0])} {phrase}")
+        for i, line in found.items():
+            said[i] = line
+        left = sorted({i for i, _ in tried} - found.keys())
+    return said
 
 
 def reading_of(number, readings):
@@ -138,7 +161,7 @@ def reading_of(number, readings):
     return READING_OF.get(number)
 
 
-def report_lines(readings, answer, changed_answers):
+def report_lines(readings, answer, next_class):
     if isinstance(answer, int):
         cause, to_do = REFUSALS[answer]
         yield f"refused {answer}"
@@ -151,9 +174,31 @@ def report_lines(readings, answer, changed_answers):
         for (name, decimals, unit), x in zip(FIGURES, figures):
             yield figure_line(name, decimals, unit, x)
         yield f"trim class {trim_class(figures)}"
-        yield next_line(figures, readings, changed_answers)
+        yield next_class or "for the next class, give temperature and measured pressure"
         yield ("in" if mark else "outside") + " the range for which CIPM-2007 states its formula"
     yield "record " + record_of(readings).hex().upper()
+
+
+def reports(all_readings):
+    """The report of each."""
+    judged = list(answers(map(record_of, all_readings)))
+    searched = [
+        i
+        for i, (readings, answer) in enumerate(zip(all_readings, judged))
+        if not isinstance(answer, int) and {TEMPERATURE, MEASURED} <= readings.keys()
+    ]
+    classes = next_classes([(all_readings[i], trim_class(judged[i][0])) for i in searched])
+    next_class = dict(zip(searched, classes))
+    for i, (readings, answer) in enumerate(zip(all_readings, judged)):
+        yield "".join(line + "\n" for line in report_lines(readings, answer, next_class.get(i)))
+
+
+def of_records(records):
+    """The report of each record's readings, or the refusal of a record that is not read."""
+    judged = list(answers(records))
+    read = [readings_of(record) for record, answer in zip(records, judged) if answer not in NOT_READ]
+    texts = reports(read)
+    return [f"refused {answer}\n" if answer in NOT_READ else next(texts) for answer in judged]
 
 
 # ---- the readings of the list
@@ -183,11 +228,15 @@ def at_limits(random, count):
 
 def pressure_first():
     """Readings about a class limit whose temperature stays in the default band, so that the pressure is the first to turn the class."""
-    for density in CLASS_DENSITIES:
-        near = [{ALTITUDE: 100.0, TEMPERATURE: 15.0, MEASURED: density * 2.8705 * 287.5 * (1 + n * 2e-5)} for n in range(-60, 60)]
-        classes = [trim_class(figures) for figures, _ in answers([record_of(r) for r in near])]
-        turn = next(i for i in range(1, len(near)) if classes[i - 1] != classes[i])
-        yield from near[turn - 1 : turn + 1]
+    rows = [
+        [{ALTITUDE: 100.0, TEMPERATURE: 15.0, MEASURED: density * 2.8705 * 287.5 * (1 + n * 2e-5)} for n in range(-60, 60)]
+        for density in CLASS_DENSITIES
+    ]
+    judged = answers(record_of(readings) for row in rows for readings in row)
+    for row in rows:
+        classes = [trim_class(next(judged)[0]) for _ in row]
+        turn = next(i for i in range(1, len(row)) if classes[i - 1] != classes[i])
+        yield from row[turn - 1 : turn + 1]
 
 
 def far_off():
@@ -262,22 +311,34 @@ def refused():
         yield {tag: every[tag]}
 
 
-def main():
+def unlike_the_writers(random):
+    """Records that the writer would not make: not read, with fields in another order, with NaNs of other patterns."""
+    good = record_of({ALTITUDE: 60.0, TEMPERATURE: 17.6, MEASURED: 1008300, HUMIDITY: 60000})
+    fields = [good[:11], good[11:22], good[22:29], good[29:]]
+    faults = [good[:-1], good[:30], good + b"\x08\x00\x08", b"\x01\x00\x04", good + fields[0], good + bytes(300), b"\xff"]
+    faults += [good + pack(">BHi", 0x11, 4, 5), pack(">BHd", 0x11, 8, 5.0), good[:256] + bytes(1)]
+    yield from faults
+    for _ in range(12):
+        random.shuffle(fields)
+        yield b"".join(fields)
+    for pattern in [0x7FF0000000000001, 0xFFF8000000000000, 0xFFFFFFFFFFFFFFFF]:
+        for tag in (ALTITUDE, TEMPERATURE, MEASURED, DENSITY_ALTITUDE):
+            yield b"".join([pack(">BHQ", tag, 8, pattern), *(field for field in fields if field[0] % 16 != tag)])
+
+
+def questions():
     random = Random(28)
-    all_readings = [*edges(), *parks(random, 120), *at_limits(random, 80), *pressure_first(), *far_off(), *density_altitudes(), *refused()]
-    searched = [r for r in all_readings if {TEMPERATURE, MEASURED} <= r.keys()]
-    found = iter(answers([record_of(c) for r in searched for c, _ in changed(r)]))
-    changes = {id(r): [next(found) for _ in range(4 * MOST_TENTHS)] for r in searched}
-    lines, said = [], []
-    for readings, answer in zip(all_readings, answers([record_of(r) for r in all_readings])):
-        report = "".join(line + "\n" for line in report_lines(readings, answer, changes.get(id(readings))))
-        record, text = record_of(readings), report.encode("ascii")
-        lines.append(f"{len(record):016x} {len(text):016x}\n{record.hex()}\n{text.hex()}\n")
-        said.append(report)
-    for words in [f"refused {n}\n" for n in REFUSALS] + [f"reading: {n}\n" for n in NAMES.values()] + [w for *_, w in CHANGES] + ["no other class", "too wide", "outside"]:
-        assert sum(words in report for report in said) >= 3, words
-    Path(argv[1], "reports.txt").write_text("".join(lines))
+    parts = edges(), parks(random, 120), at_limits(random, 80), pressure_first(), far_off(), density_altitudes(), refused()
+    records = [record_of(readings) for part in parts for readings in part]
+    return [f"report {words.record(record)}" for record in [*records, *unlike_the_writers(random)]]
+
+
+def hold(texts):
+    """Everything that a report says is said by three of the list at least."""
+    refusals, readings = [f"refused {n}\n" for n in REFUSALS], [f"reading: {n}\n" for n in NAMES.values()]
+    for phrase in [*refusals, *readings, *(p for *_, p in CHANGES), "no other class", "too wide", "outside"]:
+        assert sum(phrase in text for text in texts) >= 3, phrase
 
 
 if __name__ == "__main__":
-    main()
+    words.save(argv[1], "reports", questions())

@@ -1,8 +1,9 @@
-"""Writes roots.txt: the floors of square roots, by Python's integer root, at and near both ends of the table's 768 intervals."""
+"""Writes the questions of the list `roots`: radicands at and near both ends of the table's 768 intervals."""
 from math import isqrt
-from pathlib import Path
 from random import Random
 from sys import argv
+
+from words import save, word
 
 # the table's radicands, and the width of an interval
 FIRST, END, WIDTH = 2**124, 2**126, 2**116
@@ -29,9 +30,8 @@ def radicands():
         yield from [root**2 - 1, root**2, root**2 + 2 * root]
 
 
-def line(radicand):
-    words = radicand >> 64, radicand % 2**64, isqrt(radicand)
-    return " ".join(f"{word:016x}" for word in words) + "\n"
+def question(radicand):
+    return f"root {word(radicand >> 64)} {word(radicand)}"
 
 
-Path(argv[1], "roots.txt").write_text("".join(map(line, radicands())))
+save(argv[1], "roots", map(question, radicands()))

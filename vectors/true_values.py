@@ -1,17 +1,17 @@
-"""Writes the lists true_*.txt: inputs over the whole range, and between which two numbers the answer lies.
+"""Writes the bounds `true_*`: inputs over the whole range, and between which two numbers the answer lies.
 
 The true values are mpmath's, at 400 bits. How far an answer may lie from the true one follows from document 02, K14, and from the
-floors of document 01's rules; the comment before each function says how. The only argument is the folder to write to; the variable
-PLACES is the number of places, 60 if it is not set.
+floors of document 01's rules; the comment before each function says how. The variable PLACES is the number of places, 60 if it is
+not set.
 """
 
 import os
 import random
 import struct
-import sys
-from pathlib import Path
 
+import bounds
 from mpmath import floor, log, mp, mpf, sqrt
+from words import pattern, question, word
 
 mp.prec = 400
 PLACES = int(os.environ.get("PLACES", 60))
@@ -34,8 +34,8 @@ def bits(x):
     return struct.unpack("<Q", struct.pack("<d", x))[0]
 
 
-def double(pattern):
-    return struct.unpack("<d", struct.pack("<Q", pattern))[0]
+def double(bits):
+    return struct.unpack("<d", struct.pack("<Q", bits))[0]
 
 
 def nearest(v):
@@ -48,17 +48,14 @@ def nearest(v):
     return -size if sign else size
 
 
-def line(*words):
-    return " ".join(f"{w % 2**64:016x}" for w in words) + "\n"
-
-
-def whole_and_fraction(p):
-    return p // UNIT, p % UNIT
+def log_words(p):
+    """Its whole part in two's complement, and the remainder."""
+    return f"{word(p // UNIT)} {word(p % UNIT)}"
 
 
 def between(low, high):
     """Rounding keeps the order, so an answer that is rounded once lies between the rounded ends."""
-    return bits(nearest(low)), bits(nearest(high))
+    return pattern(nearest(low)), pattern(nearest(high))
 
 
 def log2_units(x):
@@ -74,7 +71,7 @@ def two_to(units, lost=0):
 def log_line(x):
     true = log2_units(x)
     low, high = int(floor(true - SLACK)) - 1, int(floor(true + SLACK))
-    return line(bits(x), *whole_and_fraction(low), *whole_and_fraction(high))
+    return bounds.line(question("log_word", x), 1, log_words(low), log_words(high))
 
 
 # K14: Y <= 2^(62 + f / 2^PLACES) < Y + 4, and Y is at least 2^62: an antilog is at most 2^-60 of itself too small.
@@ -83,32 +80,32 @@ def antilog_ends(low_units, high_units):
 
 
 def antilog_line(p):
-    return line(*whole_and_fraction(p), *antilog_ends(p, p))
+    return bounds.line(f"antilog {log_words(p)}", 1, *antilog_ends(p, p))
 
 
 # floor(L q) lies less than 1 below L q, and L q less than 2 |q| from 2^PLACES q log2 x, on the side that q's sign says.
 def power_line(number, q, x):
     true = mpf(q) * log2_units(x)
     low, high = true - max(2 * q, 0) - 1, true + max(-2 * q, 0)
-    return line(number, bits(x), *antilog_ends(low, high))
+    return bounds.line(question(f"power {number}", x), 1, *antilog_ends(low, high))
 
 
 # W lies less than 1 below 2^PLACES x, and P less than 1 below its product with the constant.
 def exp_line(x):
     true = mpf(x) * UNIT
-    return line(bits(x), *antilog_ends(LOG2_E * (true - 1) - 1, LOG2_E * true))
+    return bounds.line(question("exp", x), 1, *antilog_ends(LOG2_E * (true - 1) - 1, LOG2_E * true))
 
 
 # L lies less than 2 below 2^PLACES log2 x, and the whole number that is rounded less than 1 below its product with the constant.
 def ln_line(x):
     true = log2_units(x)
-    return line(bits(x), *between((LN_2 * (true - 2) - 1 - SLACK) / UNIT, (LN_2 * true + SLACK) / UNIT))
+    return bounds.line(question("ln", x), 1, *between((LN_2 * (true - 2) - 1 - SLACK) / UNIT, (LN_2 * true + SLACK) / UNIT))
 
 
 # Correctly rounded. No root lies so near to the middle of two doubles that the slack would matter.
 def sqrt_line(x):
     true = sqrt(mpf(x))
-    return line(bits(x), *between(true * (1 - SLACK), true * (1 + SLACK)))
+    return bounds.line(question("sqrt", x), 1, *between(true * (1 - SLACK), true * (1 + SLACK)))
 
 
 def exponents():
@@ -184,4 +181,4 @@ def lists():
 
 random.seed(0)
 for name, lines in lists():
-    Path(sys.argv[1], f"true_{name}.txt").write_text("".join(lines))
+    bounds.write(f"true_{name}", lines)

@@ -37,9 +37,4 @@ impl Written {
             out,
         }
     }
-
-    /// The length as a list has it.
-    pub fn length_or_0(&self) -> u64 {
-        self.length.unwrap_or(0) as u64
-    }
 }

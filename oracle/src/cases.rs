@@ -1,7 +1,8 @@
-//! Document 01's "Corners in src/atmosphere.rs", held against a build of the source, and the examples of records
-//! in documents 01 and 02, held against the reader.
+//! Document 01's own cases of its rules, its "Corners in src/atmosphere.rs", held against a build of the source, and
+//! the examples of records in documents 01 and 02, held against the reader.
 
 use crate::draw::mixed;
+use crate::exponents::EXPONENTS;
 use crate::field::{record, Field};
 use crate::function::{named, word, Function};
 use crate::load;
@@ -12,7 +13,21 @@ use crate::ruled::density_vapor::arguments;
 use crate::ruled::record::{read, Figures};
 use crate::ruled::station::FUNCTIONS;
 use crate::ruled::{resolve_station_conditions_with_pressure_mode, PressureReferenceMode};
+use crate::rules::{antilog_root, log_word, power};
 use crate::sheet;
+
+/// Document 01's, which document 02 scales.
+pub fn hold_rules() {
+    for places in [52, 60] {
+        assert_eq!(log_word(places, 1.0), Some(0));
+        assert_eq!(log_word(places, 8.0), Some(3 << places));
+        assert_eq!(log_word(places, 0.5), Some(-1 << places));
+        let half = 1 << (places - 1);
+        assert_eq!(antilog_root(places, half), 0x5A82_7999_FCEF_3242);
+        assert!(EXPONENTS.iter().all(|q| power(places, 1.0, *q) == 1.0));
+    }
+    assert_eq!(log_word(52, 1.0 + f64::EPSILON), Some(1));
+}
 
 pub fn hold(functions: &[Function]) {
     let at = |name: &str, inputs: &[f64]| -> Vec<u64> {

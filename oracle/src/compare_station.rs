@@ -4,9 +4,9 @@ use crate::compare_row::{compare, expected, lent, Answer, Row};
 use crate::draw::{mixed, pattern, usual, usual_or_end, wide, Draw};
 use crate::exports;
 use crate::function::{named, word, Function, Inputs};
-use crate::lists::{drawn, edge_inputs};
 use crate::random::Random;
 use crate::ruled::station::FUNCTIONS;
+use crate::source_lists::{drawn, edge_inputs};
 
 /// They take turns.
 const DRAWS: [Draw; 4] = [usual_or_end, wide, pattern, mixed];

@@ -3,8 +3,8 @@
 use crate::compare_row::{compare, expected, lent, Answer, Hex, Row};
 use crate::exports;
 use crate::random::Random;
-use crate::trim::trim;
-use crate::trims::{all, answer, drawn_park};
+use crate::trim::{trim, Trim};
+use crate::trims::{all, drawn_park};
 
 /// A record, and the places of the lent array of whole numbers.
 struct Call {
@@ -60,6 +60,19 @@ fn theirs(call: &Call) -> Answer {
         Err(refusal) => expected(refusal.number, &refusal.values),
     };
     with_numbers(told, &numbers)
+}
+
+/// Class, tag of the changed field, tenths and new class; where there is no change 0, 0 and the class again.
+fn answer(trim: &Trim) -> [i32; NEEDED] {
+    match trim.change {
+        Some(change) => [
+            trim.class,
+            change.meaning.into(),
+            change.tenths,
+            change.class,
+        ],
+        None => [trim.class, 0, 0, trim.class],
+    }
 }
 
 fn with_numbers(mut answer: Answer, numbers: &[i32]) -> Answer {

@@ -1,4 +1,4 @@
-//! Writes the list `conversions.txt`: what the conversions answer, and what the buffer holds after the call.
+//! The list `conversions`: records to be converted, both ways.
 
 use crate::conversion::Target::{self, Counts, Doubles};
 use crate::conversion_call::ConversionCall;
@@ -9,9 +9,9 @@ use crate::random::Random;
 use crate::record_counts::{both_forms, cut_or_wrong};
 use crate::record_fields::{drawn, in_counts, in_either_form, sets_of_tags, shuffled, TAGS};
 use crate::record_forms::{bytes, changed, nearly_fields};
-use crate::words::{line_of_bytes, line_of_words};
+use crate::words::{once, record_word, save};
+use std::io;
 use std::path::Path;
-use std::{fs, io};
 
 /// Calls that are drawn.
 const DRAWN: usize = 400;
@@ -46,8 +46,7 @@ const COUNTS: [i32; 24] = [
 
 pub fn write(folder: &Path) -> io::Result<()> {
     let calls = all(&mut Random(5));
-    let text: String = calls.iter().map(lines).collect();
-    fs::write(folder.join("conversions.txt"), text)
+    save(folder, "conversions", &once(calls.iter().map(question)))
 }
 
 pub fn all(random: &mut Random) -> Vec<ConversionCall> {
@@ -60,17 +59,13 @@ pub fn all(random: &mut Random) -> Vec<ConversionCall> {
     all
 }
 
-/// Which, the record's length, the room, status and length; then the record, then the buffer after the call.
-fn lines(call: &ConversionCall) -> String {
-    let written = call.answer();
-    let words = [
-        u64::from(call.target == Doubles),
-        call.record.len() as u64,
-        call.room as u64,
-        written.status,
-        written.length_or_0(),
-    ];
-    line_of_words(&words) + &line_of_bytes(&call.record) + &line_of_bytes(&written.out)
+/// Without the call's room.
+fn question(call: &ConversionCall) -> String {
+    let target = match call.target {
+        Counts => "counts",
+        Doubles => "doubles",
+    };
+    format!("{target} {}", record_word(&call.record))
 }
 
 /// More than any record needs.

@@ -3,6 +3,9 @@
 /// No text is longer than this.
 pub const LONGEST: usize = 16;
 
+/// A greater number of decimals counts as this one.
+pub const MOST_DECIMALS: usize = 15;
+
 /// Rounded to nearest, halves away from zero; what rounds to zero has no sign. None where the text would be longer
 /// than 16 bytes, or the double is not finite.
 pub fn decimal(x: f64, decimals: usize) -> Option<String> {
@@ -23,7 +26,7 @@ fn units(x: f64, decimals: usize) -> Option<u128> {
     match exponent {
         0..=20 => Some(units << exponent),
         21.. => None,
-        // less than 2^73 units of 2^-126 or less: below a half
+        // less than 2^103 units of 2^-126 or less: below a half
         ..=-126 => Some(0),
         _ => {
             let half = 1u128 << (-exponent - 1);

@@ -1,14 +1,11 @@
-//! Writes the list `decimals.txt`: the text of doubles with 0 to 6 decimals.
+//! The list `decimals`: the text of doubles with 0 to 15 decimals.
 
-use crate::decimal::decimal;
+use crate::decimal::MOST_DECIMALS;
 use crate::quantity::near;
 use crate::random::Random;
-use crate::words::{line_of_bytes, line_of_words};
+use crate::words::{double_word, save};
+use std::io;
 use std::path::Path;
-use std::{fs, io};
-
-/// As many as a call may ask for.
-const MOST_DECIMALS: usize = 6;
 
 /// Doubles that are drawn for each number of decimals.
 const DRAWN: usize = 60;
@@ -38,20 +35,12 @@ const SMALL: [f64; 10] = [
 
 pub fn write(folder: &Path) -> io::Result<()> {
     let random = &mut Random(1);
-    let mut text = String::new();
+    let mut questions = Vec::new();
     for decimals in 0..=MOST_DECIMALS {
-        for x in doubles(random) {
-            text += &lines(decimals, x);
-        }
+        let question = |x: f64| format!("decimal {decimals} {}", double_word(x));
+        questions.extend(doubles(random).into_iter().map(question));
     }
-    fs::write(folder.join("decimals.txt"), text)
-}
-
-/// The number of decimals, the double, and the text's length, 0 where there is none; then the text.
-fn lines(decimals: usize, x: f64) -> String {
-    let text = decimal(x, decimals).unwrap_or_default();
-    let words = [decimals as u64, x.to_bits(), text.len() as u64];
-    line_of_words(&words) + &line_of_bytes(text.as_bytes())
+    save(folder, "decimals", &questions)
 }
 
 fn doubles(random: &mut Random) -> Vec<f64> {

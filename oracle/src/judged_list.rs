@@ -1,26 +1,33 @@
-//! A list of records with what a reader answers to each.
+//! A list of records that a reader judges, and its answers in words.
 
 use crate::function::word;
 use crate::ruled::record::Outcome;
-use crate::words::{line_of_bytes, line_of_words};
+use crate::words::{record_word, save};
 use std::collections::{BTreeMap, HashSet};
+use std::io;
 use std::path::Path;
-use std::{fs, io};
 
 /// No number is answered less often than this, nor either mark.
 const LEAST: usize = 20;
 
-/// Each record once. The numbers are all that the reader has.
-pub fn write(
-    path: &Path,
-    records: Vec<Vec<u8>>,
-    read: fn(&[u8]) -> Outcome,
-    numbers: &[u64],
-) -> io::Result<()> {
+/// How a reader is asked, how it reads, and all numbers that it has.
+pub struct Reader {
+    pub question: &'static str,
+    pub read: fn(&[u8]) -> Outcome,
+    pub numbers: &'static [u64],
+}
+
+/// Each record once, without the values of a refusal and with them.
+pub fn write(folder: &Path, list: &str, records: Vec<Vec<u8>>, reader: Reader) -> io::Result<()> {
+    let Reader {
+        question,
+        read,
+        numbers,
+    } = reader;
     let mut seen = HashSet::new();
     let mut times: BTreeMap<u64, usize> = numbers.iter().map(|number| (*number, 0)).collect();
     let mut in_range = 0;
-    let mut text = String::new();
+    let mut questions = Vec::new();
     for record in records {
         if seen.insert(record.clone()) {
             let outcome = read(&record);
@@ -29,7 +36,9 @@ pub fn write(
                 .get_mut(&words.number)
                 .expect("a number of the reader") += 1;
             in_range += words.mark as usize;
-            text += &lines(&words, &record);
+            for question in [question, &format!("{question}-values")] {
+                questions.push(format!("{question} {}", record_word(&record)));
+            }
         }
     }
     assert!(times.values().all(|n| *n >= LEAST), "{times:?}");
@@ -37,18 +46,7 @@ pub fn write(
         (LEAST..=times[&0] - LEAST).contains(&in_range),
         "{in_range}"
     );
-    fs::write(path, text)
-}
-
-/// The answer's words and the record's length, then on a line of their own the record's bytes.
-fn lines(words: &Words, record: &[u8]) -> String {
-    let Words {
-        number,
-        figures,
-        mark,
-    } = words;
-    let words = [&[*number], &figures[..], &[*mark, record.len() as u64]].concat();
-    line_of_words(&words) + &line_of_bytes(record)
+    save(folder, list, &questions)
 }
 
 /// What is answered, in words.

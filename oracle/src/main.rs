@@ -2,6 +2,8 @@
 //! rules for its `powf`, `exp` and `ln`. `README.md` has the commands. With `library` it is the driver too,
 //! over the static library of the proved functions. The variable PLACES is the number of the rules' places.
 
+mod ask;
+#[cfg_attr(not(library), allow(dead_code))]
 mod buffer;
 mod cases;
 #[cfg(library)]
@@ -44,7 +46,6 @@ mod field;
 mod function;
 mod gravity;
 mod judged_list;
-mod lists;
 mod load;
 mod promises;
 mod quantity;
@@ -59,9 +60,12 @@ mod record_values;
 mod records;
 mod refusal;
 mod rule_calls;
+mod rule_lists;
 mod sheet;
+#[cfg_attr(not(library), allow(dead_code))]
 mod sheet_call;
 mod sheets;
+mod source_lists;
 mod strict;
 mod trim;
 mod trims;
@@ -71,12 +75,12 @@ mod votes;
 mod warmth;
 mod words;
 mod writer;
+#[cfg_attr(not(library), allow(dead_code))]
 mod writer_call;
 mod writes;
 
 #[path = "../../vectors/rules/exponents.rs"]
 mod exponents;
-#[cfg(library)]
 #[path = "../../vectors/rules/inputs.rs"]
 mod inputs;
 #[path = "../../vectors/rules/places.rs"]
@@ -108,7 +112,7 @@ use std::io;
 use std::path::Path;
 use std::process::ExitCode;
 
-const USE: &str = "oracle lists FOLDER, oracle answers, oracle load [COUNT], oracle distance [POINTS], or oracle warmth [CASES]; driver compare CALLS RECORDS, driver compare-rules CALLS, or driver bench";
+const USE: &str = "oracle lists FOLDER, oracle ask, oracle load [COUNT], oracle distance [POINTS], or oracle warmth [CASES]; driver compare CALLS RECORDS, driver compare-rules CALLS, or driver bench";
 const POINTS: u64 = 100_000;
 const CASES: u64 = 1_000_000;
 
@@ -116,6 +120,7 @@ fn main() -> ExitCode {
     let arguments: Vec<String> = std::env::args().skip(1).collect();
     let arguments: Vec<&str> = arguments.iter().map(String::as_str).collect();
     places::set_by_environment();
+    cases::hold_rules();
     cases::hold(&stock::station::FUNCTIONS);
     cases::hold(&ruled::station::FUNCTIONS);
     cases::hold_reader();
@@ -128,7 +133,7 @@ fn main() -> ExitCode {
                 false
             }
         },
-        ["answers"] => match records::answer(io::stdin().lock()) {
+        ["ask"] => match ask::answer_lines(io::stdin().lock(), io::stdout().lock()) {
             Ok(()) => true,
             Err(error) => {
                 eprintln!("{error}");
@@ -172,7 +177,8 @@ fn main() -> ExitCode {
 }
 
 fn write_lists(folder: &Path) -> io::Result<()> {
-    lists::write(folder)?;
+    rule_lists::write(folder)?;
+    source_lists::write(folder)?;
     records::write(folder)?;
     strict::write(folder)?;
     writes::write(folder)?;

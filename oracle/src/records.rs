@@ -1,6 +1,6 @@
-//! The list `records.txt`: what the first reader answers to records of every kind.
+//! The list `records`: records of every kind, judged by the first reader.
 
-use crate::judged_list::{self, Words};
+use crate::judged_list::{self, Reader, Words};
 use crate::random::Random;
 use crate::ruled::record::{read, Outcome};
 use crate::{record_counts, record_forms, record_moisture, record_range, record_values};
@@ -11,8 +11,12 @@ use std::path::Path;
 const NUMBERS: [u64; 16] = [0, 1, 2, 3, 4, 5, 6, 7, 8, 9, 10, 11, 12, 13, 14, 15];
 
 pub fn write(folder: &Path) -> io::Result<()> {
-    let records = all(&mut Random(0));
-    judged_list::write(&folder.join("records.txt"), records, read, &NUMBERS)
+    let reader = Reader {
+        question: "judge",
+        read,
+        numbers: &NUMBERS,
+    };
+    judged_list::write(folder, "records", all(&mut Random(0)), reader)
 }
 
 /// The list's records, some of them more than once.
@@ -25,17 +29,7 @@ pub fn all(random: &mut Random) -> Vec<Vec<u8>> {
     records
 }
 
-/// What the program prints for each record of the input, a line of hex digits each.
-pub fn answer(input: impl io::BufRead) -> io::Result<()> {
-    for line in input.lines() {
-        let line = line?;
-        let byte = |i: usize| u8::from_str_radix(&line[i..i + 2], 16).expect("hex digits");
-        let record: Vec<u8> = (0..line.len()).step_by(2).map(byte).collect();
-        print!("{}", text(&read(&record)));
-    }
-    Ok(())
-}
-
+/// What the program `station_air` prints.
 pub fn text(outcome: &Outcome) -> String {
     let Words {
         number,

@@ -1,22 +1,21 @@
-//! Writes the list `sheets.txt`: setting sheets of parks, and those that are refused.
+//! The list `sheets`: setting sheets of parks, and those that are refused.
 
-use crate::function::{named, word};
+use crate::function::named;
 use crate::quantity::{edge, near};
 use crate::random::Random;
 use crate::ruled::station::FUNCTIONS;
 use crate::sheet::PAGE;
-use crate::sheet_call::{Sheet, SheetCall};
-use crate::words::{line_of_bytes, line_of_words};
+use crate::sheet_call::SheetCall;
+use crate::words::{double_word, once, save};
+use std::io;
 use std::path::Path;
-use std::{fs, io};
 
 /// Parks that are drawn.
 const PARKS: usize = 45;
 
 pub fn write(folder: &Path) -> io::Result<()> {
     let calls = all(&mut Random(1));
-    let text: String = calls.iter().map(lines).collect();
-    fs::write(folder.join("sheets.txt"), text)
+    save(folder, "sheets", &once(calls.iter().map(question)))
 }
 
 pub fn all(random: &mut Random) -> Vec<SheetCall> {
@@ -28,22 +27,10 @@ pub fn all(random: &mut Random) -> Vec<SheetCall> {
     all
 }
 
-/// Readings, room, status and the value that is handed out, 0 where there is none; then the page after the call.
-fn lines(call: &SheetCall) -> String {
-    let Sheet {
-        status,
-        values,
-        page,
-    } = call.answer();
-    let words = [
-        call.altitude.to_bits(),
-        call.pressure.to_bits(),
-        call.humidity.to_bits(),
-        call.room as u64,
-        status,
-        values.first().map_or(0, |value| word(*value)),
-    ];
-    line_of_words(&words) + &line_of_bytes(&page)
+/// Without the call's room.
+fn question(call: &SheetCall) -> String {
+    let readings = [call.altitude, call.pressure, call.humidity].map(double_word);
+    format!("sheet {}", readings.join(" "))
 }
 
 fn sheet(altitude: f64, pressure: f64, humidity: f64) -> SheetCall {

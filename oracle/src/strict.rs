@@ -1,8 +1,8 @@
-//! The list `strict.txt`: what the strict reader answers.
+//! The list `strict`: records judged by the strict reader.
 
 use crate::draw::usual;
 use crate::field::{fields, record, stored, tag, Order, Stored};
-use crate::judged_list;
+use crate::judged_list::{self, Reader};
 use crate::random::Random;
 use crate::record_fields::{drawn, in_counts, in_either_form, sets_of_tags, shuffled, TAGS};
 use crate::record_forms::header;
@@ -14,13 +14,17 @@ use std::path::Path;
 /// Document 01's, and 19.
 const NUMBERS: [u64; 17] = [0, 1, 2, 3, 4, 5, 6, 7, 8, 9, 10, 11, 12, 13, 14, 15, 19];
 
-/// Of the records of `records.txt` one of so many is here as it comes, and one of so many with its fields rising.
+/// Of the records of `records` one of so many is here as it comes, and one of so many with its fields rising.
 const AS_IT_COMES: usize = 12;
 const RISING: usize = 4;
 
 pub fn write(folder: &Path) -> io::Result<()> {
-    let records = all(&mut Random(0));
-    judged_list::write(&folder.join("strict.txt"), records, read_strictly, &NUMBERS)
+    let reader = Reader {
+        question: "strict",
+        read: read_strictly,
+        numbers: &NUMBERS,
+    };
+    judged_list::write(folder, "strict", all(&mut Random(0)), reader)
 }
 
 pub fn all(random: &mut Random) -> Vec<Vec<u8>> {

@@ -1,22 +1,18 @@
-//! Writes the list `trims.txt`: the trim class of readings, and the change that gives the next.
+//! The list `trims`: the trim class of readings, and the change that gives the next.
 
 use crate::field::{record, stored, Field};
-use crate::function::word;
 use crate::quantity::{edge, near};
 use crate::random::Random;
 use crate::record_fields::{in_counts, in_either_form, shuffled};
 use crate::record_refused::refused_records;
 use crate::ruled::record::read;
-use crate::trim::{trim, Trim, LIMITS};
-use crate::words::{line_of_bytes, line_of_words};
+use crate::trim::LIMITS;
+use crate::words::{record_word, save};
+use std::io;
 use std::path::Path;
-use std::{fs, io};
 
 /// Parks that are drawn.
 const DRAWN: usize = 30;
-
-/// Words after the status.
-const ANSWER: usize = 4;
 
 /// Of the records next to a limit so many have it as their density, to the last bit.
 const AT_A_LIMIT: usize = 4;
@@ -26,8 +22,9 @@ pub fn write(folder: &Path) -> io::Result<()> {
     let density = |record: &Vec<u8>| read(record).ok().map(|answer| answer.figures[3]);
     let at_a_limit = |record: &&Vec<u8>| density(record).is_some_and(|d| LIMITS.contains(&d));
     assert!(records.iter().filter(at_a_limit).count() >= AT_A_LIMIT);
-    let text: String = records.iter().map(|record| lines(record)).collect();
-    fs::write(folder.join("trims.txt"), text)
+    let question = |record: &Vec<u8>| format!("class {}", record_word(record));
+    let questions: Vec<String> = records.iter().map(question).collect();
+    save(folder, "trims", &questions)
 }
 
 pub fn all(random: &mut Random) -> Vec<Vec<u8>> {
@@ -40,33 +37,6 @@ pub fn all(random: &mut Random) -> Vec<Vec<u8>> {
     all.extend(nothing_to_change());
     all.extend(refused_records());
     all
-}
-
-/// The status, the answer and the record's length; then the record.
-fn lines(record: &[u8]) -> String {
-    let (status, mut words) = match trim(record) {
-        Ok(trim) => (0, answer(&trim).map(|n| i64::from(n) as u64).to_vec()),
-        Err(refusal) => {
-            let values = refusal.values.into_iter();
-            (refusal.number, values.map(word).collect())
-        }
-    };
-    words.resize(ANSWER, 0);
-    let words = [&[status], &words[..], &[record.len() as u64]].concat();
-    line_of_words(&words) + &line_of_bytes(record)
-}
-
-/// Class, tag of the changed field, tenths and new class; where there is no change 0, 0 and the class again.
-pub fn answer(trim: &Trim) -> [i32; ANSWER] {
-    match trim.change {
-        Some(change) => [
-            trim.class,
-            change.meaning.into(),
-            change.tenths,
-            change.class,
-        ],
-        None => [trim.class, 0, 0, trim.class],
-    }
 }
 
 /// In either form, half of them humid.

@@ -1,23 +1,21 @@
-//! Writes the list `votes.txt`: votes of three masts.
+//! The list `votes`: votes of three masts.
 
 use crate::draw::{mixed, usual};
 use crate::field::{in_doubles, record, stored, Field, Stored, Value};
-use crate::judged_list::Words;
 use crate::random::Random;
 use crate::record_fields::{drawn, in_either_form, shuffled, READINGS};
-use crate::vote::{vote, Records};
+use crate::vote::Records;
 use crate::vote_refused;
-use crate::words::{line_of_bytes, line_of_words};
+use crate::words::{record_word, save};
+use std::io;
 use std::path::Path;
-use std::{fs, io};
 
 /// Votes that are drawn.
 const DRAWN: usize = 160;
 
 pub fn write(folder: &Path) -> io::Result<()> {
-    let votes = all(&mut Random(7));
-    let text: String = votes.iter().map(lines).collect();
-    fs::write(folder.join("votes.txt"), text)
+    let questions: Vec<String> = all(&mut Random(7)).iter().map(question).collect();
+    save(folder, "votes", &questions)
 }
 
 pub fn all(random: &mut Random) -> Vec<Records> {
@@ -28,18 +26,9 @@ pub fn all(random: &mut Random) -> Vec<Records> {
     all
 }
 
-/// Status, mast, figures or values, mark and the records' lengths; then the records, a line each.
-fn lines(records: &Records) -> String {
-    let vote = vote(records);
-    let Words {
-        number,
-        figures,
-        mark,
-    } = Words::of(&vote.outcome);
-    let lengths = records.each_ref().map(|record| record.len() as u64);
-    let words = [&[number, vote.mast], &figures[..], &[mark], &lengths].concat();
-    let records = records.each_ref().map(|record| line_of_bytes(record));
-    line_of_words(&words) + &records.concat()
+fn question(records: &Records) -> String {
+    let [first, second, third] = records.each_ref().map(|record| record_word(record));
+    format!("vote {first} {second} {third}")
 }
 
 /// Readings of one kind, in any forms and orders. Half of the masts are near each other, as masts of one park are.

@@ -1,12 +1,12 @@
-//! Writes the list `writes.txt`: what the writer of `writer.rs` answers, and what its buffer holds after the call.
+//! The list `writes`: sets of fields for the writer of `writer.rs`.
 
 use crate::draw::{mixed, pattern, usual, Draw};
 use crate::random::Random;
-use crate::record_fields::{drawn, TAGS};
-use crate::words::{line_of_bytes, line_of_words};
+use crate::record_fields::{drawn, shuffled, TAGS};
+use crate::words::{double_word, once, save};
 use crate::writer_call::{WriterCall, ABSENT, COUNT, DOUBLE, MEANINGS};
+use std::io;
 use std::path::Path;
-use std::{fs, io};
 
 /// Calls that are drawn.
 const DRAWN: usize = 400;
@@ -36,9 +36,10 @@ const SPECIAL: [u64; 12] = [
 const SPECIAL_COUNTS: [i32; 6] = [i32::MIN, i32::MAX, 0, 1, -1, 0x0123_4567];
 
 pub fn write(folder: &Path) -> io::Result<()> {
-    let calls = all(&mut Random(4));
-    let text: String = calls.iter().map(lines).collect();
-    fs::write(folder.join("writes.txt"), text)
+    let random = &mut Random(4);
+    let calls = all(random);
+    let questions = calls.iter().map(|call| question(call, random));
+    save(folder, "writes", &once(questions))
 }
 
 pub fn all(random: &mut Random) -> Vec<WriterCall> {
@@ -49,14 +50,19 @@ pub fn all(random: &mut Random) -> Vec<WriterCall> {
     all
 }
 
-/// Room, status and length, the forms, the values and the counts; then the buffer after the call.
-fn lines(call: &WriterCall) -> String {
-    let written = call.answer();
-    let mut words = vec![call.room as u64, written.status, written.length_or_0()];
-    words.extend(call.forms.iter().map(|form| u64::from(*form)));
-    words.extend(call.values.iter().map(|value| value.to_bits()));
-    words.extend(call.counts.iter().map(|count| u64::from(*count as u32)));
-    line_of_words(&words) + &line_of_bytes(&written.out)
+/// The call's fields, in any order. A question has no room.
+fn question(call: &WriterCall, random: &mut Random) -> String {
+    let mut fields = Vec::new();
+    for (i, form) in call.forms.iter().enumerate() {
+        match *form {
+            DOUBLE => fields.push(format!("{:02X}={}", i + 1, double_word(call.values[i]))),
+            COUNT => fields.push(format!("{:02X}={:08X}", i + 0x11, call.counts[i])),
+            _ => {}
+        }
+    }
+    let order = shuffled(&(0..fields.len()).collect::<Vec<usize>>(), random);
+    let fields: String = order.iter().map(|i| format!(" {}", fields[*i])).collect();
+    format!("write{fields}")
 }
 
 /// A call with values and counts for all meanings that are drawn.

@@ -10,7 +10,7 @@ use Rattle.antilog.specs.Log.{logWord}
 use Rattle.arithmetic.specs.Places.{places}
 use Rattle.atmosphere.specs.declared.station.Reading.{Reading}
 use Rattle.atmosphere.specs.declared.station.Reading.the-variants.{Given, FromLayer}
-use Rattle.promises.specs.Promises.{IsDouble, IsRead, Asked, Warmed, Document01, Demand3, K1, K2, K4, K5, K6, K7, K8, K9, K10, K13, K14, AtThePark, Promises, K3, K11, Reports, Decimals}
+use Rattle.promises.specs.Promises.{IsDouble, IsRead, Asked, Warmed, Document01, Demand3, K1, K2, K4, K5, K6, K7, K8, K9, K10, K13, K14, Near, AltitudesNear, AtThePark, Promises, K3, K11, Reports, Decimals}
 use Rattle.density_altitude.specs.Inverse.{station}
 use Rattle.density_order.specs.Order.{Demand₃}
 use Rattle.density_order.specs.Warmer.{InBetween}
@@ -77,6 +77,20 @@ use Rattle.conversion.proofs.Causes as conversions
 use Rattle.middle.proofs.OfThree as three
 use Rattle.vote.proofs.Causes as votes
 use Rattle.trim.proofs.Causes as classes
+use Rattle.near.proofs.Density as densities
+use Rattle.near.proofs.Sound as sound
+use Rattle.near.proofs.Pressure as saturation
+use Rattle.near.proofs.Exists as exists
+use Rattle.near.proofs.Records as near-records
+use Rattle.near.proofs.Paper as paper
+use Rattle.near.proofs.Rises as sound-rises
+use Rattle.altitudes_near.proofs.StandardNear as standard
+use Rattle.altitudes_near.proofs.QnhNear as reduced
+use Rattle.altitudes_near.proofs.PressureAltitudeNear as of-pressure
+use Rattle.altitudes_near.proofs.DensityAltitudeNear as of-density
+use Rattle.altitudes_near.proofs.RecordNear as altitudes-of-records
+use Rattle.near.proofs.Falls as falls
+use Rattle.near.proofs.Sheets as near-sheets
 
 nearest-root : (x : Float) → IsDouble x → T (positive x) → NearestRoot x (sqrt x)
 nearest-root (fin false (suc m) e) f g = root.sqrt-nearest m e f
@@ -323,6 +337,47 @@ k11 = record {
   density-uses-it = moisture.density-of-fraction;
 }
 
+near-formulas : Near
+near-formulas = record {
+  density-near = densities.density-near;
+  dry-density-near = densities.dry-density-near;
+  fraction-near = densities.fraction-near;
+  sound-near = sound.sound-near;
+  saturation-near = saturation.saturation-near;
+  saturation-nearly = saturation.saturation-nearly;
+  saturation-exists = exists.saturation-exists;
+  saturation-exists-celsius = exists.saturation-exists-celsius;
+  speed-exists = sound.speed-exists;
+  record-density = near-records.record-density-near;
+  record-fraction = near-records.record-fraction-near;
+  record-sound = near-records.record-sound-near;
+  printed-near = paper.printed-near;
+  class-near = paper.class-near;
+  sqrt-rises = sound-rises.sqrt-rises;
+  dry-sound-rises = sound-rises.dry-sound-rises;
+  dry-density-falls = falls.dry-density-falls;
+  dry-sheet-falls = near-sheets.dry-sheet-falls;
+}
+
+altitudes-near : AltitudesNear
+altitudes-near = record {
+  standard-temperature = λ h r. (standard.standard-air-near .kelvins h r, standard.standard-air-near .degrees h r);
+  standard-pressure = λ h r p. (standard.standard-air-near .pascals h r p, standard.standard-air-near .shown-pressure h r p);
+  standard-in-scope = λ altitude h r s. record { temperature = standard.standard-air-near .degrees-in-range altitude r; pressure = standard.standard-air-near .pressure-in-range altitude r; humidity = s };
+  qnh-near = reduced.qnh-near .reduced;
+  pressure-altitude-near = of-pressure.pressure-altitude-near .metres;
+  density-altitude-near = of-density.density-altitude-near .metres;
+  pressure-ratio-exists = standard.standard-air-near .ratios;
+  reduction-exists = reduced.qnh-near .reductions;
+  raised-pressure-exists = of-pressure.pressure-altitude-near .powers;
+  raised-density-exists = of-density.density-altitude-near .powers;
+  record-temperature = λ r f e. altitudes-of-records.records-near r f e .layer-temperature;
+  record-pressure = λ r f e. altitudes-of-records.records-near r f e .layer-pressure;
+  record-qnh = λ r f e. altitudes-of-records.records-near r f e .qnh-pressure;
+  record-pressure-altitude = λ r f e. altitudes-of-records.records-near r f e .pressure-altitude;
+  record-density-altitude = λ r f e. altitudes-of-records.records-near r f e .density-altitude;
+}
+
 at-the-park : AtThePark
 at-the-park = record {
   typed-decimals = computed.typed-decimals;
@@ -368,6 +423,8 @@ promises = record {
   k12 = record { same-station = λ r q h f g e k. let same = humidity.humidity-leaves-the-station r q h f g e k in (same .altitudes, (same .temperatures, same .pressures)) };
   k13 = k13;
   k14 = k14;
+  near = near-formulas;
+  altitudes-near = altitudes-near;
   at-the-park = at-the-park;
   reports = reports;
   decimals = decimals;

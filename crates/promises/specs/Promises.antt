@@ -32,8 +32,10 @@ use Rattle.thousandths.specs.Thousandths.{inRange, countOf, wordOf, thousandths
 use Rattle.thousandths.specs.declared.Counted.the-variants as counted
 use Rattle.atmosphere.specs.declared.station.Reading.{Reading}
 use Rattle.atmosphere.specs.declared.station.Reading.the-variants.{Given, FromLayer}
-use Rattle.atmosphere.specs.Layers.{layerAt, OnlyRange, highestUpTo}
-use Rattle.altitudes.specs.Altitudes.{faaDensityAltitude}
+use Rattle.atmosphere.specs.Layers.{layerAt, OnlyRange, highestUpTo, standardAir}
+use Rattle.atmosphere.specs.Station.{reducedQnh}
+use Rattle.air.specs.Matched.{densityMatchedAltitude}
+use Rattle.altitudes.specs.Altitudes.{faaDensityAltitude, pressureAltitude}
 use Rattle.refusal.specs.Outcomes.{Outcome, accepted, refused, _then_, _⟫_, row, numbers}
 use Rattle.refusal.specs.Causes.{ExactlyCaused, NoneHolds}
 use Rattle.density_altitude.specs.Inverse.{resolve, stationRows, station}
@@ -47,11 +49,11 @@ use Rattle.fields.specs.Tags.{tags, Rising}
 use Rattle.record.specs.Readings.{readings, readRecord, readRows}
 use Rattle.answered.specs.declared.inverse.Station.{Station}
 use Rattle.answered.specs.declared.judge.Figures.{Figures}
-use Rattle.station.specs.Figures.{figuresOf}
+use Rattle.station.specs.Figures.{shownCelsius, shownHectopascals, figuresOf}
 use Rattle.mast.specs.Judge.{resolved, readingRows, recordRows, judged, judgeBy, judge, judgeStrictly, airOutcome}
 use Rattle.mast.specs.Laws.{without}
 use Rattle.limits.specs.Checks.{has}
-use Rattle.sheet.specs.Row.{rowOutcome, figuresOutcome}
+use Rattle.sheet.specs.Row.{station as rowStation, rowOutcome, figuresOutcome}
 use Rattle.sheet.specs.Sheet.{celsius, rows, settingSheet, inputRows}
 use Rattle.sheet.specs.Laws.{HandedOut, linesRows, linesText, repeated}
 use Rattle.writer.specs.Records.{recordOf}
@@ -104,7 +106,20 @@ use Rattle.air.specs.Station.{kelvins, pascals, atmosphere}
 use Rattle.fault.specs.Fault.{readingOf}
 use Rattle.writer.specs.Written.{lengthWritten}
 use Rattle.middle.specs.Middle as three
-use Rattle.trim_class.specs.Classes.{classOf}
+use Rattle.trim_class.specs.Classes.{classDensities, classOf}
+use Rattle.saturation.specs.Saturation.{saturationPressure}
+use Rattle.exact.specs.Exact.{Exact, _⊟_, _÷_, _⊞_, the, number, isNotAbove}
+use Rattle.exact.specs.Near.{IsNear, IsNearly, Between}
+use Rattle.exact.specs.Powers.{of, IsRoot}
+use Rattle.near.specs.Density.{density}
+use Rattle.near.specs.Saturation.{Saturation, pressure as pressureOf}
+use Rattle.near.specs.Sound.{squaredSpeed}
+use Rattle.near.specs.Near.{kelvin, pascal, vapour, InScope}
+use Rattle.near.specs.Paper.{IsPrinted, exactCount, FarFromEach}
+use Rattle.altitudes_near.specs.Troposphere as troposphere
+use Rattle.altitudes_near.specs.QnhNear as reduction
+use Rattle.altitudes_near.specs.PressureAltitudeNear as nws
+use Rattle.altitudes_near.specs.DensityAltitudeNear as matched
 
 -- a double, and a reading that is one if it is given
 abbrev pub IsDouble : Float → Type 0
@@ -423,6 +438,85 @@ pub record K14 : Type 0 where
   pub ln-near : (b : Fraction) → 0 < b .under → eBelow isAtMost b → b isAtMost eAbove → (x : Float) → IsDouble x → T (positive x)
       → LnWithin 60 b x (floorDiv (logWord 60 x *ℤ pos ln2) (2 ^ 62))
 
+-- ---- how near the figures are to the documents' formulas in exact numbers, at -40 to 50 °C, 500 to 1,100 hPa and 0 to 100 percent (`InScope t p h`). `IsNear 45 x X`
+-- says that the double x is no further than 2^-45 from the number X, which nothing has rounded; `shownCelsius` and `shownHectopascals` are what is shown of a
+-- temperature and of a pressure that are given or the standard atmosphere's. Roots and powers of e are no fractions: each promise holds for all fractions that stand for them.
+pub record Near : Type 0 where
+  -- the density, CIPM-2007, equation (1), with the saturation pressure of the IAPWS release: within 2^-45 kg/m³, which is 2.8e-14, and of dry air 2^-47
+  pub density-near : (altitude : Float) (t₀ p₀ : Reading) (h : Float) → let t = shownCelsius t₀ altitude in let p = shownHectopascals p₀ altitude in InScope t p h → (s : Saturation (kelvin t))
+      → IsNear 45 (atmosphere places altitude t₀ p₀ h .«density_kg_m3») (density (pascal p) (kelvin t) (vapour t p h s))
+  pub dry-density-near : (altitude : Float) (t₀ p₀ : Reading) → let t = shownCelsius t₀ altitude in let p = shownHectopascals p₀ altitude in InScope t p nought
+      → IsNear 47 (atmosphere places altitude t₀ p₀ nought .«density_kg_m3») (density (pascal p) (kelvin t) (the "0"))
+  -- the mole fraction of water vapour, x_v = h f p_sv / p: within 2^-44
+  pub fraction-near : (altitude : Float) (t₀ p₀ : Reading) (h : Float) → let t = shownCelsius t₀ altitude in let p = shownHectopascals p₀ altitude in InScope t p h → (s : Saturation (kelvin t))
+      → IsNear 44 (atmosphere places altitude t₀ p₀ h .«vapor_mole_fraction») (vapour t p h s)
+  -- the speed of sound, c^2 = γ R T: within 2^-37 m/s, which is 7.3e-12
+  pub sound-near : (altitude : Float) (t₀ p₀ : Reading) (h : Float) → let t = shownCelsius t₀ altitude in let p = shownHectopascals p₀ altitude in InScope t p h → (s : Saturation (kelvin t))
+      → (c : Fraction) → IsRoot c (squaredSpeed (kelvin t) (vapour t p h s)) → IsNear 37 (atmosphere places altitude t₀ p₀ h .«speed_of_sound_mps») (of c)
+  -- the saturation pressure, IAPWS SR1-86(1992), equation (1): within 2^-35 hPa, and within one part in 2^41 of itself
+  pub saturation-near : (T : Float) → Between (decimal "233.15") (decimal "323.15") T → (s : Saturation (number T)) → IsNear 35 (saturationPressure places T) (pressureOf s)
+  pub saturation-nearly : (T : Float) → Between (decimal "233.15") (decimal "323.15") T → (s : Saturation (number T)) → IsNearly 41 (saturationPressure places T) (pressureOf s)
+  -- there are such fractions everywhere, so none of this is said of nothing
+  pub saturation-exists : (T : Float) → Between (decimal "233.15") (decimal "323.15") T → Saturation (number T)
+  pub saturation-exists-celsius : (t : Float) → Between (decimal "-40") (decimal "50") t → Saturation (kelvin t)
+  pub speed-exists : (t p h : Float) → InScope t p h → (s : Saturation (kelvin t)) → (c : Fraction) × IsRoot c (squaredSpeed (kelvin t) (vapour t p h s))
+  -- so the figures of every accepted record that shows a temperature and a pressure of these ranges, measured, of a QNH or of the standard atmosphere
+  pub record-density : (r : Readings) (f : Figures) → judged r ≡ accepted f → let t = f .«temperature_c» in let p = f .«pressure_hpa» in let h = resolved r .«humidity_percent» in InScope t p h
+      → (s : Saturation (kelvin t)) → IsNear 45 (f .«density_kg_m3») (density (pascal p) (kelvin t) (vapour t p h s))
+  pub record-fraction : (r : Readings) (f : Figures) → judged r ≡ accepted f → let t = f .«temperature_c» in let p = f .«pressure_hpa» in let h = resolved r .«humidity_percent» in InScope t p h
+      → (s : Saturation (kelvin t)) → IsNear 44 (f .«vapor_mole_fraction») (vapour t p h s)
+  pub record-sound : (r : Readings) (f : Figures) → judged r ≡ accepted f → let t = f .«temperature_c» in let p = f .«pressure_hpa» in let h = resolved r .«humidity_percent» in InScope t p h
+      → (s : Saturation (kelvin t)) (c : Fraction) → IsRoot c (squaredSpeed (kelvin t) (vapour t p h s)) → IsNear 37 (f .«speed_of_sound_mps») (of c)
+  -- what is printed with j decimals lies within half a unit of the last of them and 2^-k of the number to which the figure is near: the density on the sheet and in
+  -- the report, with four decimals, within 0.00005 and 2^-45 kg/m³ of the formula
+  pub printed-near : (j k : ℕ) (x : Float) (X : Exact) → IsDouble x → IsNear k x X → IsPrinted j k (decimalText j x) X
+  -- the trim class is that of the exact density, the count of the limits at or below it, unless it lies within 2^-45 kg/m³ of a limit
+  pub class-near : (r : Readings) (f : Figures) → judged r ≡ accepted f → let t = f .«temperature_c» in let p = f .«pressure_hpa» in let h = resolved r .«humidity_percent» in InScope t p h
+      → (s : Saturation (kelvin t)) → let ρ = density (pascal p) (kelvin t) (vapour t p h s) in FarFromEach 45 ρ classDensities → classOf r ≡ accepted (exactCount classDensities ρ)
+  -- the root of a greater number is no less, and so the speed of sound in dry air never falls where the temperature rises, at any two altitudes and pressures
+  pub sqrt-rises : (x y : Float) → IsDouble x → IsDouble y → T (positive x) → T (positive y) → T (le x y) → T (le (sqrt x) (sqrt y))
+  pub dry-sound-rises : (altitude altitude' t u p q : Float) → InScope t p nought → InScope u q nought → T (le t u)
+      → T (le (atmosphere places altitude (Given t) (Given p) nought .«speed_of_sound_mps») (atmosphere places altitude' (Given u) (Given q) nought .«speed_of_sound_mps»))
+  -- and the density of dry air at one pressure falls with every degree, and so down a dry sheet of any pressure from 500 to 1,100 hPa, over its 51 rows
+  pub dry-density-falls : (altitude altitude' t u p : Float) → InScope t p nought → InScope u p nought → T (isNotAbove (number t ⊞ the "1") (number u))
+      → T (lt (atmosphere places altitude' (Given u) (Given p) nought .«density_kg_m3») (atmosphere places altitude (Given t) (Given p) nought .«density_kg_m3»))
+  pub dry-sheet-falls : (altitude p : Float) → Between (decimal "500") (decimal "1100") p → (m n : ℕ) → m < n → n < 51
+      → T (lt (figuresOf (rowStation altitude p nought (celsius n)) .«density_kg_m3») (figuresOf (rowStation altitude p nought (celsius m)) .«density_kg_m3»))
+
+-- ---- how near the standard atmosphere, the pressure of a QNH and the altitudes are to their formulas, in the same way; powers are no fractions either
+pub record AltitudesNear : Type 0 where
+  -- the standard temperature, ICAO Doc 7488, T = T_b + β (H - H_b) with H = r h / (r + h): within 2^-42 K, which is 2.3e-13, in K and as it is shown
+  pub standard-temperature : (h : Float) → Between (decimal "-500") (decimal "11000") h
+      → IsNear 42 (standardAir places h .«temperature_k») (troposphere.temperature (number h)) × IsNear 42 (shownCelsius FromLayer h) (troposphere.temperature (number h) ⊟ the "273.15")
+  -- the standard pressure, p = p_b (1 + β / T_b (H - H_b)) ^ (-g₀ / (β R)): within 2^-31 Pa, which is 4.7e-10, and as it is shown within 2^-37 hPa
+  pub standard-pressure : (h : Float) → Between (decimal "-500") (decimal "11000") h → (p : troposphere.PressureRatio (number h))
+      → IsNear 31 (standardAir places h .«pressure_pa») (troposphere.pressure p) × IsNear 37 (shownHectopascals FromLayer h) (troposphere.pressure p ÷ the "100")
+  -- up to 5,000 m the standard air lies in these ranges
+  pub standard-in-scope : (altitude h : Float) → Between (decimal "-500") (decimal "5000") altitude → Between (decimal "0") (decimal "100") h → InScope (shownCelsius FromLayer altitude) (shownHectopascals FromLayer altitude) h
+  -- a QNH reduced to the station, QNH (1 + (L H / T0) (P0 / QNH) ^ n) ^ (1 / n) with n = -L R / g: within 2^-37 hPa, which is 7.3e-12
+  pub qnh-near : (qnh h : Float) → Between (decimal "500") (decimal "1100") qnh → Between (decimal "-500") (decimal "5000") h → (r : reduction.Reduction (number qnh) (number h)) → IsNear 37 (reducedQnh places qnh h) (reduction.station r)
+  -- the pressure altitude, National Weather Service, 145366.45 ft (1 - (p / 1013.25) ^ 0.190284): within 2^-36 m, which is 1.5e-11
+  pub pressure-altitude-near : (p : Float) → Between (decimal "500") (decimal "1100") p → (r : nws.RaisedPressure (number p)) → IsNear 36 (pressureAltitude places p) (nws.nwsAltitude r)
+  -- the density-matched altitude, T_0 / -β (1 - (ρ / ρ_0) ^ (1 / n)) with n = -g₀ / (β R) - 1, at the exact density: within 2^-30 m, which is 9.3e-10
+  pub density-altitude-near : (t p h : Float) → InScope t p h → (s : Saturation (kelvin t)) (r : matched.RaisedDensity (matched.airDensity t p h s)) → IsNear 30 (densityMatchedAltitude places t p h) (matched.matchedAltitude r)
+  -- there are such fractions everywhere
+  pub pressure-ratio-exists : (h : Float) → Between (decimal "-500") (decimal "11000") h → troposphere.PressureRatio (number h)
+  pub reduction-exists : (qnh h : Float) → Between (decimal "500") (decimal "1100") qnh → Between (decimal "-500") (decimal "5000") h → reduction.Reduction (number qnh) (number h)
+  pub raised-pressure-exists : (p : Float) → Between (decimal "500") (decimal "1100") p → nws.RaisedPressure (number p)
+  pub raised-density-exists : (t p h : Float) → InScope t p h → (s : Saturation (kelvin t)) → matched.RaisedDensity (matched.airDensity t p h s)
+  -- so every accepted record whose temperature or pressure comes from the layer
+  pub record-temperature : (r : Readings) (f : Figures) → judged r ≡ accepted f → resolved r .temperature ≡ FromLayer → let h = f .«altitude_m» in Between (decimal "-500") (decimal "11000") h
+      → IsNear 42 (f .«temperature_c») (troposphere.temperature (number h) ⊟ the "273.15")
+  pub record-pressure : (r : Readings) (f : Figures) → judged r ≡ accepted f → resolved r .pressure ≡ FromLayer → let h = f .«altitude_m» in Between (decimal "-500") (decimal "11000") h → (p : troposphere.PressureRatio (number h))
+      → IsNear 37 (f .«pressure_hpa») (troposphere.pressure p ÷ the "100")
+  -- or has a QNH, and the altitudes of every one
+  pub record-qnh : (r : Readings) (f : Figures) → judged r ≡ accepted f → (q : Float) → entryOf r meaning.qnh ≡ Present q → let h = f .«altitude_m» in Between (decimal "500") (decimal "1100") q → Between (decimal "-500") (decimal "5000") h
+      → (p : reduction.Reduction (number q) (number h)) → IsNear 37 (f .«pressure_hpa») (reduction.station p)
+  pub record-pressure-altitude : (r : Readings) (f : Figures) → judged r ≡ accepted f → Between (decimal "500") (decimal "1100") (f .«pressure_hpa») → (p : nws.RaisedPressure (number (f .«pressure_hpa»)))
+      → IsNear 36 (f .«pressure_altitude_m») (nws.nwsAltitude p)
+  pub record-density-altitude : (r : Readings) (f : Figures) → judged r ≡ accepted f → let t = f .«temperature_c» in let p = f .«pressure_hpa» in let h = resolved r .«humidity_percent» in InScope t p h
+      → (s : Saturation (kelvin t)) (x : matched.RaisedDensity (matched.airDensity t p h s)) → IsNear 30 (f .«density_matched_altitude_m») (matched.matchedAltitude x)
+
 -- ---- typed at the park
 pub record AtThePark : Type 0 where
   -- decimals as they are typed, and whole reports
@@ -472,6 +566,8 @@ pub record Promises : Type 0 where
   pub k12 : K12
   pub k13 : K13
   pub k14 : K14
+  pub near : Near
+  pub altitudes-near : AltitudesNear
   pub at-the-park : AtThePark
   pub reports : Reports
   pub decimals : Decimals

@@ -1,0 +1,65 @@
+-- The altitudes of an accepted record are near, and so are a temperature and a pressure from the layer or from a QNH. Assumes nothing.
+use mathlib.Core.Path.{_≡_, refl, sym, subst}
+use mathlib.Core.Bool.{Bool, true, false, _&&_, _||_, true≢false}
+use lib.Dec.{lit≤}
+use lib.Ieee.{Float}
+use Rattle.arithmetic.specs.Places.{places}
+use Rattle.entries.specs.declared.Entry.{Entry}
+use Rattle.entries.specs.declared.Entry.the-variants.{Absent, Present}
+use Rattle.entries.specs.declared.Readings.{Readings}
+use Rattle.entries.specs.Entries.{isPresent, entryOf, valueOrZero}
+use Rattle.fields.specs.Fields.{altitude, stationPressure, qnh, densityAltitude, measuredPressure}
+use Rattle.limits.specs.Checks.{has, isClash}
+use Rattle.atmosphere.specs.declared.station.Reading.{Reading}
+use Rattle.atmosphere.specs.declared.station.Reading.the-variants.{Given}
+use Rattle.atmosphere.specs.Station.{reducedQnh}
+use Rattle.resolved.specs.Resolved.{unmeasuredPressure, measuredOr, resolvedPressure, ordinary}
+use Rattle.air.specs.Station.{celsius, hectopascals}
+use Rattle.station.specs.Figures.{shownTemperature, shownPressure, figuresWith, figuresOf}
+use Rattle.mast.specs.Judge.{resolvedBy, resolved}
+use Rattle.record_laws.proofs.Pressures.{of-accepted}
+use Rattle.exact.specs.Exact.{_⊟_, _÷_, the, number}
+use Rattle.exact.specs.Near.{IsNear}
+use Rattle.exact.proofs.NoFurther.{no-further}
+use Rattle.altitudes_near.specs.Troposphere as troposphere
+use Rattle.altitudes_near.specs.QnhNear as reduction
+use Rattle.altitudes_near.specs.RecordNear.{RecordNear, RecordsNear}
+use Rattle.altitudes_near.proofs.StandardNear.{near}
+use Rattle.altitudes_near.proofs.QnhNear.{reduced-near}
+use Rattle.altitudes_near.proofs.PressureAltitudeNear.{metres-near}
+use Rattle.altitudes_near.proofs.DensityAltitudeNear.{altitude-near}
+
+-- ---- a QNH is the only pressure of what is accepted, and it is reduced at the altitude
+only-qnh : (s m d : Entry) (a : Bool) → ((isPresent s && true) || (isPresent m && (isPresent s || true)) || (isPresent d && (a || isPresent s || true || isPresent m))) ≡ false → (s ≡ Absent) × (m ≡ Absent) × (d ≡ Absent)
+only-qnh (Present p) m d a h = absurd (true≢false h)
+only-qnh Absent (Present p) d a h = absurd (true≢false h)
+only-qnh Absent Absent (Present p) true h = absurd (true≢false h)
+only-qnh Absent Absent (Present p) false h = absurd (true≢false h)
+only-qnh Absent Absent Absent a h = (refl, refl, refl)
+
+qnh-reduced : (r : Readings) → isClash r ≡ false → (q : Float) → entryOf r qnh ≡ Present q → resolved r .pressure ≡ Given (reducedQnh places q (resolved r .«altitude_m»))
+unfolding ordinary
+qnh-reduced r apart q is04 =
+    let S : Entry = entryOf r stationPressure in
+    let M : Entry = entryOf r measuredPressure in
+    let D : Entry = entryOf r densityAltitude in
+    let alone = only-qnh S M D (has r altitude) (subst (λ (x : Entry). ((isPresent S && isPresent x) || (isPresent M && (isPresent S || isPresent x)) || (isPresent D && (has r altitude || isPresent S || isPresent x || isPresent M))) ≡ false) is04 apart) in
+    subst (λ (d : Entry). resolvedBy r d .pressure ≡ Given (reducedQnh places q (resolvedBy r d .«altitude_m»))) (sym (alone .2))
+    (λ i. resolvedPressure (measuredOr (alone .1 i) (unmeasuredPressure (alone .0 i) (is04 i))) (valueOrZero (entryOf r altitude)))
+
+-- ---- the figures of what is resolved
+resolved-near : (r : Readings) → isClash r ≡ false → RecordNear r (figuresOf (resolved r))
+unfolding figuresWith
+resolved-near r apart =
+    let a = resolved r in
+    let h = a .«altitude_m» in
+    record {
+      layer-temperature = λ e low. no-further _ 42 _ _ (lit≤ tt) (subst (λ (t : Reading). IsNear 42 (celsius 60 h t) (troposphere.temperature (number h) ⊟ the "273.15")) (sym e) (near h low .celsius-near));
+      layer-pressure = λ e low p. no-further _ 37 _ _ (lit≤ tt) (subst (λ (q : Reading). IsNear 37 (hectopascals 60 h q) (troposphere.pressure p ÷ the "100")) (sym e) (near h low .hectopascals-near p));
+      qnh-pressure = λ q is04 q-range h-range p. no-further _ 37 _ _ (lit≤ tt) (subst (λ (z : Reading). IsNear 37 (hectopascals 60 h z) (reduction.station p)) (sym (qnh-reduced r apart q is04)) (reduced-near q h q-range h-range p));
+      pressure-altitude = λ range p. no-further _ 36 _ _ (lit≤ tt) (metres-near (shownPressure a) range p);
+      density-altitude = λ range s x. no-further _ 30 _ _ (lit≤ tt) (altitude-near (shownTemperature a) (shownPressure a) (a .«humidity_percent») range s x);
+    }
+
+pub records-near : RecordsNear
+records-near r f e = subst (RecordNear r) (of-accepted r e .1) (resolved-near r (of-accepted r e .0 .0))

@@ -1,0 +1,4 @@
+// Reads lines from standard input and answers each.
+fn main() {
+    ask_run::run();
+}

@@ -1,0 +1,2 @@
+-- One line more is answered.
+pub mod OneMore

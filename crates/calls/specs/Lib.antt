@@ -1,3 +1,0 @@
--- What the contracts of `calls` cite.
-pub mod Source
-pub mod Figures

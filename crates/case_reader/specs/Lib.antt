@@ -1,2 +1,0 @@
--- What the contracts of `case_reader` cite.
-pub mod Within

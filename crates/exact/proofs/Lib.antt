@@ -1,0 +1,25 @@
+-- How a rounded formula follows the exact one, a file for each idea.
+pub mod Errors
+pub mod Rounded
+pub mod Tracks
+pub mod Terms
+pub mod Tests
+pub mod Ranges
+pub mod Parts
+pub mod Relative
+pub mod HalfUnits
+pub mod Above
+pub mod PositiveNear
+pub mod HalfPower
+pub mod RootTracks
+pub mod ExpTracks
+pub mod Values
+pub mod Exists
+pub mod SameSide
+pub mod Fractions
+pub mod RaisedNear
+pub mod PowerUnits
+pub mod PowerTracks
+pub mod Sides
+pub mod Kept
+pub mod NoFurther

@@ -1,0 +1,16 @@
+-- `function_answers::rules::put_log_word` meets its contract. Assumes nothing.
+use mathlib.Core.Path.{ap, _∙_}
+use Rattle.arithmetic.specs.Places.{places}
+use Rattle.antilog.specs.Log.{logarithm}
+use Rattle.pieces.proofs.Growing.{same-more}
+use Rattle.function_answers.specs.Rules.{logLine, logAnswer}
+use borrow.Author.Needs.{needs}
+use Rattle.function_answers.proofs.rules.put_log_word.Statement.{statement}
+use Rattle.function_answers.proofs.rules.put_log_word.Tie as tie
+
+returns : tie.Need-returns
+unfolding logAnswer
+returns c = same-more (ap logLine ((c .before .before .before .before .log-word .ensures) ∙ ap (logarithm places) (c .before .before .before .before .before .double-at .ensures .0))) (c .before .before .put-logarithm .ensures)
+
+pub put-log-word-spec : {M : Type 1} → statement M
+put-log-word-spec = tie.close (tie.spec (λ c κs. search needs) (λ c κs. search needs) (λ c κs. search needs) (λ c. search needs) returns)

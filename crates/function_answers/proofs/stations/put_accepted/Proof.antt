@@ -1,0 +1,24 @@
+-- `function_answers::stations::put_accepted` meets its contract. Assumes nothing.
+use Rattle.pieces.proofs.Growing.{and-then}
+use Rattle.function_answers.specs.Stations.{acceptedLine}
+use borrow.Author.Needs.{needs}
+use Rattle.function_answers.proofs.stations.put_accepted.Statement.{statement}
+use Rattle.function_answers.proofs.stations.put_accepted.Tie as tie
+
+returns : tie.Need-returns
+unfolding acceptedLine
+returns c = and-then (and-then (and-then (and-then (c .before .before .before .before .before .before .before .before .before .before .before .before .before .before .before .before .before .before .before .put .ensures .0) (c .before .before .before .before .before .before .before .before .before .before .before .before .before .before .before .put-next-value .ensures)) (c .before .before .before .before .before .before .before .before .before .before .before .put-next-value2 .ensures)) (c .before .before .before .before .before .before .before .put-next-value3 .ensures)) (c .before .before .put2 .ensures .0)
+
+pub put-accepted-spec : {M : Type 1} → statement M
+put-accepted-spec =
+    tie.close
+    (tie.spec
+    (λ c. search needs)
+    (λ c κs. search needs)
+    (λ c κs. search needs)
+    (λ c κs. search needs)
+    (λ c κs. search needs)
+    (λ c. search needs)
+    (λ c κs. search needs)
+    (λ c. search needs)
+    returns)

@@ -1,0 +1,2 @@
+-- A record that is read into a buffer.
+pub mod Buffer

@@ -1,2 +1,0 @@
--- What the contracts of `list_shapes` cite.
-pub mod Shapes

@@ -1,2 +1,0 @@
--- What the contract of `printed_agrees` cites.
-pub mod Printed

@@ -1,0 +1,61 @@
+-- `questions::forms::put_kinds` meets its contract. The loop's invariant: the letters passed are on the page. Assumes nothing.
+use mathlib.Core.Path.{_≡_, refl, sym, ap, _∙_}
+use mathlib.Core.List.{List, [], _∷_, _++_, append-assoc, append-nil}
+use Prim.Native.Nat.{ℕ, _+_, _-_, _≤_}
+use native.Mathlib.Numerals.{add-one}
+use native.Mathlib.Omega.{arith}
+use lib.ListN.{length, getD, take}
+use lib.Seq.{take-suc, take-all}
+use Rattle.pieces.specs.Pieces.{Appended}
+use Rattle.pieces.proofs.Growing.{no-more, and-then, same-more}
+use Rattle.questions.specs.Forms.{kindText, kindTexts}
+use borrow.Author.Needs.{needs}
+use Rattle.questions.proofs.forms.put_kinds.Statement.{statement}
+use Rattle.questions.proofs.forms.put_kinds.Tie as tie
+
+abbrev Inv-loop : tie.InvT-loop
+Inv-loop page₀ at shape next₀ i₀ page next i = (i ≤ length shape) × Appended page₀ at (kindTexts (take i shape)) page next
+
+abbrev μ-loop : tie.MeasureT-loop
+μ-loop page₀ at shape next₀ i₀ page next i = length shape - i
+
+kinds-append : (s t : List ℕ) → kindTexts (s ++ t) ≡ kindTexts s ++ kindTexts t
+unfolding kindTexts
+kinds-append [] t = refl
+kinds-append (b ∷ s) t = ap (λ (l : List ℕ). kindText b ++ l) (kinds-append s t) ∙ sym (append-assoc (kindText b) (kindTexts s) (kindTexts t))
+
+one-more : (s : List ℕ) (i : ℕ) (b : ℕ) → take (i + 1) s ≡ take i s ++ (b ∷ []) → kindTexts (take i s) ++ kindText b ≡ kindTexts (take (i + 1) s)
+unfolding kindTexts
+one-more s i b e = sym (ap kindTexts e ∙ kinds-append (take i s) (b ∷ []) ∙ ap (λ (l : List ℕ). kindTexts (take i s) ++ l) (append-nil (kindText b)))
+
+loop-holds : tie.Need-loop-holds Inv-loop μ-loop
+unfolding kindTexts
+loop-holds c = (omega arith, no-more (c .before .before .args .page .now) (c .before .before .args .at))
+
+loop-again : tie.Need-loop-again Inv-loop μ-loop
+loop-again c =
+    let s = (c .before .before .before .before .before .before .before .before .before .args .shape .now) in
+    let i : ℕ = (c .before .before .before .before .before .before .loop .i) in
+    let taken : take (i + 1) s ≡ take i s ++ (getD s i 0 ∷ []) = rw add-one (take-suc s i 0 (omega arith)) in
+    (omega arith, same-more (one-more s i _ taken) (and-then (c .before .before .before .before .before .before .loop .inv .1) (c .before .before .put-kind .ensures)))
+
+same-length : tie.Need-same-length Inv-loop μ-loop
+same-length c = (c .before .loop .inv .1) .whole
+
+returns : tie.Need-returns Inv-loop μ-loop
+returns c = same-more (ap kindTexts (take-all (c .before .loop .i) (c .before .before .before .before .args .shape .now) (omega arith))) (c .before .loop .inv .1)
+
+pub put-kinds-spec : {M : Type 1} → statement M
+put-kinds-spec =
+    tie.close
+    (tie.spec
+    Inv-loop
+    μ-loop
+    loop-holds
+    (λ c. search needs)
+    (λ c κs. search needs)
+    (λ c. search needs)
+    (λ c. search needs)
+    loop-again
+    same-length
+    returns)

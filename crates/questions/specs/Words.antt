@@ -1,0 +1,22 @@
+-- The words of a line: what stands between its blanks, 32. A line without a blank is one word. Definitions only.
+use Prim.Native.Nat.{ℕ, _≤_}
+use mathlib.Core.Path.{_≡_}
+use mathlib.Core.Bool.{Bool, true, false}
+use mathlib.Core.List.{List, [], _∷_}
+use lib.Dec.{eqb}
+use lib.ListN.{length, getD, drop}
+
+-- words with a byte before them: a blank ends a word of no bytes
+abbrev pub before : Bool → ℕ → List (List ℕ) → List (List ℕ)
+before true b ws = [] ∷ ws
+before false b [] = (b ∷ []) ∷ []
+before false b (w ∷ ws) = (b ∷ w) ∷ ws
+
+unfoldable pub words : List ℕ → List (List ℕ)
+words [] = [] ∷ []
+words (b ∷ s) = before (eqb b 32) b (words s)
+
+-- word i begins at position `at` of s, or s ends there where it has no such word
+pub record Starts (s : List ℕ) (i at : ℕ) : Type 0 where
+  pub within : at ≤ length s
+  pub first : getD (words (drop at s)) 0 [] ≡ getD (words s) i []

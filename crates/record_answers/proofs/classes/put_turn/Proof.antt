@@ -1,0 +1,27 @@
+-- `record_answers::classes::put_turn` meets its contract. Assumes nothing.
+use Rattle.pieces.proofs.Growing.{and-then}
+use Rattle.record_answers.specs.Classes.{turnText}
+use borrow.Author.Needs.{needs}
+use Rattle.record_answers.proofs.classes.put_turn.Statement.{statement}
+use Rattle.record_answers.proofs.classes.put_turn.Tie as tie
+
+returns : tie.Need-returns
+unfolding turnText
+returns c =
+    let three = and-then (and-then (c .before .before .before .before .before .before .before .before .before .before .before .before .before .before .before .before .before .before .before .before .before .before .before .before .put-quantity .ensures) (c .before .before .before .before .before .before .before .before .before .before .before .before .before .before .before .before .before .before .before .before .put-direction .ensures)) (c .before .before .before .before .before .before .before .before .before .before .before .before .before .before .before .before .put-whole .ensures) in
+    and-then (and-then (and-then three (c .before .before .before .before .before .before .before .before .before .before .before .put .ensures .0)) (c .before .before .before .before .before .before .before .put-whole2 .ensures)) (c .before .before .put2 .ensures .0)
+
+pub put-turn-spec : {M : Type 1} → statement M
+put-turn-spec =
+    tie.close
+    (tie.spec
+    (λ c κs. search needs)
+    (λ c κs. search needs)
+    (λ c κs. search needs)
+    (λ c. search needs)
+    (λ c κs. search needs)
+    (λ c κs. search needs)
+    (λ c. search needs)
+    (λ c κs. search needs)
+    (λ c. search needs)
+    returns)

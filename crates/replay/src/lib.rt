@@ -1,2 +1,0 @@
-// A list of answers: whether a line's answer is ours.
-pub mod list;

@@ -1,2 +1,0 @@
--- What the contract of `report_agrees` cites.
-pub mod Reports

@@ -1,4 +1,0 @@
-// The program on an empty record, which has no altitude.
-fn main() {
-    reply::reply();
-}

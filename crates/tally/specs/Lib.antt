@@ -1,2 +1,0 @@
--- What the contract of `counted` cites.
-pub mod Tally
