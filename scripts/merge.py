@@ -55,11 +55,19 @@ def rewrite_antt(text, owner):
     text = PATH.sub(sub, text)
     return re.sub(r"calls-(\w+)·", lambda m: f"calls-{home.get(m[1], m[1])}·" + (conf[m[1]]["src"] + "·" if m[1] in conf and conf[m[1]]["src"] else ""), text)
 
+def own_modules(crate):
+    path = f"crates/{crate}/src/lib.rt"
+    return re.findall(r"^(?:pub )?mod (\w+);", open(path, encoding="utf-8").read(), re.M) if os.path.exists(path) else []
+
+
+modules = {crate: own_modules(crate) for crate in os.listdir("crates")}
+
+
 def rewrite_rt(text, owner, old):
     text = rewrite_antt(text, owner)
     def crate_path(m):
         crate = m[2]
-        if crate not in home:
+        if crate not in home or crate in modules.get(old, []) and crate != old:
             return m[0]
         new, src = home[crate], conf[crate]["src"]
         root = "crate" if new == owner else new
