@@ -12,7 +12,7 @@ if [ ! -d "$to/$commit" ]; then
     git archive "$commit" | tar -x -C "$to/part"
     mv "$to/part" "$to/$commit"
 fi
-# an older commit exports all functions from one crate
+# commits before examples/library.sh have their functions in libexports.a
 if [ -e "$to/$commit/examples/library.sh" ]; then
     "$to/$commit/examples/library.sh"
     library=libstation_air.a

@@ -1,8 +1,8 @@
 #!/usr/bin/env bash
-# Writes crates with runs of roots over `wide` into a repository's folder, and lists them: root_crates.sh FOLDER ROOT,
-# where ROOT is floor_root, the first one, or quick_root, from the tables, which are taken once a run. In a chained run
-# each radicand is made of the root before it, as in the antilog; in the other none waits for another. A crate with
-# one run has the root in line, and one with two has it as a function that both call.
+# Adds crates with runs of roots to the folder of a commit whose roots stand in the crate `wide`, and lists them there:
+# root_crates.sh FOLDER ROOT, where ROOT is floor_root, the first one, or quick_root, from the tables, which are taken
+# once a run. In a chained run each radicand is made of the root before it, as in the antilog; in the other none waits
+# for another. A crate with one run has the root in line, and one with two has it as a function that both call.
 set -euo pipefail
 cd "$1"
 

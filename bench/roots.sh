@@ -1,7 +1,7 @@
 #!/usr/bin/env bash
 # Times roots, antilogs, powers and humid records before and after request K13, beside the u128 Rust, in one run:
-# roots.sh [BEFORE AFTER], two commits that export all functions from the crate `exports`. Each is unpacked, proved and
-# built below target/roots. The source's folder is SOURCE_DIR, or ../shared/docs/src.
+# roots.sh [BEFORE AFTER], two commits with the crates `wide` and `exports`, 012bd23 and 78f5619 where none are given.
+# Each is unpacked, proved and built below target/roots. The source's folder is SOURCE_DIR, or ../shared/docs/src.
 set -euo pipefail
 cd "$(dirname "$0")/.."
 from=$(cd "${SOURCE_DIR:-../shared/docs/src}" && pwd)

@@ -1,16 +1,8 @@
 #!/usr/bin/env bash
-# Builds target/staticlib/libstation_air.a: the static libraries of the crates that export functions, in one.
+# Builds target/staticlib/libstation_air.a: the static library of the crate `exports`, one object. Each function is a
+# section of its own, so a program that is linked with --gc-sections holds only what it calls.
 set -euo pipefail
 cd "$(dirname "$0")/.."
-objects=()
-for crate in exported_air exported_records exported_answers; do
-    rt staticlib "$crate"
-    objects+=("$crate.o")
-done
+rt staticlib exports
 cd target/staticlib
-for object in "${objects[@]}"; do
-    ar x "lib${object%.o}.a" "$object"
-done
-rm -f libstation_air.a
-ar rcsD libstation_air.a "${objects[@]}"
-rm "${objects[@]}"
+mv libexports.a libstation_air.a

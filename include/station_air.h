@@ -93,8 +93,8 @@ enum station_air_status {
     STATION_AIR_NO_READING_TO_CHANGE = 22,
     /* no refusal: a reading's form is unknown, and nothing is written */
     STATION_AIR_UNKNOWN_FORM = 254,
-    /* no refusal: an array has fewer places than the function needs, whatever the other arguments,
-     * and nothing is written */
+    /* no refusal: an array has fewer places than the function needs, whatever the other arguments;
+     * this is tested first, and nothing is computed or written */
     STATION_AIR_TOO_SHORT = 255
 };
 
@@ -148,7 +148,7 @@ enum station_air_places {
     STATION_AIR_FOR_DENSITY_ALTITUDE_PLACES = 3,
     STATION_AIR_STANDARD_ATMOSPHERE_PLACES = 2,
     STATION_AIR_CALCULATE_ATMOSPHERE_PLACES = 2,
-    /* of the forms, and of the values */
+    /* of the forms, of the values and of the counts */
     STATION_AIR_WRITE_PLACES = 7,
     STATION_AIR_VOTE_PLACES = 8,
     STATION_AIR_NEXT_TRIM_CLASS_PLACES = 2,
@@ -207,7 +207,7 @@ uint32_t station_air_vote(const uint8_t *first, size_t first_length, const uint8
 uint32_t station_air_next_trim_class(const uint8_t *record, size_t record_length, double *places, size_t places_length,
                                      int32_t *answer, size_t answer_length);
 
-/* Writes the record of readings to the start of `out`: the fields that are there, rising by tag. Forms
+/* Writes the record of readings to the start of `out`: the fields that are there, rising by tag. Forms,
  * values and counts have a place for each reading; the form says whether it is absent, 0, a double, 1,
  * whose value counts, or a count of thousandths, 2, whose count counts; the other numbers of the reading
  * count for nothing. Any readings may be written, such as station_air_judge refuses too; NaN is written

@@ -8,10 +8,10 @@ import glob
 import re
 
 PROMISES = [
-    ("the C interface", [("exported_air", None), ("exported_records", None), ("exported_answers", None)]),
-    ("`station_air`", [("text", "answer"), ("text", "answer_strictly")]),
-    ("`park`", [("park_text", "park_text")]),
-    ("`ask`", [("line_answers", "put_line_answer")]),
+    ("the C interface", [("exports", None)]),
+    ("`station_air`", [("text", "asked_for"), ("text", "put_asked")]),
+    ("`park`", [("park_text", "put_park_text")]),
+    ("`ask`", [("lines", "put_line_answer")]),
 ]
 
 ITEM = re.compile(r"^(?:(?:abbrev|unfoldable|pub|record|data) )+([^\s:({]+)")
@@ -19,7 +19,7 @@ ITEM = re.compile(r"^(?:(?:abbrev|unfoldable|pub|record|data) )+([^\s:({]+)")
 
 def tokens(text):
     """The words of a definition; what is quoted or a comment is none."""
-    text = re.sub(r'"[^"\n]*"', " ", re.sub(r"--.*", " ", text))
+    text = re.sub(r"--.*", " ", re.sub(r'"(?:[^"\\\n]|\\.)*"', " ", text))
     return set(re.split(r"[\s(){}\[\],;]+", re.sub(r"(?<=[\w'’-])\.(?=\S)", " . ", text.replace("«", "").replace("»", ""))))
 
 
@@ -27,7 +27,7 @@ def imported(lines, ghost):
     """What the names of a file stand for: name -> (module, name), and alias -> module."""
     names, modules = {}, {}
     for line in lines:
-        m = re.match(r"(?:ghost )?use (\S+?)(?:\.\{(.*)\})?(?: as (\S+?))?;?$", line.strip())
+        m = re.match(r"(?:ghost |pub )?use (\S+?)(?:\.\{(.*)\})?(?: as (\S+?))?;?$", line.strip())
         if not m or line.startswith("ghost") != ghost:
             continue
         module = re.sub(r"·(specs|proofs)\.", ".", m[1])
@@ -46,7 +46,7 @@ class File:
         self.names, self.modules = imported(lines, False)
         self.items, current = {}, None
         for line in lines:
-            if line.startswith("use ") or line.startswith("--") or not line.strip() or line.startswith("pub mod"):
+            if line.startswith(("use ", "pub use ", "pub mod", "--")) or not line.strip():
                 continue
             m = ITEM.match(line)
             if m:
@@ -86,17 +86,22 @@ def closure(start):
         file = files.get(module)
         if file and name in file.items:
             left += cited("\n".join(file.items[name]), file.names, file.modules)
+        elif file and name.strip("_") in file.names:
+            # passed on by `pub use`
+            left.append(file.names[name.strip("_")])
     return seen
 
 
 def contracts(crate, function):
+    """What the contract of a function cites, or without a name those of all that the crate exports."""
     found = set()
     for path in glob.glob(f"crates/{crate}/src/**/*.rt", recursive=True):
         text = open(path, encoding="utf-8").read()
         names, modules = imported(text.split("\n"), True)
-        for m in re.finditer(r"pub (?:extern \"C\" )?fn (\w+)(.*?)\n\{", text, re.S):
-            if function in (None, m[1]):
-                found |= cited(m[2], names, modules)
+        for m in re.finditer(r"pub (extern \"C\" )?fn (\w+)(.*?)\n\{", text, re.S):
+            if m[2] == function or (function is None and m[1]):
+                found |= cited(m[3], names, modules)
+    assert found, f"no contract of {crate} {function}"
     return found
 
 

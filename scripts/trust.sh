@@ -11,7 +11,7 @@ grep -o '^[a-z_]*:' crates.txt | tr -d ':' | while read -r crate; do
     verdict=$(awk -v done="^rt: $crate proved" '/^logic=/ { said = $0 } $0 ~ done { print said }' "$log" | head -n 1)
     functions=$(grep -o 'functions=[0-9]*' <<<"$verdict" | cut -d= -f2)
     axioms=$(grep -o 'axioms=[0-9]*' <<<"$verdict" | cut -d= -f2 || true)
-    lines=$(cat "crates/$crate"/specs/*.antt 2>/dev/null | grep -cv '^use ' || true)
+    lines=$(find "crates/$crate/specs" -name '*.antt' -exec cat {} + 2>/dev/null | grep -cvE '^(pub )?use ' || true)
     edits=$(grep -c "^rt: must-fail $crate/.*: refused, as it must be" "$log" || true)
     echo "| \`$crate\` | $functions | ${axioms:-0} | $lines | $edits |"
 done

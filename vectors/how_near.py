@@ -1,5 +1,5 @@
 """Measures how far the rules of document 01 lie from the true values, at 60 places and at 52, and the estimate of the antilog from its
-root: docs/HOW-NEAR.md and docs/HOW-NEAR.md have what it prints.
+root: docs/HOW-NEAR.md has what it prints.
 
 The rules in Python's whole numbers, the true values by mpmath at 400 bits. The only argument is the number of points for each line;
 the estimate has twice as many.
@@ -59,7 +59,7 @@ def ln_rule(places, x):
     return (log_word(places, x) * 0x2C5C85FDF473DE6A >> 62) / 2**places
 
 
-# what 2^(i / 16^(j + 1)) exceeds 1 by, in units of 2^-(64 + 4 j), and 2^(1 / 2^60), in units of 2^-96: crates/estimate/src
+# what 2^(i / 16^(j + 1)) exceeds 1 by, in units of 2^-(64 + 4 j), and 2^(1 / 2^60), in units of 2^-96: crates/antilog/src/estimate
 EXCESSES = [[int(floor((power(2, mpf(i) / 16 ** (j + 1)) - 1) * 2 ** (64 + 4 * j))) for i in range(16)] for j in range(8)]
 LAST_EXCESS = int(floor((power(2, mpf(1) / 2**60) - 1) * 2**96))
 

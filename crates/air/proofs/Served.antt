@@ -1,9 +1,8 @@
 -- A saturation pressure at hand serves air of its humidity, and of that humidity kept within 0 and 100 percent. Assumes nothing.
-use mathlib.Core.Path.{_≡_, sym, ap, _∙_}
-use lib.Ieee.{Float}
+use Rattle.arithmetic.proofs.Kit.{_≡_, sym, ap, _∙_, Float}
 use Rattle.arithmetic.specs.Places.{places}
 use Rattle.arithmetic.specs.Decimals.{nought, hundred}
-use Rattle.doubles.specs.Doubles.{clampDouble}
+use Rattle.arithmetic.specs.Doubles.{clampDouble}
 use Rattle.humid_air.specs.Humidity.{neededPressure}
 use Rattle.humid_air.proofs.Needed.{needed-clamped}
 use Rattle.air.specs.declared.moist.Saturation.{Saturation}

@@ -3,7 +3,7 @@
 use Prim.Native.Nat.{ℕ}
 use lib.Ieee.{Float}
 use Rattle.humid_air.specs.Humidity.{moleFractionCelsius}
-use Rattle.atmosphere.specs.declared.station.Reading.{Reading}
+use Rattle.atmosphere.specs.declared.given.Reading.{Reading}
 use Rattle.air.specs.declared.figures.AirFigures.{AirFigures}
 use Rattle.air.specs.Station.{celsius, hectopascals, atmosphere}
 use Rattle.air.specs.Matched.{densityMatchedAltitude}

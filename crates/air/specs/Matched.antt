@@ -5,9 +5,9 @@ use mathlib.Core.Bool.{_||_, cond}
 use lib.Ieee.{Float, le, isNan}
 use Rattle.arithmetic.specs.Decimals.{nought}
 use Rattle.arithmetic.specs.Operators.{_⊘_}
-use Rattle.atmosphere.specs.declared.station.Reading.the-variants.{Given}
+use Rattle.atmosphere.specs.declared.given.Reading.the-variants.{Given}
 use Rattle.atmosphere.specs.Station.{standardPressure, standardTemperature}
-use Rattle.altitudes.specs.Altitudes.{tropopause, heightOfRatio, troposphereHeight}
+use Rattle.atmosphere.specs.Altitudes.{tropopause, heightOfRatio, troposphereHeight}
 use Rattle.air.specs.Station.{atmosphere}
 
 abbrev pub density : ℕ → Float → Float → Float → Float

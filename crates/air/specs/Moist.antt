@@ -7,8 +7,8 @@ use lib.Ieee.{Float, binary64, eq, toBits}
 use Rattle.arithmetic.specs.Places.{places}
 use Rattle.arithmetic.specs.Decimals.{nought, hundred}
 use Rattle.arithmetic.specs.Operators.{_⊖_, _⊘_}
-use Rattle.doubles.specs.Doubles.{clampDouble}
-use Rattle.moist_air.specs.MoistAir.{icePoint}
+use Rattle.arithmetic.specs.Doubles.{clampDouble}
+use Rattle.humid_air.specs.MoistAir.{icePoint}
 use Rattle.humid_air.specs.Humidity.{neededPressure, densityMoleFraction, airDensity}
 use Rattle.air.specs.declared.moist.Saturation.{Saturation}
 use Rattle.air.specs.declared.moist.MoistDensity.{MoistDensity}
@@ -19,7 +19,7 @@ isOne x y = eq x y && eqb (toBits binary64 x) (toBits binary64 y)
 
 -- the pressure at hand
 abbrev pub saturationAt : ℕ → Float → Float → Saturation
-saturationAt n T h = record { «temp_k» = T; «pressure_hpa» = neededPressure n T h }
+saturationAt places T h = record { «temp_k» = T; «pressure_hpa» = neededPressure places T h }
 
 -- it serves air of the humidity h
 abbrev pub Serves : Saturation → Float → Type 0
@@ -27,8 +27,8 @@ Serves s h = s .«pressure_hpa» ≡ neededPressure places (s .«temp_k») h
 
 -- the density by °C and hPa, and the mole fraction that it uses
 unfoldable pub densityOf : ℕ → Float → Float → Float → MoistDensity
-densityOf n T p h =
+densityOf places T p h =
     let h′ = clampDouble h nought hundred in
     let t = T ⊖ icePoint in
     let hPa = p ⊘ hundred in
-    record { «density_kg_m3» = airDensity n t hPa h′; «vapor_mole_fraction» = densityMoleFraction n t hPa h′ }
+    record { «density_kg_m3» = airDensity places t hPa h′; «vapor_mole_fraction» = densityMoleFraction places t hPa h′ }

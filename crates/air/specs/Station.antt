@@ -4,14 +4,14 @@ use Prim.Native.Nat.{ℕ}
 use lib.Ieee.{Float}
 use Rattle.arithmetic.specs.Decimals.{nought, hundred}
 use Rattle.arithmetic.specs.Operators.{_⊕_, _⊖_, _⊗_, _⊘_}
-use Rattle.doubles.specs.Doubles.{clampDouble}
-use Rattle.moist_air.specs.MoistAir.{icePoint}
+use Rattle.arithmetic.specs.Doubles.{clampDouble}
+use Rattle.humid_air.specs.MoistAir.{icePoint}
 use Rattle.humid_air.specs.Sound.{soundSpeed}
-use Rattle.atmosphere.specs.declared.station.Reading.{Reading}
-use Rattle.atmosphere.specs.declared.station.Reading.the-variants.{Given, FromLayer}
+use Rattle.atmosphere.specs.declared.given.Reading.{Reading}
+use Rattle.atmosphere.specs.declared.given.Reading.the-variants.{Given, FromLayer}
 use Rattle.atmosphere.specs.Layers.{standardAir}
-use Rattle.air.specs.declared.station.Air.{Air}
-use Rattle.air.specs.declared.station.Conditions.{Conditions}
+use Rattle.air.specs.declared.conditions.Air.{Air}
+use Rattle.air.specs.declared.conditions.Conditions.{Conditions}
 use Rattle.air.specs.Moist.{densityOf}
 
 -- of a temperature in K and a pressure in Pa

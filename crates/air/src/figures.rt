@@ -4,17 +4,17 @@ ghost use mathlib.Core.Path.{_≡_};
 ghost use Rattle.arithmetic.specs.Places.{places};
 ghost use Rattle.air.specs.Moist.{densityOf, Serves};
 ghost use Rattle.air.specs.Figures.{airFigures};
+use super::conditions::Air;
+use super::conditions::Conditions;
+use super::conditions::air_of;
+use super::conditions::conditions_at;
 use super::matched::density_matched_altitude_of;
 use super::moist::Saturation;
 use super::moist::density_of;
 use super::moist::is_one;
 use super::moist::saturation_at;
 use super::moist::uncapped_mole_fraction;
-use super::station::Air;
-use super::station::Conditions;
-use super::station::air_of;
-use super::station::conditions_at;
-use atmosphere::station::Reading;
+use atmosphere::given::Reading;
 
 // The temperature, degrees Celsius, and the pressure, hPa, that are shown of a station's readings, the air
 // of the readings, and of what is shown the mole fraction of vapour, uncapped, and the density-matched

@@ -4,8 +4,8 @@ ghost use Rattle.arithmetic.specs.Places.{places};
 ghost use Rattle.air.specs.Matched.{heightOfDensity, densityMatchedAltitude};
 use super::moist::density_of;
 use super::moist::saturation_at;
-use altitudes::altitudes::TROPOSPHERE_TOP_M;
-use altitudes::altitudes::standard_altitude_above_tropopause_m;
+use atmosphere::altitudes::TROPOSPHERE_TOP_M;
+use atmosphere::altitudes::standard_altitude_above_tropopause_m;
 use elementary::power::power;
 
 const ISA_SEA_LEVEL_TEMP_K: f64 = 288.15;

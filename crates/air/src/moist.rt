@@ -3,16 +3,16 @@
 ghost use mathlib.Core.Path.{_≡_};
 ghost use Rattle.arithmetic.specs.Places.{places};
 ghost use Rattle.arithmetic.specs.Decimals.{nought, hundred};
-ghost use Rattle.doubles.specs.Doubles.{clampDouble};
+ghost use Rattle.arithmetic.specs.Doubles.{clampDouble};
 ghost use Rattle.humid_air.specs.Humidity.{neededPressure, moleFractionAt};
 ghost use Rattle.humid_air.specs.Sound.{soundSpeed};
 ghost use Rattle.air.specs.Moist.{isOne, saturationAt, Serves, densityOf};
-use doubles::doubles::clamp;
+use arithmetic::doubles::clamp;
 use humid_air::humid::moist_sound_speed_at_mole_fraction;
 use humid_air::humid::needed_saturation_pressure;
-use moist_air::mixture::air_density_at_mole_fraction;
-use moist_air::mixture::capped_vapor_mole_fraction;
-use moist_air::mixture::vapor_mole_fraction_of;
+use humid_air::mixture::air_density_at_mole_fraction;
+use humid_air::mixture::capped_vapor_mole_fraction;
+use humid_air::mixture::vapor_mole_fraction_of;
 
 // A temperature, K, and the saturation pressure, hPa, that air of some humidity asks for there.
 pub struct Saturation {

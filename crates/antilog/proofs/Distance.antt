@@ -1,23 +1,14 @@
 -- How far the log word and the antilog lie from the true logarithm and the true power. No real number is written: that b / 2 ^ p is at most the
 -- logarithm of a to the base 2 is said by 2 ^ b ≤ a ^ 2 ^ p. Log and antilog share one lemma over their places, `next-place`. Assumes nothing.
-use mathlib.Core.Path.{_≡_, sym, ap, _∙_, subst, subst₂}
-use Prim.Native.Nat.{ℕ, zero, suc, _+_, _-_, _*_, _/_, _%_, _^_, _≤_, _<_}
-use native.Mathlib.Nat.{le-refl, le-trans, le-of-eq, lt-of-lt-of-le, lt-suc-self, add-zero, zero-add, add-assoc, add-mul, mul-add, mul-assoc, mul-comm, mul-left-comm, mul-right-comm, mul-mul-mul-comm, mul-le-mul-left, mul-le-mul-right, pow-succ', mod-lt, div-add-mod', div-mul-le-self, div-lt-iff-lt-mul, mul-div-cancel}
-use native.Mathlib.Omega.{arith}
-use mathlib.Core.Bool.{false}
-use lib.IntN.{ℤ}
-use lib.Dec.{T, lit<}
+use Rattle.arithmetic.proofs.Kit.{_≡_, sym, ap, _∙_, subst, subst₂, ℕ, zero, suc, _+_, _-_, _*_, _/_, _%_, _^_, _≤_, _<_, le-refl, le-trans, le-of-eq, lt-of-lt-of-le, lt-suc-self, add-zero, zero-add, add-assoc, add-mul, mul-add, mul-assoc, mul-comm, mul-left-comm, mul-right-comm, mul-mul-mul-comm, mul-le-mul-left, mul-le-mul-right, pow-succ', mod-lt, div-add-mod', div-mul-le-self, div-lt-iff-lt-mul, mul-div-cancel, arith, false, ℤ, T, lit<, pow-pos, pow-mono, pow-add, shl-lt, fin, binary64, size, minus, fits, size-le}
 use lib.Arith.{lt-one}
-use lib.Pow.{pow-pos, pow-mono, pow-add, shl-lt}
-use lib.Ieee.{fin, binary64, size, minus, fits}
-use lib.Ieee.Digits.{size-le}
-use Rattle.wide.specs.Root.{root}
-use Rattle.wide.proofs.Root.{root-le, root-gt}
+use Rattle.roots.specs.Root.{root}
+use Rattle.roots.proofs.Root.{root-le, root-gt}
 use Rattle.arithmetic.specs.Nearest.{unitsOf}
-use Rattle.antilog.specs.Log.{squared, bitOf, nextOf, logBits, mantissaOf, logWord}
+use Rattle.antilog.specs.Log.{squared, bitOf, normalised, logBits, mantissaOf, logWord}
 use Rattle.antilog.specs.Antilog.{antilogRoot}
-use Rattle.estimate.proofs.Compared.{Comparison, at-most, below, turned, next-place}
-use Rattle.estimate.proofs.Powers.{pow-one, pow-power, pow-scaled, lt-of-squares, near-one-le-two}
+use Rattle.arithmetic.proofs.Compared.{Comparison, at-most, below, turned, next-place}
+use Rattle.arithmetic.proofs.Powers.{pow-one, pow-power, pow-scaled, lt-of-squares, near-one-le-two}
 use Rattle.antilog.proofs.Range.{Mantissa, bit-cases, next-mantissa, top-bit-le, antilogRoot-mantissa, mantissaOf-mantissa}
 use Rattle.arithmetic.proofs.Units.{Short, split-power, units-short, units-pos}
 use Rattle.antilog.proofs.Ordered.{biasedWord, word-biased}
@@ -28,23 +19,23 @@ units-of-two p x = ap (λ (n : ℕ). n * 2 ^ x) (pow-power 2 62 (2 ^ p)) ∙ sym
 
 -- ---- the log word: the logarithm of M / 2^62 is at least the bits, and less than two units above them
 
-next-below : (Q : ℕ) → nextOf Q * 2 ^ bitOf Q ≤ Q
+next-below : (Q : ℕ) → normalised Q * 2 ^ bitOf Q ≤ Q
 next-below Q = bit-cases (λ t N. N * 2 ^ t ≤ Q) Q (λ g. omega arith) (λ g. omega arith)
 
-next-above : (Q : ℕ) → Q < suc (nextOf Q) * 2 ^ bitOf Q
+next-above : (Q : ℕ) → Q < suc (normalised Q) * 2 ^ bitOf Q
 next-above Q = bit-cases (λ t N. Q < suc N * 2 ^ t) Q (λ g. omega arith) (λ g. omega arith)
 
-log-step-below : (M : ℕ) → nextOf (squared M) * (2 ^ 62 * 2 ^ bitOf (squared M)) ≤ M * M
+log-step-below : (M : ℕ) → normalised (squared M) * (2 ^ 62 * 2 ^ bitOf (squared M)) ≤ M * M
 log-step-below M =
     let Q = squared M in
-    le-trans (le-of-eq (mul-left-comm (nextOf Q) (2 ^ 62) (2 ^ bitOf Q) ∙ mul-comm (2 ^ 62) (nextOf Q * 2 ^ bitOf Q)))
+    le-trans (le-of-eq (mul-left-comm (normalised Q) (2 ^ 62) (2 ^ bitOf Q) ∙ mul-comm (2 ^ 62) (normalised Q * 2 ^ bitOf Q)))
     (le-trans (mul-le-mul-right (2 ^ 62) (next-below Q)) (div-mul-le-self (M * M) (2 ^ 62)))
 
 -- Units of 2^62 + 1 make good what the two divisions cut off, for N + 1 times 2^62 is at most N times 2^62 + 1.
-log-step-above : (M : ℕ) → Mantissa M → M * M < nextOf (squared M) * (suc (2 ^ 62) * 2 ^ bitOf (squared M))
+log-step-above : (M : ℕ) → Mantissa M → M * M < normalised (squared M) * (suc (2 ^ 62) * 2 ^ bitOf (squared M))
 log-step-above M h =
     let Q = squared M in
-    let N = nextOf Q in
+    let N = normalised Q in
     let made-good : suc N * 2 ^ 62 ≤ N * suc (2 ^ 62) = omega (arith, next-mantissa h .low) in
     lt-of-lt-of-le (div-lt-iff-lt-mul (lit< tt) .0 (lt-suc-self Q))
     (le-trans (mul-le-mul-right (2 ^ 62) (next-above Q))
@@ -53,14 +44,14 @@ log-step-above M h =
 
 -- from one place to p places; after the last one a mantissa is left, which compares with 2 ^ x
 module _ {R : ℕ → ℕ → Type 0} (c : Comparison R) (U x : ℕ) (some : 0 < U) (last : (M : ℕ) → Mantissa M → R M (U * 2 ^ x))
-    (step : (M : ℕ) → Mantissa M → R (M * M) (nextOf (squared M) * (U * 2 ^ bitOf (squared M)))) where
+    (step : (M : ℕ) → Mantissa M → R (M * M) (normalised (squared M) * (U * 2 ^ bitOf (squared M)))) where
   log-places : (p M : ℕ) → Mantissa M → R (M ^ 2 ^ p) (U ^ 2 ^ p * 2 ^ (logBits p M + x))
   unfolding logBits
   log-places zero M h = rw (pow-one M, pow-one U, zero-add x) (last M h)
   log-places (suc p) M h =
       let Q = squared M in
-      rw (add-assoc (bitOf Q * 2 ^ p) (logBits p (nextOf Q)) x)
-      (next-place c U p (bitOf Q) (logBits p (nextOf Q) + x) M (nextOf Q) some (step M h) (log-places p (nextOf Q) (next-mantissa h)))
+      rw (add-assoc (bitOf Q * 2 ^ p) (logBits p (normalised Q)) x)
+      (next-place c U p (bitOf Q) (logBits p (normalised Q) + x) M (normalised Q) some (step M h) (log-places p (normalised Q) (next-mantissa h)))
 
 pub logBits-below : (p : ℕ) {M : ℕ} → Mantissa M → 2 ^ (62 * 2 ^ p + logBits p M) ≤ M ^ 2 ^ p
 logBits-below p {M} h =

@@ -7,3 +7,10 @@ pub mod LogDigits
 pub mod Ordered
 pub mod OneFraction
 mod Window
+mod Tested
+mod Nearly
+mod Entries
+pub mod Near
+pub mod NearestWhole
+pub mod RootDigits
+pub mod NearestRoot

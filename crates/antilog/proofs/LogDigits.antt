@@ -1,16 +1,8 @@
 -- The log word of q * 2^k units of the smallest double, by q's highest digit: what `log_of_parts` computes. Assumes nothing.
-use mathlib.Core.Path.{_≡_, sym, ap, ap₂, _∙_, subst}
-use Prim.Native.Nat.{ℕ, suc, _+_, _-_, _*_, _/_, _%_, _^_, _≤_, _<_}
-use native.Mathlib.Nat.{le-trans, le-of-eq, lt-of-lt-of-le, lt-of-not-le, not-le-of-lt, mul-assoc, mul-right-comm, mul-le-mul-right, mul-div-cancel, mul-div-mul-right, suc-add, suc-mul, add-mul}
+use Rattle.arithmetic.proofs.Kit.{_≡_, sym, ap, ap₂, _∙_, subst, ℕ, suc, _+_, _-_, _*_, _/_, _%_, _^_, _≤_, _<_, le-trans, le-of-eq, lt-of-lt-of-le, lt-of-not-le, not-le-of-lt, mul-assoc, mul-right-comm, mul-le-mul-right, mul-div-cancel, mul-div-mul-right, suc-mul, add-mul, arith, true, false, ℤ, pos, negsuc, _+ℤ_, _*ℤ_, lit≤, leadingZeros, leading-top, digits-div, pow-add, pow-pos, pow-mono, shl-lt, shl-exact, size, minus}
+use native.Mathlib.Nat.{suc-add}
 use native.Mathlib.Numerals.{sub-one}
-use native.Mathlib.Omega.{arith}
-use mathlib.Core.Bool.{true, false}
-use lib.IntN.{ℤ, pos, negsuc, _+ℤ_, _*ℤ_}
-use lib.Dec.{lit≤}
-use lib.Count.{leadingZeros, leading-top}
-use lib.Arith.{digits-div, digits-mod}
-use lib.Pow.{pow-add, pow-pos, pow-mono, shl-lt, shl-exact}
-use lib.Ieee.{size, minus}
+use lib.Arith.{digits-mod}
 use Rattle.arithmetic.specs.declared.word.Word.{Word}
 use Rattle.arithmetic.specs.Whole.{asWord}
 use Rattle.antilog.specs.Log.{mantissaOf, logBits, wordOfUnits}

@@ -1,15 +1,9 @@
 -- The log word and the antilog never fall: a greater number has no smaller word, and a greater word no smaller antilog. Assumes nothing.
-use mathlib.Core.Path.{_≡_, sym, ap, _∙_, subst}
-use Prim.Native.Nat.{ℕ, zero, suc, _+_, _-_, _*_, _/_, _%_, _^_, _≤_, _<_}
-use native.Mathlib.Nat.{le-refl, le-trans, le-of-eq, le-of-lt, lt-of-le-of-lt, le-add-right, eq-or-lt-of-le, add-le-add, mul-assoc, mul-le-mul, mul-le-mul-left, mul-le-mul-right, mod-lt, div-add-mod', pow-succ'}
-use native.Mathlib.Omega.{arith}
-use mathlib.Core.Logic.{_⊎_, inl, inr}
-use lib.Arith.{digits-lt}
-use lib.Pow.{pow-pos, pow-mono, shr-mono}
-use lib.Ieee.{size}
-use lib.Ieee.Digits.{size-lt, size-le}
-use Rattle.wide.proofs.Root.{root-mono}
-use Rattle.antilog.specs.Log.{squared, bitOf, nextOf, logBits, mantissaOf}
+use Rattle.arithmetic.proofs.Kit.{_≡_, sym, ap, _∙_, subst, ℕ, zero, suc, _+_, _-_, _*_, _/_, _%_, _^_, _≤_, _<_, le-refl, le-trans, le-of-eq, le-of-lt, lt-of-le-of-lt, le-add-right, eq-or-lt-of-le, mul-assoc, mul-le-mul, mul-le-mul-left, mul-le-mul-right, mod-lt, div-add-mod', pow-succ', arith, _⊎_, inl, inr, digits-lt, pow-pos, pow-mono, size, size-lt, size-le}
+use native.Mathlib.Nat.{add-le-add}
+use lib.Pow.{shr-mono}
+use Rattle.roots.proofs.Root.{root-mono}
+use Rattle.antilog.specs.Log.{squared, bitOf, normalised, logBits, mantissaOf}
 use Rattle.antilog.specs.Antilog.{antilogRoot}
 use Rattle.antilog.proofs.Range.{Mantissa, bit-cases, logBits-lt, antilogRoot-mantissa}
 
@@ -27,18 +21,18 @@ bit-mono : {Q R : ℕ} → Q ≤ R → bitOf Q ≤ bitOf R
 bit-mono {Q} {R} h = bit-cases (λ t N. t ≤ bitOf R) Q (λ g. omega arith) (λ g. bit-cases (λ t N. 1 ≤ t) R (λ l. omega arith) (λ l. omega arith))
 
 -- the next mantissa falls where the bit changes, and nowhere else
-next-mono : {Q R : ℕ} → Q ≤ R → bitOf Q ≡ bitOf R → nextOf Q ≤ nextOf R
+next-mono : {Q R : ℕ} → Q ≤ R → bitOf Q ≡ bitOf R → normalised Q ≤ normalised R
 next-mono {Q} {R} h =
-    bit-cases (λ t N. t ≡ bitOf R → N ≤ nextOf R) Q
+    bit-cases (λ t N. t ≡ bitOf R → N ≤ normalised R) Q
     (λ g. bit-cases (λ t N. 0 ≡ t → Q ≤ N) R (λ l e. omega arith) (λ l e. omega arith))
     (λ g. bit-cases (λ t N. 1 ≡ t → Q / 2 ≤ N) R (λ l e. omega arith) (λ l e. omega arith))
 
-pub logBits-mono : (p : ℕ) {M N : ℕ} → M ≤ N → logBits p M ≤ logBits p N
+logBits-mono : (p : ℕ) {M N : ℕ} → M ≤ N → logBits p M ≤ logBits p N
 unfolding logBits
 logBits-mono zero h = le-refl 0
 logBits-mono (suc p) {M} {N} h =
     let squares : squared M ≤ squared N = shr-mono 62 (mul-le-mul h h) in
-    digits-le (2 ^ p) (logBits-lt p (nextOf (squared M))) (bit-mono squares) (λ e. logBits-mono p (next-mono squares e))
+    digits-le (2 ^ p) (logBits-lt p (normalised (squared M))) (bit-mono squares) (λ e. logBits-mono p (next-mono squares e))
 
 -- ---- the antilog
 

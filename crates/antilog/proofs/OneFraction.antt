@@ -1,14 +1,6 @@
 -- The antilog of a whole number that is the difference of two natural numbers: one fraction, rounded once. Assumes nothing.
-use mathlib.Core.Path.{_≡_, sym, ap, _∙_}
-use mathlib.Core.Bool.{false}
-use Prim.Native.Nat.{ℕ, _+_, _-_, _*_, _/_, _%_, _^_}
-use native.Mathlib.Omega.{arith}
-use lib.IntN.{ℤ, pos, negsuc, _-ℤ_}
-use lib.Pow.{pow-pos}
-use lib.Ieee.{binary64, up, down, round, minus}
+use Rattle.arithmetic.proofs.Kit.{_≡_, sym, ap, _∙_, false, ℕ, _+_, _-_, _*_, _/_, _%_, _^_, arith, ℤ, pos, negsuc, _-ℤ_, pow-pos, binary64, up, down, round, minus, down-pos, round-same}
 use lib.Ieee.Digits.{minus-val}
-use lib.Ieee.Fits.{down-pos}
-use lib.Ieee.Scale.{round-same}
 use Rattle.arithmetic.specs.Whole.{floorDiv}
 use Rattle.antilog.specs.Antilog.{antilogRoot, antilog}
 use Rattle.arithmetic.proofs.Differences.{by-sign, minus-is, minus-same, minus-below, floor-minus, remainder-minus}

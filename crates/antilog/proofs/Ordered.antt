@@ -1,20 +1,10 @@
 -- The log word and the antilog as a whole keep the order, over any number of places: a greater double never has a smaller word, and a greater word never
 -- a smaller antilog, subnormals and infinity included. Assumes nothing.
-use mathlib.Core.Path.{_≡_, sym, ap, subst}
-use mathlib.Core.Logic.{_⊎_, inl, inr}
-use Prim.Native.Nat.{ℕ, suc, _+_, _-_, _*_, _/_, _^_, _≤_, _<_, suc-le-suc}
-use native.Mathlib.Nat.{le-trans, le-of-eq, eq-or-lt-of-le, mul-assoc, mul-le-mul-left, mul-le-mul-right, mul-le-mul, one-mul, pow-succ', mod-lt, not-le-of-lt}
-use native.Mathlib.Omega.{arith}
-use mathlib.Core.Bool.{Bool, true, false, not, cond}
-use lib.IntN.{ℤ, pos, negsuc, _-ℤ_}
-use lib.Dec.{T, ltb, lt→ltb, ltb→lt, nltb→le}
-use lib.Signed.{_≤ℤ_, _<ℤ_}
-use lib.Pow.{pow-pos, pow-mono}
-use lib.Ieee.{binary64, up, down, size, minus, le}
-use lib.Ieee.Fits.{down-pos}
-use lib.Ieee.Order.{round-mono}
+use Rattle.arithmetic.proofs.Kit.{_≡_, sym, ap, subst, _⊎_, inl, inr, ℕ, suc, _+_, _-_, _*_, _/_, _^_, _≤_, _<_, suc-le-suc, le-trans, le-of-eq, eq-or-lt-of-le, mul-assoc, mul-le-mul-left, mul-le-mul-right, mul-le-mul, one-mul, pow-succ', mod-lt, not-le-of-lt, arith, Bool, true, false, not, cond, ℤ, pos, negsuc, _-ℤ_, T, ltb, lt→ltb, ltb→lt, nltb→le, _≤ℤ_, pow-pos, pow-mono, binary64, up, down, size, minus, le, down-pos, round-mono}
+use lib.Signed.{_<ℤ_}
 use Rattle.arithmetic.specs.Whole.{floorDiv, floorMod}
 use Rattle.arithmetic.specs.Nearest.{nearestScaled}
+use Rattle.arithmetic.proofs.Rounding.{scaled-mono}
 use Rattle.antilog.specs.Log.{mantissaOf, logBits, wordOfUnits}
 use Rattle.antilog.specs.Antilog.{antilogRoot, antilog}
 use Rattle.arithmetic.proofs.Integers.{le-of-pos, le-of-negsuc, div-mono, minus-mono}
@@ -70,9 +60,6 @@ below-62 {a = negsuc a} {b = pos b} h = go (ltb b 62)
 below-62 {a = negsuc a} {b = negsuc b} h = record { lt = lt→ltb (suc (b + 61)) (suc (a + 61)) (omega (arith, ltb→lt b a (h .lt))) }
 
 -- ---- the antilog: the exponents decide, since Y is below 2^63 and twice Z is not
-same-scale : {Y Z : ℕ} (a : ℤ) → Y ≤ Z → T (le (nearestScaled Y a) (nearestScaled Z a))
-same-scale {Y} {Z} a h = round-mono binary64 (Y * up a) (down a) (Z * up a) (down a) (down-pos a) (down-pos a) (mul-le-mul-right (down a) (mul-le-mul-right (up a) h))
-
 greater-scale : {Y Z : ℕ} {a b : ℤ} → Mantissa Y → Mantissa Z → a <ℤ b → T (le (nearestScaled Y a) (nearestScaled Z b))
 greater-scale {Y} {Z} {a} {b} hY hZ h =
     let twice-more : Y ≤ Z * 2 = omega (arith, hY .high, hZ .low) in
@@ -86,6 +73,6 @@ antilog-mono p {P} {Q} h =
     let root : ℤ → ℕ = λ z. antilogRoot p (floorMod z (2 ^ p)) in
     let mantissa : (z : ℤ) → Mantissa (root z) = λ z. antilogRoot-mantissa p (floorMod z (2 ^ p)) (remainder-lt (2 ^ p) (pow-pos p) z) in
     elim (floors (2 ^ p) (pow-pos p) h) [
-      | inl e ↦ subst (λ (k : ℤ). T (le (nearestScaled (root P) (floorDiv P (2 ^ p) -ℤ pos 62)) (nearestScaled (root Q) (k -ℤ pos 62)))) (e .0) (same-scale (floorDiv P (2 ^ p) -ℤ pos 62) (antilogRoot-mono p (e .1)))
+      | inl e ↦ subst (λ (k : ℤ). T (le (nearestScaled (root P) (floorDiv P (2 ^ p) -ℤ pos 62)) (nearestScaled (root Q) (k -ℤ pos 62)))) (e .0) (scaled-mono (floorDiv P (2 ^ p) -ℤ pos 62) (antilogRoot-mono p (e .1)))
       | inr l ↦ greater-scale (mantissa P) (mantissa Q) (below-62 l)
     ]

@@ -1,20 +1,11 @@
 -- Where the numbers of the log word and of the antilog lie: a mantissa, m * 2^62 with 1 ≤ m < 2, stays one from place to place, and the bits of
 -- p places are a number below 2 ^ p. Assumes nothing.
-use mathlib.Core.Path.{_≡_, sym, ap, _∙_, subst}
-use Prim.Native.Nat.{ℕ, zero, suc, _+_, _-_, _*_, _/_, _%_, _^_, _≤_, _<_}
-use native.Mathlib.Nat.{le-refl, le-add-right, lt-of-le-of-lt, mul-le-mul, mul-le-mul-left, mul-lt-mul-of-pos-right, mod-lt, pow-succ', le-div-iff-mul-le, div-lt-iff-lt-mul}
-use native.Mathlib.Omega.{arith}
-use mathlib.Core.Bool.{Bool, true, false, not, cond}
-use lib.Dec.{T, leb, leb→le, nleb→lt, lit<}
-use lib.Pow.{pow-pos, pow-mono}
-use lib.Arith.{digits-lt}
-use lib.Ieee.{size}
-use lib.Ieee.Digits.{size-lt, size-reaches}
-use Rattle.wide.specs.Root.{root}
-use Rattle.wide.proofs.Root.{root-le, root-gt}
-use Rattle.antilog.specs.Log.{squared, bitOf, nextOf, logBits, mantissaOf}
+use Rattle.arithmetic.proofs.Kit.{_≡_, sym, ap, _∙_, subst, ℕ, zero, suc, _+_, _-_, _*_, _/_, _%_, _^_, _≤_, _<_, le-refl, le-add-right, lt-of-le-of-lt, mul-le-mul, mul-le-mul-left, mul-lt-mul-of-pos-right, mod-lt, pow-succ', le-div-iff-mul-le, div-lt-iff-lt-mul, arith, Bool, true, false, not, cond, T, leb, leb→le, nleb→lt, lit<, pow-pos, pow-mono, digits-lt, size, size-lt, size-reaches}
+use Rattle.roots.specs.Root.{root}
+use Rattle.roots.proofs.Root.{root-le, root-gt}
+use Rattle.antilog.specs.Log.{squared, bitOf, normalised, logBits, mantissaOf}
 use Rattle.antilog.specs.Antilog.{antilogRoot}
-use Rattle.estimate.proofs.Powers.{squares-lt, lt-of-squares}
+use Rattle.arithmetic.proofs.Powers.{squares-lt, lt-of-squares}
 use Rattle.arithmetic.proofs.Size.{size-pos}
 
 pub record Mantissa (M : ℕ) : Type 0 where
@@ -24,14 +15,14 @@ pub record Mantissa (M : ℕ) : Type 0 where
 -- ---- the log word
 
 -- a fact about the bit and the next mantissa, from its two cases
-pub bit-cases : (P : ℕ → ℕ → Type 0) (Q : ℕ) → (Q < 2 ^ 63 → P 0 Q) → (2 ^ 63 ≤ Q → P 1 (Q / 2)) → P (bitOf Q) (nextOf Q)
+pub bit-cases : (P : ℕ → ℕ → Type 0) (Q : ℕ) → (Q < 2 ^ 63 → P 0 Q) → (2 ^ 63 ≤ Q → P 1 (Q / 2)) → P (bitOf Q) (normalised Q)
 bit-cases P Q off on = go (leb (2 ^ 63) Q) (leb→le (2 ^ 63) Q) (nleb→lt (2 ^ 63) Q)
   where
     go : (b : Bool) → (T b → 2 ^ 63 ≤ Q) → (T (not b) → Q < 2 ^ 63) → P (cond b 1 0) (cond b (Q / 2) Q)
     go true l g = on (l tt)
     go false l g = off (g tt)
 
-pub squared-ge : {M : ℕ} → Mantissa M → 2 ^ 62 ≤ squared M
+squared-ge : {M : ℕ} → Mantissa M → 2 ^ 62 ≤ squared M
 squared-ge h = le-div-iff-mul-le (lit< tt) .1 (mul-le-mul (h .low) (h .low))
 
 pub squared-lt : {M : ℕ} → Mantissa M → squared M < 2 ^ 64
@@ -40,7 +31,7 @@ squared-lt h = div-lt-iff-lt-mul (lit< tt) .1 (squares-lt (h .high))
 pub bit-le : (Q : ℕ) → bitOf Q ≤ 1
 bit-le Q = bit-cases (λ t N. t ≤ 1) Q (λ g. omega arith) (λ g. omega arith)
 
-pub next-mantissa : {M : ℕ} → Mantissa M → Mantissa (nextOf (squared M))
+pub next-mantissa : {M : ℕ} → Mantissa M → Mantissa (normalised (squared M))
 next-mantissa {M} h =
     let least : 2 ^ 62 ≤ squared M = squared-ge h in
     let most : squared M < 2 ^ 64 = squared-lt h in
@@ -51,7 +42,7 @@ unfolding logBits
 logBits-lt zero M = lit< tt
 logBits-lt (suc p) M =
     let Q = squared M in
-    subst (λ (n : ℕ). bitOf Q * 2 ^ p + logBits p (nextOf Q) < n) (sym (pow-succ' 2 p)) (digits-lt (omega (arith, bit-le Q)) (logBits-lt p (nextOf Q)))
+    subst (λ (n : ℕ). bitOf Q * 2 ^ p + logBits p (normalised Q) < n) (sym (pow-succ' 2 p)) (digits-lt (omega (arith, bit-le Q)) (logBits-lt p (normalised Q)))
 
 -- ---- the antilog
 
@@ -75,7 +66,7 @@ antilogRoot-mantissa (suc p) f h = root-mantissa (f / 2 ^ p) (antilogRoot-mantis
 -- ---- a number of units
 
 -- a positive number lies between what its highest binary digit is worth and twice that
-pub size-bounds : {n : ℕ} → 0 < n → (2 ^ (size n - 1) ≤ n) × (n < 2 * 2 ^ (size n - 1))
+size-bounds : {n : ℕ} → 0 < n → (2 ^ (size n - 1) ≤ n) × (n < 2 * 2 ^ (size n - 1))
 size-bounds {n} h =
     let some : 0 < size n = size-pos n h in
     let next : size n ≡ suc (size n - 1) = omega arith in

@@ -1,24 +1,15 @@
 -- Where the estimate puts the antilog's root, and that a number between two that round to one double rounds to it too. Assumes nothing.
-use mathlib.Core.Path.{_≡_, sym, ap, _∙_, subst}
-use mathlib.Core.Bool.{false}
-use Prim.Native.Nat.{ℕ, suc, _+_, _-_, _*_, _/_, _%_, _^_, _≤_, _<_}
-use native.Mathlib.Nat.{le-trans, le-of-eq, lt-of-le-of-lt, lt-of-not-le, not-le-of-lt, mul-le-mul-right, mul-lt-mul-of-pos-right, mod-eq-of-lt, ne-of-gt, pow-lt-pow-left}
-use native.Mathlib.Omega.{arith}
-use lib.IntN.{ℤ}
-use lib.Dec.{T}
-use lib.Pow.{pow-pos, pow-add}
-use lib.Ieee.{binary64, up, down, fits, le}
-use lib.Ieee.Fits.{down-pos, round-fits}
-use lib.Ieee.Order.{round-mono}
-use Rattle.estimate.specs.Estimate.{AtMost, AtLeast, estimate, Estimates}
-use Rattle.estimate.proofs.Near.{estimate-near}
-use Rattle.estimate.proofs.Powers.{pow-scaled, lt-of-powers}
+use Rattle.arithmetic.proofs.Kit.{_≡_, sym, ap, _∙_, subst, false, ℕ, _+_, _*_, _/_, _%_, _^_, _≤_, _<_, le-trans, le-of-eq, lt-of-le-of-lt, mul-le-mul-right, mul-lt-mul-of-pos-right, mod-eq-of-lt, arith, ℤ, T, pow-pos, pow-add, binary64, up, down, fits, le, round-fits}
+use Rattle.antilog.specs.Estimate.{estimate}
+use Rattle.antilog.proofs.Near.{estimate-near, Estimates}
+use Rattle.arithmetic.proofs.Powers.{pow-scaled, lt-of-powers, le-of-powers}
 use Rattle.arithmetic.specs.Nearest.{nearestScaled}
 use Rattle.antilog.specs.Antilog.{antilogRoot}
 use Rattle.arithmetic.specs.Places.{places}
 use Rattle.arithmetic.proofs.Order.{unsigned, antisymmetric, le-trans-double}
-use Rattle.arithmetic.proofs.Rounding.{round-unsigned}
+use Rattle.arithmetic.proofs.Rounding.{round-unsigned, scaled-mono}
 use Rattle.antilog.proofs.Distance.{antilogRoot-below, antilogRoot-above}
+use Rattle.antilog.proofs.Nearly.{AtMost, AtLeast}
 
 -- ---- the root by the estimate
 
@@ -30,9 +21,6 @@ one-scale-up : (p x : ℕ) → 2 ^ (62 * 2 ^ p + x) * 2 ^ (1 * 2 ^ p) ≡ 2 ^ (6
 one-scale-up p x =
     let sums : 62 * 2 ^ p + x + 1 * 2 ^ p ≡ 63 * 2 ^ p + x = omega arith in
     sym (pow-add 2 (62 * 2 ^ p + x) (1 * 2 ^ p)) ∙ ap (λ (n : ℕ). 2 ^ n) sums
-
-le-of-powers : (a b k : ℕ) → 0 < k → a ^ k ≤ b ^ k → a ≤ b
-le-of-powers a b k some h = let l : a < suc b = lt-of-not-le (λ (g : suc b ≤ a). not-le-of-lt (pow-lt-pow-left g (ne-of-gt some)) h) in omega arith
 
 module _ (p f Y A : ℕ) where
   not-far-above : 2 ^ (62 * 2 ^ p + f) < (Y + 4) ^ 2 ^ p → AtMost 63 p f A → A < (Y + 4) * 2 ^ 1
@@ -63,12 +51,9 @@ window f A short made =
 
 -- ---- a number between two that round alike
 
-nearest-mono : (e : ℤ) {m n : ℕ} → m ≤ n → T (le (nearestScaled m e) (nearestScaled n e))
-nearest-mono e {m} {n} h = round-mono binary64 (m * up e) (down e) (n * up e) (down e) (down-pos e) (down-pos e) (mul-le-mul-right (down e) (mul-le-mul-right (up e) h))
-
 pub rounds-alike : (e : ℤ) (low m high : ℕ) → low ≤ m → m ≤ high → T (le (nearestScaled high e) (nearestScaled low e)) → nearestScaled low e ≡ nearestScaled m e
 rounds-alike e low m high h k ends =
     let double : (n : ℕ) → T (fits binary64 (nearestScaled n e)) = λ n. round-fits binary64 false (n * up e) (down e) in
     let plus : (n : ℕ) → T (unsigned (nearestScaled n e)) = λ n. round-unsigned binary64 (n * up e) (down e) in
-    antisymmetric (nearestScaled low e) (nearestScaled m e) (plus low) (plus m) (double low) (double m) (nearest-mono e h)
-    (le-trans-double (nearestScaled m e) (nearestScaled high e) (nearestScaled low e) (double m) (double high) (double low) (nearest-mono e k) ends)
+    antisymmetric (nearestScaled low e) (nearestScaled m e) (plus low) (plus m) (double low) (double m) (scaled-mono e h)
+    (le-trans-double (nearestScaled m e) (nearestScaled high e) (nearestScaled low e) (double m) (double high) (double low) (scaled-mono e k) ends)

@@ -1,5 +1,5 @@
--- What the contracts of `antilog` cite, and what is promised of them: document 01's log word and antilog, each a paragraph of "Added: three functions by
--- whole numbers", with the number of places, `p`, as first argument; and request K14, how near they are.
+-- What the contracts of `antilog` cite: document 01's log word and antilog, the estimate that the antilog starts from, and the square root.
 pub mod Log
 pub mod Antilog
-pub mod HowNear
+pub mod Estimate
+pub mod Sqrt

@@ -1,4 +1,4 @@
--- Document 01, "Log word", with p places for its 52. Definitions only.
+-- Document 01, "Log word", with any number of places for its 52. Definitions only.
 use Prim.Native.Nat.{ℕ, zero, suc, _+_, _-_, _*_, _/_, _^_}
 use mathlib.Core.Bool.{true, false, cond}
 use lib.IntN.{ℤ, pos, _+ℤ_, _*ℤ_}
@@ -18,13 +18,13 @@ abbrev pub bitOf : ℕ → ℕ
 bitOf Q = cond (leb (2 ^ 63) Q) 1 0
 
 -- and M = floor(Q / 2), else M = Q
-abbrev pub nextOf : ℕ → ℕ
-nextOf Q = cond (leb (2 ^ 63) Q) (Q / 2) Q
+abbrev pub normalised : ℕ → ℕ
+normalised Q = cond (leb (2 ^ 63) Q) (Q / 2) Q
 
--- the bits of p places, first highest
+-- the bits of so many places, first highest
 unfoldable pub logBits : ℕ → ℕ → ℕ
 logBits zero M = 0
-logBits (suc p) M = let Q = squared M in bitOf Q * 2 ^ p + logBits p (nextOf Q)
+logBits (suc places) M = let Q = squared M in bitOf Q * 2 ^ places + logBits places (normalised Q)
 
 -- A positive finite x, of n units of 2 ^ -1074, is m * 2^e with 1 ≤ m < 2: its highest binary digit is worth 2 ^ (size n - 1) units.
 abbrev pub exponentOf : ℕ → ℤ
@@ -34,19 +34,19 @@ exponentOf n = minus (size n - 1) 1074
 abbrev pub mantissaOf : ℕ → ℕ
 mantissaOf n = n * 2 ^ 62 / 2 ^ (size n - 1)
 
--- L = e * 2^p plus the bits
+-- L = e * 2^places plus the bits
 unfoldable pub wordOfUnits : ℕ → ℕ → ℤ
 unfolding logBits size
-wordOfUnits p n = exponentOf n *ℤ pos (2 ^ p) +ℤ pos (logBits p (mantissaOf n))
+wordOfUnits places n = exponentOf n *ℤ pos (2 ^ places) +ℤ pos (logBits places (mantissaOf n))
 
 abbrev pub logWord : ℕ → Float → ℤ
-logWord p x = wordOfUnits p (unitsOf x)
+logWord places x = wordOfUnits places (unitsOf x)
 
 -- what `log_word` answers: the word of a positive finite double
 unfoldable pub logarithm : ℕ → Float → Logarithm
 unfolding wordOfUnits
-logarithm p nan = Undefined
-logarithm p (inf s) = Undefined
-logarithm p (fin s zero e) = Undefined
-logarithm p (fin true (suc m) e) = Undefined
-logarithm p (fin false (suc m) e) = Defined (asWord p (logWord p (fin false (suc m) e)))
+logarithm places nan = Undefined
+logarithm places (inf s) = Undefined
+logarithm places (fin s zero e) = Undefined
+logarithm places (fin true (suc m) e) = Undefined
+logarithm places (fin false (suc m) e) = Defined (asWord places (logWord places (fin false (suc m) e)))

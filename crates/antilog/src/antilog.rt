@@ -7,17 +7,17 @@ ghost use Rattle.arithmetic.specs.Whole.{wordValue};
 ghost use Rattle.arithmetic.specs.Nearest.{nearestScaled};
 ghost use Rattle.antilog.specs.Antilog.{antilogRoot, antilog};
 ghost use Rattle.arithmetic.specs.Places.{places};
+use crate::estimate::estimate;
+use arithmetic::nearest::nearest_product;
+use arithmetic::nearest::nearest_quotient;
+use arithmetic::wide::Wide;
 use arithmetic::word::ONES;
 use arithmetic::word::PLACES;
 use arithmetic::word::WHOLE;
 use arithmetic::word::Word;
-use estimate::estimate;
-use root_tables::reciprocal_table::reciprocal_table;
-use root_tables::root_table::root_table;
 use roots::quick::quick_root;
-use rounding::nearest::nearest_product;
-use rounding::nearest::nearest_quotient;
-use wide::words::Wide;
+use roots::reciprocal_table::reciprocal_table;
+use roots::root_table::root_table;
 
 // 2^62 times 2 to the power f / 2^60, from f's lowest bit to its highest. The radicand, y * 2^62 or
 // y * 2^63, has its upper word from y's upper bits, and from 125 to 126 bits.

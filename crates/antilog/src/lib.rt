@@ -1,2 +1,4 @@
-// 2 to the power of a word, by whole-number rules.
+// 2 to the power of a word and the square root of a double, by whole-number rules.
 pub mod antilog;
+mod estimate;
+pub mod sqrt;

@@ -1,14 +1,6 @@
 -- The distance that survives a rounding: two doubles that are far enough apart stay apart in a sum, a difference, a product or a quotient with one
 -- operand, since a rounding moves each by one step at most. Numbers are counts of units of 2 ^ -1074. Assumes nothing.
-use mathlib.Core.Path.{_≡_, refl}
-use mathlib.Core.Bool.{Bool, true, false}
-use Prim.Native.Nat.{ℕ, suc, _+_, _*_, _^_, _≤_, _<_}
-use native.Mathlib.Nat.{add-zero, mul-comm, mul-assoc, add-mul, mul-pos, mul-le-mul-right, le-of-mul-le-mul-right}
-use native.Mathlib.Omega.{arith}
-use lib.IntN.{ℤ}
-use lib.Dec.{T, eqb·suc-zero}
-use lib.Ieee.{Float, nan, inf, fin, binary64, up, down, round, sum, neg, add, sub, mul, div, lt}
-use lib.Ieee.Fits.{up-pos, down-pos, neg-fits}
+use Rattle.arithmetic.proofs.Kit.{_≡_, refl, Bool, true, false, ℕ, suc, _+_, _*_, _^_, _≤_, _<_, add-zero, mul-comm, mul-assoc, add-mul, mul-pos, mul-le-mul-right, le-of-mul-le-mul-right, arith, ℤ, T, eqb·suc-zero, Float, nan, inf, fin, binary64, up, down, round, sum, neg, add, sub, mul, div, lt, up-pos, down-pos, neg-fits}
 use Rattle.arithmetic.specs.Nearest.{unitsOf}
 use Rattle.arithmetic.proofs.CommonDenominator.{above, beneath}
 use Rattle.arithmetic.proofs.Sums.{sum-is, add-counts, add-comm-double}

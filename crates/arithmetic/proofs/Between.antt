@@ -1,17 +1,8 @@
 -- Doubles with two neighbouring multiples of 2 ^ -j between them: two fractions that lie apart round to such doubles, whatever the rounding does to each,
 -- and where the products of a factor with the two multiples are exact, its products with the doubles differ. Assumes nothing.
-use mathlib.Core.Path.{_≡_, refl, sym, ap, _∙_, subst}
-use Prim.Native.Nat.{ℕ, suc, _+_, _-_, _*_, _/_, _^_, _≤_, _<_}
-use native.Mathlib.Nat.{le-suc, le-trans, le-of-eq, lt-of-le-of-lt, lt-of-lt-of-le, zero-lt-suc, one-mul, mul-one, suc-mul, mul-suc, mul-assoc, mul-comm, mul-pos, mul-le-mul-left, mul-le-mul-right, le-of-mul-le-mul-right, lt-of-mul-lt-mul-right, lt-div-mul-add, div-mul-le-self}
-use native.Mathlib.Omega.{arith}
-use mathlib.Core.Bool.{false}
-use lib.IntN.{negsuc}
-use lib.Dec.{T, lt→ltb}
-use lib.Pow.{pow-pos, pow-mono, pow-add, shl-lt}
-use lib.Ieee.{Float, fin, binary64, round, mul, fits, lt, le}
-use lib.Ieee.Fits.{round-fits, mul-fits}
-use lib.Ieee.Exact.{HasValue, round-exact}
-use lib.Ieee.Order.{round-mono}
+use Rattle.arithmetic.proofs.Kit.{_≡_, refl, sym, ap, _∙_, subst, ℕ, suc, _+_, _-_, _*_, _/_, _^_, _≤_, _<_, le-trans, le-of-eq, lt-of-le-of-lt, lt-of-lt-of-le, zero-lt-suc, one-mul, mul-one, suc-mul, mul-suc, mul-assoc, mul-comm, mul-pos, mul-le-mul-left, mul-le-mul-right, le-of-mul-le-mul-right, lt-of-mul-lt-mul-right, lt-div-mul-add, div-mul-le-self, arith, false, negsuc, T, lt→ltb, pow-pos, pow-mono, pow-add, shl-lt, Float, fin, binary64, round, mul, fits, lt, le, round-fits, mul-fits, HasValue, round-mono}
+use native.Mathlib.Nat.{le-suc}
+use lib.Ieee.Exact.{round-exact}
 use lib.Ieee.Positive.{positive-of-value, values-of-le, mul-at}
 use Rattle.arithmetic.proofs.Order.{numbers-of-le, le-trans-double}
 use Rattle.arithmetic.proofs.Units.{split-power}

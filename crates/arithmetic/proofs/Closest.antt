@@ -1,15 +1,12 @@
 -- `closest`, a fraction rounded to the nearest whole number with a tie to the even one, by the comparisons that decide it; and its bounds.
 -- Assumes nothing.
-use mathlib.Core.Path.{_≡_, refl, sym, ap, _∙_, subst}
-use mathlib.Core.Bool.{not}
-use Prim.Native.Nat.{ℕ, suc, _+_, _-_, _*_, _/_, _%_, _≤_, _<_, compare, Ordering, Ordering·lt, Ordering·eq, Ordering·gt}
-use native.Mathlib.Nat.{div-eq-of-lt, mod-eq-of-lt, le-trans}
-use native.Mathlib.Omega.{arith}
-use lib.Dec.{T, isLe, isEq, eqb, eqb-refl, leb→le, nleb→lt, eqb→eq}
+use Rattle.arithmetic.proofs.Kit.{_≡_, refl, sym, ap, _∙_, subst, not, ℕ, suc, _+_, _-_, _*_, _/_, _%_, _≤_, _<_, div-eq-of-lt, mod-eq-of-lt, le-trans, arith, T, eqb, leb→le, nleb→lt, eqb→eq, closest}
+use Prim.Native.Nat.{compare, Ordering, Ordering·lt, Ordering·eq, Ordering·gt}
+use lib.Dec.{isLe, isEq, eqb-refl}
 use lib.Arith.{lt-of-le-ne}
 use lib.Ieee.{nearest}
 use lib.Ieee.Fits.{nearest-le}
-use lib.Ieee.Nearest.{closest, nearest-ge}
+use lib.Ieee.Nearest.{nearest-ge}
 
 -- ---- `nearest` chooses as a and b compare
 pub nearest-is : (q a b r : ℕ) → (a < b → r ≡ q) → (a ≡ b → r ≡ q + q % 2) → (b < a → r ≡ suc q) → r ≡ nearest q (compare a b)

@@ -1,21 +1,23 @@
 -- Two roundings with one denominator keep the order of what is rounded. So a function whose answers at finite doubles are such roundings, by the doubles'
 -- counts of units of 2 ^ -1074, keeps the order of the doubles. Assumes nothing.
-use mathlib.Core.Path.{_≡_, refl, sym, _∙_}
-use mathlib.Core.Bool.{Bool, true, false}
-use Prim.Native.Nat.{ℕ, zero, suc, _+_, _≤_, _<_}
-use native.Mathlib.Nat.{mul-le-mul-right, zero-mul}
-use native.Mathlib.Omega.{arith}
-use lib.IntN.{ℤ, pos}
-use lib.Dec.{T}
-use lib.Signed.{_≤ℤ_}
-use lib.Ieee.{Float, nan, inf, fin, binary64, round, neg, fits, le}
-use lib.Ieee.Order.{round-mono}
-use lib.Ieee.Scale.{round-same}
+use Rattle.arithmetic.proofs.Kit.{_≡_, refl, sym, _∙_, Bool, true, false, ℕ, zero, suc, _+_, _*_, _≤_, _<_, mul-le-mul-right, mul-lt-mul-of-pos-right, lt-of-mul-lt-mul-right, le-of-mul-le-mul-right, zero-mul, arith, ℤ, pos, ltb-true, ltb-false, lt-ltb, le-ltb, T, ltb, _≤ℤ_, Float, nan, inf, fin, binary64, round, neg, fits, le, round-mono, round-same}
 use Rattle.arithmetic.specs.Whole.{signed}
 use Rattle.arithmetic.specs.Nearest.{unitsOf}
 use Rattle.arithmetic.proofs.Integers.{le-of-pos, not-below-neg, le-of-opposites}
 use Rattle.arithmetic.proofs.Order.{Rises, count-of-le, number, unsigned, unsigned-cases, lowest, highest, ordered-cases, neg-below-unsigned, neg-turns}
 use Rattle.arithmetic.proofs.Rounding.{round-opposite, round-unsigned}
+
+-- ---- two tests that agree, as those of a / d and b / d and of u / k and v / k do
+pub ltb-alike : (a b c d : ℕ) → (a < b → c < d) → (b ≤ a → d ≤ c) → ltb a b ≡ ltb c d
+ltb-alike a b c d there back = go (ltb a b) refl
+  where
+    go : (t : Bool) → ltb a b ≡ t → ltb a b ≡ ltb c d
+    go true e = e ∙ sym (lt-ltb c d (there (ltb-true a b e)))
+    go false e = e ∙ sym (le-ltb c d (back (ltb-false a b e)))
+
+pub ltb-scaled : (k d a b u v : ℕ) → 0 < k → 0 < d → a * k ≡ u * d → b * k ≡ v * d → ltb a b ≡ ltb u v
+ltb-scaled k d a b u v K D p q =
+    sym (ltb-alike u v a b (λ h. lt-of-mul-lt-mul-right k (rw (p, q) (mul-lt-mul-of-pos-right h D))) (λ h. le-of-mul-le-mul-right (rw (p, q) (mul-le-mul-right d h)) K))
 
 -- ---- ±a against ±b, over natural numbers: what is above zero, and what below
 unfoldable pub above : Bool → ℕ → ℕ

@@ -1,16 +1,6 @@
 -- A finite double by what of it is above zero and what below, in units of 2 ^ -1074: linear arithmetic over natural numbers then says how far apart two
 -- doubles are, and which is lower. Assumes nothing.
-use mathlib.Core.Path.{_≡_}
-use mathlib.Core.Bool.{Bool, true, false, not, cond}
-use Prim.Native.Nat.{ℕ, zero, suc, _+_, _-_, _≤_, _<_, zero-le}
-use native.Mathlib.Nat.{le-refl}
-use native.Mathlib.Omega.{arith}
-use lib.IntN.{ℤ, pos, negsuc, _+ℤ_}
-use lib.Dec.{T, ltb, ltb→lt, nltb→le}
-use lib.Signed.{_≤ℤ_}
-use lib.Ieee.{Float, nan, inf, fin, binary64, neg, fits, lt, le}
-use lib.Ieee.Fits.{neg-fits}
-use lib.Ieee.Scale.{finite}
+use Rattle.arithmetic.proofs.Kit.{_≡_, Bool, true, false, not, cond, ℕ, zero, suc, _+_, _-_, _≤_, _<_, zero-le, le-refl, arith, ℤ, pos, negsuc, _+ℤ_, T, ltb, ltb→lt, nltb→le, _≤ℤ_, Float, nan, inf, fin, binary64, neg, fits, lt, le, neg-fits, finite}
 use Rattle.arithmetic.specs.Whole.{signed}
 use Rattle.arithmetic.specs.Nearest.{unitsOf}
 use Rattle.arithmetic.proofs.Integers.{pos-le, neg-below, opposites}

@@ -1,19 +1,9 @@
 -- The double of a decimal is the logic's own rounding of the fraction that its text stands for. Assumes nothing.
-use mathlib.Core.Path.{_≡_, refl, sym, ap, ap₂, _∙_, subst}
-use mathlib.Core.Bool.{Bool, true, false, not, cond}
+use Rattle.arithmetic.proofs.Kit.{_≡_, refl, sym, ap, ap₂, _∙_, subst, Bool, true, false, not, cond, ℕ, zero, suc, _+_, _-_, _*_, _/_, _%_, _^_, _≤_, _<_, min, le-trans, le-of-eq, zero-add, div-one, mul-comm, le-div-iff-mul-le, div-lt-iff-lt-mul, arith, T, ltb, eqb, ltb→lt, nltb→le, pow-add, pow-pos, [], _∷_, map, replicate, nan, inf, binary64, size, odd, round, neg, ofFields, ofBits, size-lt, size-reaches, closest, le-leb, lt-leb}
 use Prim.Native.String.{String}
-use Prim.Native.Nat.{ℕ, zero, suc, _+_, _-_, _*_, _/_, _%_, _^_, _≤_, _<_, min}
-use native.Mathlib.Nat.{le-trans, le-of-eq, zero-add, div-one, mul-comm, le-div-iff-mul-le, div-lt-iff-lt-mul, min-le-right, two-pow-succ}
-use native.Mathlib.Omega.{arith}
-use lib.Dec.{T, ltb, eqb, ltb→lt, nltb→le}
-use lib.Pow.{pow-add, pow-pos, shr-lt}
-use mathlib.Core.List.{[], _∷_, map}
-use lib.ListN.{replicate}
-use lib.Ieee.{nan, inf, binary64, size, odd, round, neg, ofFields, ofBits}
-use lib.Ieee.Digits.{size-lt, size-reaches}
-use lib.Ieee.Nearest.{closest}
-use borrow.Author.Tests.{le-leb, lt-leb}
-use Rattle.arithmetic.specs.Decimals.{fraction, digits, pattern, nearestTo, decimal}
+use native.Mathlib.Nat.{min-le-right, two-pow-succ}
+use lib.Pow.{shr-lt}
+use Rattle.arithmetic.specs.Decimals.{fraction, binaryDigits, pattern, nearestTo, decimal}
 use Rattle.arithmetic.proofs.Rounding.{odd-opposite, round-opposite}
 use Rattle.arithmetic.proofs.Pattern.{size-is, round-bits}
 use Rattle.arithmetic.proofs.Size.{size-pos}
@@ -38,13 +28,13 @@ size-small zero h = refl
 size-small (suc zero) h = refl
 size-small (suc (suc n)) h = omega arith
 
-digits-size : (k n : ℕ) → n < 2 ^ (2 ^ k) → digits k n ≡ size n
+digits-size : (k n : ℕ) → n < 2 ^ (2 ^ k) → binaryDigits k n ≡ size n
 digits-size zero n h = size-small n h
 digits-size (suc k) n h = go (ltb n (2 ^ (2 ^ k))) (ltb→lt n (2 ^ (2 ^ k))) (nltb→le n (2 ^ (2 ^ k))) (digits-size k)
   where
-    go : (b : Bool) → (T b → n < 2 ^ (2 ^ k)) → (T (not b) → 2 ^ (2 ^ k) ≤ n) → ((m : ℕ) → m < 2 ^ (2 ^ k) → digits k m ≡ size m)
-        → cond b 0 (2 ^ k) + digits k (n / 2 ^ cond b 0 (2 ^ k)) ≡ size n
-    go true l g shorter = zero-add (digits k (n / 1)) ∙ ap (digits k) (div-one n) ∙ shorter n (l tt)
+    go : (b : Bool) → (T b → n < 2 ^ (2 ^ k)) → (T (not b) → 2 ^ (2 ^ k) ≤ n) → ((m : ℕ) → m < 2 ^ (2 ^ k) → binaryDigits k m ≡ size m)
+        → cond b 0 (2 ^ k) + binaryDigits k (n / 2 ^ cond b 0 (2 ^ k)) ≡ size n
+    go true l g shorter = zero-add (binaryDigits k (n / 1)) ∙ ap (binaryDigits k) (div-one n) ∙ shorter n (l tt)
     go false l g shorter = ap (λ (x : ℕ). 2 ^ k + x) (shorter (n / 2 ^ (2 ^ k)) (shr-lt (2 ^ k) (2 ^ k) (subst (λ (e : ℕ). n < 2 ^ e) (two-pow-succ k) h))) ∙ size-cut n (2 ^ k) (g tt)
 
 -- ---- the sign is the pattern's highest digit

@@ -1,16 +1,8 @@
 -- A whole number as the difference of two natural numbers: which differences are the same, its sum, its product with a factor, its floor and remainder.
 -- Assumes nothing.
-use mathlib.Core.Path.{_≡_, sym, ap, _∙_, subst}
-use Prim.Native.Nat.{ℕ, zero, suc, _+_, _-_, _*_, _/_, _%_, _≤_, _<_}
-use native.Mathlib.Nat.{lt-of-not-le, add-mul, mod-lt, div-add-mod', le-div-iff-mul-le, div-lt-iff-lt-mul}
-use native.Mathlib.Decide.{decLe}
-use native.Mathlib.Omega.{arith}
-use mathlib.Core.Bool.{Bool, cond}
-use lib.IntN.{ℤ, pos, negsuc, negℤ, subℕ, _+ℤ_, _*ℤ_}
-use lib.Dec.{leb, ltb, le→leb, lt→ltb}
-use lib.Arith.{lt→nleb, le→nltb, digits-div, digits-mod}
-use lib.Ieee.{minus}
-use lib.Ieee.Bits.{is-true, is-false}
+use Rattle.arithmetic.proofs.Kit.{_≡_, sym, ap, _∙_, subst, ℕ, zero, suc, _+_, _-_, _*_, _/_, _%_, _≤_, _<_, lt-of-not-le, add-mul, mod-lt, div-add-mod', le-div-iff-mul-le, div-lt-iff-lt-mul, decLe, arith, Bool, cond, ℤ, pos, negsuc, negℤ, _+ℤ_, _*ℤ_, leb, ltb, le→leb, lt→ltb, le→nltb, digits-div, minus, is-true, is-false}
+use lib.IntN.{subℕ}
+use lib.Arith.{lt→nleb, digits-mod}
 use Rattle.arithmetic.specs.Whole.{floorDiv, floorMod}
 
 -- ---- by its sign

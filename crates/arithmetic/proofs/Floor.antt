@@ -1,18 +1,12 @@
 -- floor(x * 2^p) of a double of n = q * 2^k units of 2 ^ -1074, as the quotient that `floor_word` computes from q, for any p up to 64.
 -- Assumes nothing.
-use mathlib.Core.Path.{_≡_, sym, ap, ap₂, _∙_, subst}
-use mathlib.Core.Logic.{⊎-elim}
-use Prim.Native.Nat.{ℕ, _+_, _-_, _*_, _/_, _^_, _≤_, _<_}
-use native.Mathlib.Nat.{le-trans, le-of-eq, lt-of-le-of-lt, lt-of-not-le, not-le-of-lt, mul-pos, mul-comm, mul-assoc, mul-right-comm, mul-le-mul-right, mul-lt-mul-of-pos-right, div-div-eq-div-mul, mul-div-mul-right, div-lt-iff-lt-mul}
-use native.Mathlib.Omega.{arith}
-use lib.IntN.{pos, negsuc, negℤ}
-use lib.Arith.{digits-div, mul-pred}
-use lib.Pow.{pow-pos, pow-add, pow-mono}
+use Rattle.arithmetic.proofs.Kit.{_≡_, sym, ap, ap₂, _∙_, subst, ⊎-elim, ℕ, _+_, _-_, _*_, _/_, _^_, _≤_, _<_, le-trans, le-of-eq, lt-of-le-of-lt, lt-of-not-le, not-le-of-lt, mul-pos, mul-comm, mul-assoc, mul-right-comm, mul-le-mul-right, mul-lt-mul-of-pos-right, div-div-eq-div-mul, mul-div-mul-right, div-lt-iff-lt-mul, arith, pos, negsuc, negℤ, digits-div, pow-pos, pow-add, pow-mono}
+use lib.Arith.{mul-pred}
 use Rattle.arithmetic.specs.Parts.{Digits}
 use Rattle.arithmetic.proofs.Integers.{opposite-of}
 
 -- a fraction's numerator, one less, keeps the floor under a common factor
-pub pred-div : (x d c : ℕ) → 0 < x → 0 < c → (x - 1) / d ≡ (x * c - 1) / (d * c)
+pred-div : (x d c : ℕ) → 0 < x → 0 < c → (x - 1) / d ≡ (x * c - 1) / (d * c)
 pred-div x d c X C =
     ap (λ (n : ℕ). n / d) (sym (ap (λ (n : ℕ). n / c) (mul-pred X C) ∙ digits-div (x - 1) (omega arith)))
     ∙ div-div-eq-div-mul (x * c - 1) c d

@@ -1,14 +1,7 @@
 -- The order of the whole numbers, and what keeps or turns it: the opposite, a product with a fixed factor, a floor. Assumes nothing.
-use mathlib.Core.Path.{_≡_, refl, sym, ap, _∙_}
-use Prim.Native.Nat.{ℕ, zero, suc, _-_, _*_, _/_, _≤_, _<_, zero-le, suc-le-suc}
-use native.Mathlib.Nat.{le-trans, le-of-suc-le-suc, not-suc-le-zero, zero-lt-suc, mul-le-mul-right, le-of-mul-le-mul-right, mul-pos, zero-mul}
+use Rattle.arithmetic.proofs.Kit.{_≡_, refl, sym, ap, _∙_, ℕ, zero, suc, _-_, _*_, _/_, _≤_, _<_, zero-le, suc-le-suc, le-trans, le-of-suc-le-suc, not-suc-le-zero, zero-lt-suc, mul-le-mul-right, le-of-mul-le-mul-right, mul-pos, zero-mul, arith, Bool, true, false, cond, ℤ, pos, negsuc, negℤ, _*ℤ_, T, leb, leb→le, le→leb, _≤ℤ_, minus}
 use native.Mathlib.Numerals.{sub-one}
-use native.Mathlib.Omega.{arith}
-use mathlib.Core.Bool.{Bool, true, false, cond}
-use lib.IntN.{ℤ, pos, negsuc, negℤ, negℤ-negℤ, _*ℤ_, *ℤ-zero, *ℤ-negsuc}
-use lib.Dec.{T, leb, leb→le, le→leb}
-use lib.Signed.{_≤ℤ_}
-use lib.Ieee.{minus}
+use lib.IntN.{negℤ-negℤ, *ℤ-zero, *ℤ-negsuc}
 use lib.Ieee.Nearest.{div-mono as div-ratios}
 use Rattle.arithmetic.specs.Whole.{signed, floorDiv}
 
@@ -19,7 +12,7 @@ pos-le {a} {b} h = record { le = le→leb a b h }
 pub le-of-pos : {a b : ℕ} → pos a ≤ℤ pos b → a ≤ b
 le-of-pos {a} {b} h = leb→le a b (h .le)
 
-pub negsuc-le : {a b : ℕ} → b ≤ a → negsuc a ≤ℤ negsuc b
+negsuc-le : {a b : ℕ} → b ≤ a → negsuc a ≤ℤ negsuc b
 negsuc-le {a} {b} h = record { le = le→leb b a h }
 
 pub le-of-negsuc : {a b : ℕ} → negsuc a ≤ℤ negsuc b → b ≤ a

@@ -20,3 +20,12 @@ pub mod Between
 pub mod Near
 pub mod Counts
 pub mod Apart
+pub mod NotANumber
+pub mod Zeros
+pub mod ThreeInOrder
+pub mod OfThree
+pub mod Powers
+pub mod Compared
+pub mod Every
+pub mod Carried
+pub mod Kit

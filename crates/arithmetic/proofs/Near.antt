@@ -1,19 +1,8 @@
 -- A rounding moves a number by one step at most, a step U being the distance of the doubles of that size. Numbers are counts of units of 2 ^ -1074.
 -- Assumes nothing.
-use mathlib.Core.Path.{_≡_, sym, ap, _∙_, subst}
-use mathlib.Core.Bool.{Bool, true, false, not}
-use Prim.Native.Nat.{ℕ, _+_, _*_, _/_, _^_, _≤_, _<_}
-use native.Mathlib.Nat.{le-refl, le-trans, le-of-eq, lt-of-lt-of-le, mul-comm, mul-assoc, add-mul, mul-pos, mul-div-cancel, mul-le-mul-right, mul-le-mul-left, mul-lt-mul-of-pos-right, lt-of-mul-lt-mul-right, le-of-mul-le-mul-right, div-mul-le-self, div-add-mod', mod-lt, div-lt-iff-lt-mul}
-use native.Mathlib.Omega.{arith}
-use lib.IntN.{ℤ}
-use lib.Dec.{T}
-use lib.Pow.{pow-add, pow-pos, pow-mono}
-use lib.Ieee.{Float, nan, inf, fin, binary64, down, size, round, neg, fits}
-use lib.Ieee.Digits.{size-le}
-use lib.Ieee.Fits.{down-pos, round-fits}
-use lib.Ieee.Exact.{HasValue}
-use lib.Ieee.Order.{drop, kept}
-use lib.Ieee.Scale.{finite, grid, round-val}
+use Rattle.arithmetic.proofs.Kit.{_≡_, sym, ap, _∙_, subst, Bool, true, false, not, ℕ, _+_, _*_, _/_, _^_, _≤_, _<_, le-refl, le-trans, le-of-eq, lt-of-lt-of-le, mul-comm, mul-assoc, add-mul, mul-pos, mul-div-cancel, mul-le-mul-right, mul-le-mul-left, mul-lt-mul-of-pos-right, lt-of-mul-lt-mul-right, le-of-mul-le-mul-right, div-mul-le-self, div-add-mod', mod-lt, div-lt-iff-lt-mul, arith, ℤ, T, pow-add, pow-pos, pow-mono, Float, nan, inf, fin, binary64, down, size, round, neg, fits, size-le, down-pos, round-fits, HasValue, kept, finite}
+use lib.Ieee.Order.{drop}
+use lib.Ieee.Scale.{grid, round-val}
 use Rattle.arithmetic.specs.Nearest.{unitsOf}
 use Rattle.arithmetic.proofs.Closest.{closest-at-most, closest-at-least}
 use Rattle.arithmetic.proofs.Rounding.{round-opposite}

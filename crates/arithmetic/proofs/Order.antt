@@ -1,18 +1,10 @@
 -- The order of doubles. Between finite doubles it is the order of their counts of units of 2 ^ -1074, with the sign; the infinities are its ends.
 -- Assumes nothing.
-use mathlib.Core.Path.{_≡_, refl, sym, ap, _∙_, subst₂}
-use mathlib.Core.Logic.{_⊎_, inl, inr}
-use Prim.Native.Nat.{ℕ, zero, suc, _+_, _-_, _*_, _/_, _^_, _≤_}
-use native.Mathlib.Nat.{le-of-eq, le-of-lt, le-antisymm, eq-or-lt-of-le, eq-zero-or-pos, not-suc-le-zero, zero-mul, mul-assoc, mul-comm, mul-right-comm, mul-pos, zero-div}
-use native.Mathlib.Omega.{arith}
-use mathlib.Core.Bool.{Bool, true, false, not, _&&_, _||_, cond}
-use lib.IntN.{ℤ, pos, negℤ, negℤ-negℤ, _*ℤ_}
-use lib.Dec.{T, ltb, eqb, ltb→lt, lt→ltb, eqb→eq}
-use lib.Signed.{_≤ℤ_, ≤ℤ-refl}
-use lib.Pow.{pow-pos}
-use lib.Ieee.{Float, nan, inf, fin, binary64, up, down, neg, fits, le, below, level, hid, top, size, ofBits, toBits}
-use lib.Ieee.Bits.{ofBits-toBits}
-use lib.Ieee.Fits.{down-pos, and-i, and-l, and-r, eq→eqb}
+use Rattle.arithmetic.proofs.Kit.{_≡_, refl, sym, ap, _∙_, subst₂, _⊎_, inl, inr, ℕ, zero, suc, _+_, _-_, _*_, _/_, _^_, _≤_, le-of-eq, le-of-lt, le-antisymm, eq-or-lt-of-le, not-suc-le-zero, zero-mul, mul-assoc, mul-comm, mul-right-comm, mul-pos, zero-div, arith, Bool, true, false, not, _&&_, _||_, cond, ℤ, pos, negℤ, _*ℤ_, T, ltb, eqb, ltb→lt, lt→ltb, eqb→eq, _≤ℤ_, ≤ℤ-refl, pow-pos, Float, nan, inf, fin, binary64, up, down, neg, fits, le, size, ofBits, toBits, ofBits-toBits, down-pos, and-i, and-l, and-r}
+use native.Mathlib.Nat.{eq-zero-or-pos}
+use lib.IntN.{negℤ-negℤ}
+use lib.Ieee.{below, level, hid, top}
+use lib.Ieee.Fits.{eq→eqb}
 use Rattle.arithmetic.specs.Whole.{signed}
 use Rattle.arithmetic.specs.Nearest.{unitsOf}
 use Rattle.arithmetic.proofs.Integers.{pos-le, le-of-pos, neg-below, opposites, le-of-opposites, ≤ℤ-trans, times-mono, times-cancel, signed-times, neg-mono}

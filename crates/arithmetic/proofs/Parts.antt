@@ -1,18 +1,10 @@
 -- A double by the fields of its bit pattern: which `Parts` it is taken apart into; and how many units of 2 ^ -1074 a finite one is. Assumes nothing.
-use mathlib.Core.Path.{_≡_, refl, sym, ap, ap₂, _∙_, subst}
-use mathlib.Core.Logic.{inl, inr, ⊎-elim}
-use mathlib.Core.Bool.{Bool, false, not, cond, true≢false}
-use Prim.Native.Nat.{ℕ, zero, suc, _+_, _-_, _*_, _/_, _%_, _^_, _≤_, _<_}
-use native.Mathlib.Nat.{le-of-lt, le-of-eq, le-trans, lt-of-lt-of-le, mul-le-mul-right, mul-lt-mul-of-pos-right, mul-div-cancel, mul-pos, zero-mul, ne-of-lt}
-use native.Mathlib.Omega.{arith}
-use lib.IntN.{ℤ, pos}
-use lib.Pow.{pow-pos, pow-mono, pow-add, shl-lt}
-use lib.Dec.{T, leb, eqb, eqb→eq, eqb·suc-zero, not-T}
-use lib.Ieee.{Float, nan, inf, fin, binary64, up, down, odd, fits, isNan, ne, ofFields, ofBits, toBits, size}
-use lib.Ieee.Fits.{down-pos, odd-fits}
-use lib.Ieee.Bits.{ofBits-toBits, cond-no}
-use lib.Ieee.Digits.{size-le}
-use lib.Ieee.Exact.{HasValue, odd-sign}
+use Rattle.arithmetic.proofs.Kit.{_≡_, refl, sym, ap, ap₂, _∙_, subst, inl, inr, ⊎-elim, Bool, false, not, cond, true≢false, ℕ, zero, suc, _+_, _-_, _*_, _/_, _%_, _^_, _≤_, _<_, le-of-lt, le-of-eq, le-trans, lt-of-lt-of-le, mul-le-mul-right, mul-lt-mul-of-pos-right, mul-div-cancel, mul-pos, zero-mul, arith, ℤ, pos, pow-pos, pow-mono, pow-add, shl-lt, T, leb, eqb, eqb→eq, eqb·suc-zero, Float, nan, inf, fin, binary64, up, down, odd, fits, isNan, ne, ofFields, ofBits, toBits, size, down-pos, ofBits-toBits, size-le, HasValue}
+use native.Mathlib.Nat.{ne-of-lt}
+use lib.Dec.{not-T}
+use lib.Ieee.Fits.{odd-fits}
+use lib.Ieee.Bits.{cond-no}
+use lib.Ieee.Exact.{odd-sign}
 use Rattle.arithmetic.specs.declared.double.Parts.{Parts}
 use Rattle.arithmetic.specs.declared.double.Parts.the-variants.{NotANumber, Infinite, Zero, Finite}
 use Rattle.arithmetic.specs.Nearest.{unitsOf}
@@ -27,13 +19,13 @@ not-nan (inf s) same = tt
 not-nan (fin s m e) same = tt
 
 -- ---- the three fields of a double's pattern
-abbrev negative : Float → Bool
+abbrev pub negative : Float → Bool
 negative x = leb (2 ^ 63) (toBits binary64 x)
 
-abbrev field : Float → ℕ
+abbrev pub field : Float → ℕ
 field x = toBits binary64 x % 2 ^ 63 / 2 ^ 52
 
-abbrev fraction : Float → ℕ
+abbrev pub fraction : Float → ℕ
 fraction x = toBits binary64 x % 2 ^ 52
 
 -- ---- what the fields s, k and t are read as, at the two ends of the range of k and between them
@@ -102,7 +94,7 @@ pub units-of-parts : (s : Bool) (q k : ℕ) → unitsOf (odd 53 s q k 1074) ≡ 
 units-of-parts s q k = units-of-value (odd 53 s q k 1074) s (q * 2 ^ k) (odd-sign 53 s q k 1074)
 
 -- a finite double of some units is written with a magnitude that is not zero
-pub finite-of-value : (x : Float) (s : Bool) (a : ℕ) → 0 < a → HasValue x s a (2 ^ 1074) → (m : ℕ) × (e : ℤ) × (x ≡ fin s (suc m) e)
+finite-of-value : (x : Float) (s : Bool) (a : ℕ) → 0 < a → HasValue x s a (2 ^ 1074) → (m : ℕ) × (e : ℤ) × (x ≡ fin s (suc m) e)
 finite-of-value nan s a some h = absurd h
 finite-of-value (inf t) s a some h = absurd h
 finite-of-value (fin t zero e) s a some h = absurd (ne-of-lt (mul-pos some (down-pos e)) (sym (ap (λ (n : ℕ). n * 2 ^ 1074) (zero-mul (up e))) ∙ h .1))

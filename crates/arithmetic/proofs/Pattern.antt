@@ -1,23 +1,14 @@
 -- What `round` gives, as a bit pattern: the exponent's field counts the digits that it drops, the number that it keeps is added to that, and the
 -- pattern goes no higher than the infinity's. The leading digit of a number that is kept adds one to the field, and a number that rounding brought
 -- to the next power of two adds two. Assumes nothing.
-use mathlib.Core.Path.{_≡_, refl, sym, ap, _∙_, subst}
-use mathlib.Core.Logic.{inl, inr}
-use mathlib.Core.Bool.{true, false, true≢false}
-use Prim.Native.Nat.{ℕ, suc, _+_, _-_, _*_, _/_, _^_, _≤_, _<_, min}
-use native.Mathlib.Nat.{eq-or-lt-of-le, eq-zero-or-pos, le-antisymm, le-of-eq, le-trans, lt-of-lt-of-le, lt-of-not-le, not-le-of-lt, lt-suc-self, zero-add, mul-one, suc-mul, mul-le-mul-right, mul-div-cancel, div-div-eq-div-mul, le-div-iff-mul-le, min-eq-left, min-eq-right, pow-succ'}
-use native.Mathlib.Numerals.{add-one}
+use Rattle.arithmetic.proofs.Kit.{_≡_, refl, sym, ap, _∙_, subst, inl, inr, true, false, true≢false, ℕ, suc, _+_, _-_, _*_, _/_, _^_, _≤_, _<_, min, eq-or-lt-of-le, le-antisymm, le-of-eq, le-trans, lt-of-lt-of-le, lt-of-not-le, not-le-of-lt, lt-suc-self, zero-add, mul-one, suc-mul, mul-le-mul-right, mul-div-cancel, div-div-eq-div-mul, le-div-iff-mul-le, min-eq-left, min-eq-right, pow-succ', add-one, arith, T, ltb, le→nltb, pow-add, pow-pos, pow-mono, pow-lt, shl-lt, Float, nan, inf, fin, binary64, down, size, odd, units, round, ofBits, toBits, fits, size-lt, size-le, size-reaches, down-pos, round-fits, ofBits-toBits, HasValue, kept}
+use native.Mathlib.Nat.{eq-zero-or-pos}
 use native.Mathlib.Decide.{decLt}
-use native.Mathlib.Omega.{arith}
-use lib.Dec.{ltb}
-use lib.Arith.{le→nltb}
-use lib.Pow.{pow-add, pow-pos, pow-mono, pow-lt, shl-lt, shl-shr}
-use lib.Ieee.{Float, nan, inf, fin, Format, binary32, binary64, prec, emax, low, down, size, odd, units, round, hid, ones, ofBits, toBits}
-use lib.Ieee.Digits.{size-lt, size-le, size-reaches}
-use lib.Ieee.Fits.{down-pos, kept-lt, round-fits, round-is, reach, two, two-le-pos}
-use lib.Ieee.Bits.{ofBits-toBits, cond-no}
-use lib.Ieee.Exact.{HasValue}
-use lib.Ieee.Order.{drop, kept}
+use lib.Pow.{shl-shr}
+use lib.Ieee.{Format, binary32, prec, emax, low, hid, ones}
+use lib.Ieee.Fits.{kept-lt, round-is, reach, two, two-le-pos}
+use lib.Ieee.Bits.{cond-no}
+use lib.Ieee.Order.{drop}
 use lib.Ieee.Scale.{grid, overflow, round-val}
 use Rattle.arithmetic.proofs.Closest.{closest-at-most, closest-at-least}
 
@@ -162,3 +153,7 @@ round-bits f num den =
           ∙ sym (infinity-bits f)
           ∙ ap (ofBits f) (sym (min-eq-right (omega arith)))
     ]
+
+-- ---- doubles with one pattern are one double
+pub one-pattern : (x y : Float) → T (fits binary64 x) → T (fits binary64 y) → toBits binary64 x ≡ toBits binary64 y → x ≡ y
+one-pattern x y f g same = sym (ofBits-toBits binary64 x f) ∙ ap (ofBits binary64) same ∙ ofBits-toBits binary64 y g

@@ -1,15 +1,6 @@
 -- The product with a positive number, and the quotient by one, keep the order of the doubles, infinities included. Assumes nothing.
-use mathlib.Core.Path.{_≡_, refl, ap, _∙_}
-use mathlib.Core.Bool.{Bool, true, false}
-use Prim.Native.Nat.{ℕ, zero, suc, _*_, _^_, _≤_, _<_}
-use native.Mathlib.Nat.{mul-le-mul-right, mul-comm, mul-mul-mul-comm, mul-pos, zero-mul}
-use native.Mathlib.Omega.{arith}
-use lib.IntN.{ℤ}
-use lib.Dec.{T, eqb·suc-zero}
-use lib.Pow.{pow-pos}
-use lib.Ieee.{inf, fin, binary64, up, down, round, unlike, mul, div, fits, le}
-use lib.Ieee.Fits.{up-pos, down-pos}
-use lib.Ieee.Scale.{round-same}
+use Rattle.arithmetic.proofs.Kit.{_≡_, refl, ap, _∙_, Bool, true, false, ℕ, zero, suc, _*_, _^_, _≤_, _<_, mul-le-mul-right, mul-comm, mul-mul-mul-comm, mul-pos, zero-mul, arith, ℤ, T, eqb·suc-zero, pow-pos, inf, fin, binary64, up, down, round, mul, div, fits, le, up-pos, down-pos, round-same}
+use lib.Ieee.{unlike}
 use Rattle.arithmetic.specs.Nearest.{unitsOf}
 use Rattle.arithmetic.proofs.Order.{Rises, units-exact}
 use Rattle.arithmetic.proofs.CommonDenominator.{above, beneath, AtMost, round-order, round-number, by-counts}

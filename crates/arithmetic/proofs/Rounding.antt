@@ -1,16 +1,9 @@
 -- The rounding of a signed fraction keeps the order: the larger fraction rounds to a double that is no smaller, subnormals and infinities included.
 -- Assumes nothing.
-use mathlib.Core.Path.{_≡_, refl, sym, ap, _∙_, subst}
-use Prim.Native.Nat.{ℕ, zero, suc, _+_, _*_, _^_, _≤_, _<_}
-use native.Mathlib.Nat.{mul-pos, zero-lt-suc}
-use mathlib.Core.Bool.{Bool, true, false, cond}
-use lib.IntN.{ℤ, pos, negsuc, _*ℤ_}
-use lib.Dec.{T, ltb}
-use lib.Signed.{_≤ℤ_}
-use lib.Ieee.{Float, inf, Format, binary64, prec, emax, low, odd, units, round, neg, le}
+use Rattle.arithmetic.proofs.Kit.{_≡_, refl, sym, ap, _∙_, subst, ℕ, zero, suc, _+_, _*_, _^_, _≤_, _<_, mul-pos, mul-le-mul-right, zero-lt-suc, Bool, true, false, cond, ℤ, pos, negsuc, _*ℤ_, T, ltb, _≤ℤ_, Float, inf, binary64, odd, units, up, down, round, neg, le, down-pos, round-mono}
+use lib.Ieee.{Format, prec, emax, low}
 use lib.Ieee.Fits.{round-is}
-use lib.Ieee.Order.{round-mono}
-use Rattle.arithmetic.specs.Nearest.{nearestRatio}
+use Rattle.arithmetic.specs.Nearest.{nearestScaled, nearestRatio}
 use Rattle.arithmetic.proofs.Integers.{le-of-pos, not-below-neg, le-of-opposites}
 use Rattle.arithmetic.proofs.Order.{unsigned, neg-below-unsigned, neg-turns}
 
@@ -56,3 +49,7 @@ ratio-mono (negsuc a) (pos b) c d C D h = rw (round-opposite binary64 (suc a) c)
 ratio-mono (negsuc a) (negsuc b) c d C D h =
     rw (round-opposite binary64 (suc a) c, round-opposite binary64 (suc b) d)
     (neg-turns (round binary64 false (suc b) d) (round binary64 false (suc a) c) (round-mono binary64 (suc b) d (suc a) c D C (le-of-opposites (suc b * c) (suc a * d) h)))
+
+-- ---- one power of two times a greater number
+pub scaled-mono : {m n : ℕ} (e : ℤ) → m ≤ n → T (le (nearestScaled m e) (nearestScaled n e))
+scaled-mono {m} {n} e h = round-mono binary64 (m * up e) (down e) (n * up e) (down e) (down-pos e) (down-pos e) (mul-le-mul-right (down e) (mul-le-mul-right (up e) h))

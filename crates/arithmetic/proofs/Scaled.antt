@@ -1,21 +1,14 @@
 -- The patterns of y * 2 ^ d / 2 ^ (low + g), rounded, for a y of g digits more than the format keeps, and of y / 2 ^ (low + g) for a y of no more
 -- digits than that. In units of the smallest value they are y * 2 ^ d / 2 ^ g, of which d digits are dropped, and y / 2 ^ g, of which none is.
 -- Then m * 2 ^ k and m / 2 ^ k in those forms. Assumes nothing.
-use mathlib.Core.Path.{_≡_, refl, sym, ap, _∙_, subst}
-use mathlib.Core.Bool.{Bool, false, not}
-use Prim.Native.Nat.{ℕ, suc, _+_, _-_, _*_, _/_, _%_, _^_, _≤_, _<_, min}
-use native.Mathlib.Nat.{le-trans, le-of-eq, lt-of-lt-of-le, mul-one, mul-assoc, mul-comm, mul-right-comm, mul-pos, add-mul, zero-mul, add-comm, sub-add-cancel, add-sub-of-le, mul-le-mul-right, le-div-iff-mul-le, div-lt-iff-lt-mul, min-eq-left, min-eq-right, mod-le, mul-lt-mul-of-pos-right}
-use native.Mathlib.Omega.{arith}
-use lib.Dec.{T}
-use lib.Arith.{le→nltb}
-use lib.Pow.{pow-add, pow-pos, shr-lt}
-use lib.Ieee.{Format, binary64, prec, low, size, round, hid, ones, top, ofBits, nanBits}
-use lib.Ieee.Digits.{size-le}
+use Rattle.arithmetic.proofs.Kit.{_≡_, refl, sym, ap, _∙_, subst, Bool, false, not, ℕ, suc, _+_, _-_, _*_, _/_, _%_, _^_, _≤_, _<_, min, le-trans, le-of-eq, lt-of-lt-of-le, mul-one, mul-assoc, mul-comm, mul-right-comm, mul-pos, add-mul, zero-mul, add-comm, mul-le-mul-right, le-div-iff-mul-le, div-lt-iff-lt-mul, min-eq-left, min-eq-right, mul-lt-mul-of-pos-right, arith, T, le→nltb, pow-add, pow-pos, binary64, size, round, ofBits, nanBits, size-le, closest, kept, round-same}
+use native.Mathlib.Nat.{sub-add-cancel, add-sub-of-le, mod-le}
+use lib.Pow.{shr-lt}
+use lib.Ieee.{Format, prec, low, hid, ones, top}
 use lib.Ieee.Fits.{two, two-le-pos, reach}
 use lib.Ieee.Bits.{nanBits-above}
-use lib.Ieee.Nearest.{closest, closest-same, div-same}
-use lib.Ieee.Order.{drop, kept}
-use lib.Ieee.Scale.{round-same}
+use lib.Ieee.Nearest.{closest-same, div-same}
+use lib.Ieee.Order.{drop}
 use Rattle.arithmetic.proofs.Closest.{closest-at-most, closest-at-least}
 use Rattle.arithmetic.proofs.Pattern.{size-is, pow-pred, round-bits}
 

@@ -1,13 +1,6 @@
 -- How many binary digits a number has: some if it is not zero, k more after a shift by k places, and what the leading zeros of a word leave.
 -- Assumes nothing.
-use mathlib.Core.Path.{_≡_, sym, ap, _∙_, subst}
-use Prim.Native.Nat.{ℕ, suc, _+_, _-_, _*_, _^_, _≤_, _<_}
-use native.Mathlib.Nat.{le-trans, le-of-eq, lt-of-not-le, not-le-of-lt, mul-le-mul-right}
-use native.Mathlib.Omega.{arith}
-use lib.Count.{leadingZeros, leading-top}
-use lib.Pow.{pow-add, pow-mono, shl-lt}
-use lib.Ieee.{size}
-use lib.Ieee.Digits.{size-lt, size-reaches}
+use Rattle.arithmetic.proofs.Kit.{_≡_, sym, ap, _∙_, subst, ℕ, suc, _+_, _-_, _*_, _^_, _≤_, _<_, le-trans, le-of-eq, lt-of-not-le, not-le-of-lt, mul-le-mul-right, arith, leadingZeros, leading-top, pow-add, pow-mono, shl-lt, size, size-lt, size-reaches}
 use Rattle.arithmetic.proofs.Pattern.{size-is}
 
 pub size-pos : (n : ℕ) → 0 < n → 0 < size n

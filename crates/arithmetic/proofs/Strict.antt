@@ -1,13 +1,7 @@
 -- The strict order of doubles: one number is less than another exactly if the other is not at most it. So what is less stays less than what rises.
 -- Assumes nothing.
-use mathlib.Core.Bool.{Bool, true, false}
-use Prim.Native.Nat.{ℕ, zero, suc, _+_, _*_, _≤_, _<_}
-use native.Mathlib.Nat.{lt-of-not-le, not-le-of-lt}
-use native.Mathlib.Omega.{arith}
-use lib.IntN.{pos}
-use lib.Dec.{T, ltb→lt, lt→ltb}
-use lib.Signed.{_≤ℤ_, ≤ℤ-refl}
-use lib.Ieee.{Float, nan, inf, fin, binary64, up, down, fits, lt, le, eq, below}
+use Rattle.arithmetic.proofs.Kit.{Bool, true, false, ℕ, zero, suc, _+_, _*_, _≤_, _<_, lt-of-not-le, not-le-of-lt, arith, pos, T, ltb→lt, lt→ltb, _≤ℤ_, ≤ℤ-refl, Float, nan, inf, fin, binary64, up, down, fits, lt, le, eq}
+use lib.Ieee.{below}
 use Rattle.arithmetic.specs.Whole.{signed}
 use Rattle.arithmetic.proofs.Integers.{pos-le, le-of-pos, neg-below, opposites, not-below-neg, le-of-opposites}
 use Rattle.arithmetic.proofs.Order.{or-left, signed-of-le, le-of-signed, number, highest, numbers-of-le, le-trans-double}

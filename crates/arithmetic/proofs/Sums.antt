@@ -1,18 +1,9 @@
 -- The sum with one finite operand keeps the order of the doubles, infinities included, and the difference keeps or turns it. Assumes nothing.
-use mathlib.Core.Path.{_≡_, refl, sym, ap, ap₂, _∙_, subst, subst₂}
-use mathlib.Core.Bool.{Bool, true, false, not, _&&_, cond}
-use Prim.Native.Nat.{ℕ, _+_, _-_, _*_, _^_, _≤_, _<_}
-use native.Mathlib.Nat.{add-comm, lt-of-mul-lt-mul-right, mul-lt-mul-of-pos-right, mul-comm, mul-assoc, mul-right-comm, mul-sub, add-mul, mul-pos}
-use native.Mathlib.Omega.{arith}
-use lib.IntN.{ℤ}
-use lib.Dec.{T, ltb, ltb→lt, lt→ltb, nltb→le}
-use lib.Pow.{pow-pos}
-use lib.Ieee.{Float, nan, inf, fin, binary64, up, down, round, sum, add, sub, neg, fits, le}
-use lib.Ieee.Fits.{down-pos, neg-fits}
-use lib.Ieee.Scale.{round-same}
+use Rattle.arithmetic.proofs.Kit.{_≡_, refl, sym, ap, ap₂, _∙_, subst, subst₂, Bool, true, false, not, _&&_, cond, ℕ, _+_, _-_, _*_, _^_, _≤_, _<_, add-comm, mul-comm, mul-assoc, mul-right-comm, add-mul, mul-pos, arith, ℤ, T, ltb, ltb→lt, nltb→le, pow-pos, Float, nan, inf, fin, binary64, up, down, round, sum, add, sub, neg, fits, le, down-pos, neg-fits, round-same}
+use native.Mathlib.Nat.{mul-sub}
 use Rattle.arithmetic.specs.Nearest.{unitsOf}
 use Rattle.arithmetic.proofs.Order.{Rises, units-exact, number, neg-turns}
-use Rattle.arithmetic.proofs.CommonDenominator.{above, beneath, AtMost, round-order, round-number, by-counts}
+use Rattle.arithmetic.proofs.CommonDenominator.{ltb-scaled, above, beneath, AtMost, round-order, round-number, by-counts}
 
 -- ---- the operands of a sum may change places
 opposite : (a b d : ℕ) → sum binary64 false a true b d ≡ sum binary64 true b false a d
@@ -84,21 +75,6 @@ sum-number s t a b d = let x = sum-is s t a b d in subst (λ (u : Float). T (num
 
 -- ---- a sum over c is the same over d, where a / c = A / d and b / c = B / d
 module _ (A B a b c d : ℕ) (C : 0 < c) (D : 0 < d) (p : a * d ≡ A * c) (q : b * d ≡ B * c) where
-  below : a < b → A < B
-  below h = lt-of-mul-lt-mul-right c (subst₂ (λ (x y : ℕ). x < y) p q (mul-lt-mul-of-pos-right h D))
-
-  below-back : A < B → a < b
-  below-back h = lt-of-mul-lt-mul-right d (subst₂ (λ (x y : ℕ). x < y) (sym p) (sym q) (mul-lt-mul-of-pos-right h C))
-
-  ltb-same : ltb a b ≡ ltb A B
-  ltb-same = go (ltb a b) (ltb A B) refl refl
-    where
-      go : (x y : Bool) → ltb a b ≡ x → ltb A B ≡ y → x ≡ y
-      go true true i j = refl
-      go false false i j = refl
-      go true false i j = absurd (subst T j (lt→ltb A B (below (ltb→lt a b (subst T (sym i) tt)))))
-      go false true i j = absurd (subst T i (lt→ltb a b (below-back (ltb→lt A B (subst T (sym j) tt)))))
-
   sums : (s : Bool) → round binary64 s (a + b) c ≡ round binary64 s (A + B) d
   sums s = round-same binary64 s (a + b) c (A + B) d C D (add-mul a b d ∙ ap₂ (λ (x y : ℕ). x + y) p q ∙ sym (add-mul A B c))
 
@@ -110,7 +86,7 @@ module _ (A B a b c d : ℕ) (C : 0 < c) (D : 0 < d) (p : a * d ≡ A * c) (q : 
 same-sum : (A B a b c d : ℕ) (s t : Bool) → 0 < c → 0 < d → a * d ≡ A * c → b * d ≡ B * c → sum binary64 s a t b c ≡ sum binary64 s A t B d
 unfolding sum
 same-sum A B a b c d s t C D p q =
-    rw (ltb-same A B a b c d C D p q, ltb-same B A b a c d C D q p, sums A B a b c d C D p q s, less A B a b c d C D p q (s && ltb B A), less B A b a c d C D q p t) refl
+    rw (ltb-scaled d c a b A B D C p q, ltb-scaled d c b a B A D C q p, sums A B a b c d C D p q s, less A B a b c d C D p q (s && ltb B A), less B A b a c d C D q p t) refl
 
 -- ---- the sum with a finite operand, and the difference
 pub add-counts : (s t : Bool) (m n : ℕ) (e d : ℤ) → T (fits binary64 (fin s m e)) → T (fits binary64 (fin t n d)) → add binary64 (fin s m e) (fin t n d) ≡ sum binary64 s (unitsOf (fin s m e)) t (unitsOf (fin t n d)) (2 ^ 1074)

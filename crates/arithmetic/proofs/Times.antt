@@ -1,17 +1,12 @@
 -- A number of digits above and below a point, times a factor, divided by d: what stands above and below the point of the quotient.
 -- And the signed whole numbers that the two signs of a word stand for. Assumes nothing.
-use mathlib.Core.Path.{_≡_, refl, sym, ap, _∙_, subst}
-use Prim.Native.Nat.{ℕ, zero, suc, pred, _+_, _-_, _*_, _/_, _%_, _^_, _≤_, _<_, zero-le}
-use native.Mathlib.Nat.{add-assoc, mul-right-comm, add-mul, suc-mul, add-suc, div-add-mod', mul-add-div-right, mul-add-mod-self-right, div-div-eq-div-mul, suc-pred-eq-of-pos, add-zero, le-refl, lt-of-lt-of-le, lt-of-le-of-lt, le-of-lt, le-of-suc-le-suc, mul-le-mul, mod-lt, div-lt-iff-lt-mul}
+use Rattle.arithmetic.proofs.Kit.{_≡_, refl, sym, ap, _∙_, subst, ℕ, zero, suc, _+_, _-_, _*_, _/_, _%_, _^_, _≤_, _<_, zero-le, add-assoc, mul-right-comm, add-mul, suc-mul, div-add-mod', mul-add-mod-self-right, div-div-eq-div-mul, add-zero, le-refl, lt-of-lt-of-le, lt-of-le-of-lt, le-of-lt, le-of-suc-le-suc, mul-le-mul, mod-lt, div-lt-iff-lt-mul, arith, Bool, true, false, cond, ℤ, pos, negsuc, negℤ, _*ℤ_, digits-lt, pow-pos}
+use Prim.Native.Nat.{pred}
+use native.Mathlib.Nat.{add-suc, mul-add-div-right, suc-pred-eq-of-pos}
 use native.Mathlib.Numerals.{sub-one}
-use native.Mathlib.Omega.{arith}
-use mathlib.Core.Bool.{Bool, true, false, cond}
-use lib.IntN.{ℤ, pos, negsuc, negℤ, _*ℤ_}
-use lib.Arith.{digits-lt}
-use lib.Pow.{pow-pos}
 use Rattle.arithmetic.specs.declared.word.Word.{Word}
 use Rattle.arithmetic.proofs.Integers.{opposite-of, neg-times, neg-left}
-use Rattle.arithmetic.specs.Whole.{signed, floorDiv, digits, wordValue, asWord}
+use Rattle.arithmetic.specs.Whole.{signed, floorDiv, wordDigits, wordValue, asWord}
 
 -- what is left to divide once the digits above the point have given their whole quotient
 abbrev pub remaining : (p whole part factor extra d : ℕ) → ℕ
@@ -50,12 +45,12 @@ negative-product a factor h =
 
 -- the word of the floor of w * factor / d, whichever w's sign
 pub times-word : (p : ℕ) (w : Word) (factor d : ℕ) → 0 < factor → 0 < d
-    → asWord p (floorDiv (wordValue p w *ℤ pos factor) d) ≡ record { negative = w .negative; whole = (digits p w * factor + extraOf (w .negative) factor) / d / 2 ^ p; part = (digits p w * factor + extraOf (w .negative) factor) / d % 2 ^ p }
+    → asWord p (floorDiv (wordValue p w *ℤ pos factor) d) ≡ record { negative = w .negative; whole = (wordDigits p w * factor + extraOf (w .negative) factor) / d / 2 ^ p; part = (wordDigits p w * factor + extraOf (w .negative) factor) / d % 2 ^ p }
 times-word p w factor d F D = go (w .negative)
   where
-    go : (s : Bool) → asWord p (floorDiv (cond s (negsuc (digits p w)) (pos (digits p w)) *ℤ pos factor) d) ≡ record { negative = s; whole = (digits p w * factor + extraOf s factor) / d / 2 ^ p; part = (digits p w * factor + extraOf s factor) / d % 2 ^ p }
-    go true = ap (λ (z : ℤ). asWord p (floorDiv z d)) (negative-product (digits p w) factor F)
-    go false = ap (λ (x : ℕ). asWord p (pos (x / d))) (sym (add-zero (digits p w * factor)))
+    go : (s : Bool) → asWord p (floorDiv (cond s (negsuc (wordDigits p w)) (pos (wordDigits p w)) *ℤ pos factor) d) ≡ record { negative = s; whole = (wordDigits p w * factor + extraOf s factor) / d / 2 ^ p; part = (wordDigits p w * factor + extraOf s factor) / d % 2 ^ p }
+    go true = ap (λ (z : ℤ). asWord p (floorDiv z d)) (negative-product (wordDigits p w) factor F)
+    go false = ap (λ (x : ℕ). asWord p (pos (x / d))) (sym (add-zero (wordDigits p w * factor)))
 
 pub same-word : (s : Bool) {whole whole' part part' : ℕ} → whole ≡ whole' → part ≡ part' → _≡_ {A = Word} (record { negative = s; whole = whole; part = part }) (record { negative = s; whole = whole'; part = part' })
 same-word s e f = λ i. record { negative = s; whole = e i; part = f i }
@@ -80,7 +75,7 @@ word-short p z e = subst (λ (v : Word). v .part < 2 ^ p) (sym e) (part-lt p z)
 pub times-small : (p n : ℕ) (w : Word) (factor d : ℕ) → 0 < factor → factor ≤ d → w .whole < 2 ^ n → w .part < 2 ^ p → asWord p (floorDiv (wordValue p w *ℤ pos factor) d) .whole < 2 ^ n
 times-small p n w factor d F small whole-lt part-lt =
     let D : 0 < d = lt-of-lt-of-le F small in
-    let a = digits p w in
+    let a = wordDigits p w in
     let extra : extraOf (w .negative) factor ≤ factor - 1 = extra-le (w .negative) in
     let next : suc (a * factor + extraOf (w .negative) factor) ≤ suc a * factor = omega (arith, suc-mul a factor) in
     subst (λ (v : Word). v .whole < 2 ^ n) (sym (times-word p w factor d F D))
@@ -94,7 +89,7 @@ times-small p n w factor d F small whole-lt part-lt =
 
 -- the opposite of a word has one digit more above the point at most
 pub opposite-small : (p n : ℕ) (w : Word) → w .whole < 2 ^ n → w .part < 2 ^ p → asWord p (negℤ (wordValue p w)) .whole ≤ 2 ^ n
-opposite-small p n w whole-lt part-lt = go (w .negative) (digits p w) (digits-lt whole-lt part-lt)
+opposite-small p n w whole-lt part-lt = go (w .negative) (wordDigits p w) (digits-lt whole-lt part-lt)
   where
     go : (s : Bool) (a : ℕ) → a < 2 ^ n * 2 ^ p → asWord p (negℤ (cond s (negsuc a) (pos a))) .whole ≤ 2 ^ n
     go true a h = le-of-suc-le-suc (div-lt-iff-lt-mul (pow-pos p) .1 (lt-of-le-of-lt h (subst (λ (x : ℕ). 2 ^ n * 2 ^ p < x) (sym (suc-mul (2 ^ n) (2 ^ p))) (omega (arith, pow-pos p)))))

@@ -1,18 +1,8 @@
 -- A double's size as a count of units of 2 ^ -1074: it has 53 significant binary digits at most, it is below 2 ^ 2098, and it is zero only for a
 -- zero. And of counts of so many digits `round` changes none. Assumes nothing.
-use mathlib.Core.Path.{_≡_, refl, sym, ap, _∙_, subst}
-use mathlib.Core.Logic.{_⊎_, inl, inr}
-use mathlib.Core.Bool.{Bool, false, _&&_}
-use Prim.Native.Nat.{ℕ, zero, suc, _+_, _-_, _*_, _/_, _%_, _^_, _≤_, _<_}
-use native.Mathlib.Nat.{le-trans, le-of-eq, le-of-suc-le-suc, lt-of-lt-of-le, lt-of-not-le, not-le-of-lt, eq-or-lt-of-le, zero-lt-suc, zero-mul, one-mul, mul-one, mul-assoc, mul-right-comm, mul-pos, mul-le-mul-right, mul-lt-mul-of-pos-right, zero-div, mul-div-cancel, le-div-iff-mul-le, div-lt-iff-lt-mul, pow-suc}
-use native.Mathlib.Omega.{arith}
-use lib.IntN.{ℤ, pos, negsuc}
-use lib.Dec.{T, leb, ltb, eqb, leb→le, ltb→lt, lit<, lit≤}
-use lib.Pow.{pow-add, pow-pos, pow-mono, pow-lt, shl-lt}
-use lib.Ieee.{fin, binary64, up, down, round, fits}
-use lib.Ieee.Fits.{up-pos, down-pos, and-l, and-r}
+use Rattle.arithmetic.proofs.Kit.{_≡_, refl, sym, ap, _∙_, subst, _⊎_, inl, inr, Bool, false, _&&_, ℕ, zero, suc, _+_, _-_, _*_, _/_, _%_, _^_, _≤_, _<_, le-trans, le-of-eq, le-of-suc-le-suc, lt-of-lt-of-le, lt-of-not-le, not-le-of-lt, eq-or-lt-of-le, zero-lt-suc, zero-mul, one-mul, mul-one, mul-assoc, mul-right-comm, mul-pos, mul-le-mul-right, mul-lt-mul-of-pos-right, zero-div, mul-div-cancel, le-div-iff-mul-le, div-lt-iff-lt-mul, pow-suc, arith, ℤ, pos, negsuc, T, leb, ltb, eqb, leb→le, ltb→lt, lit<, lit≤, pow-add, pow-pos, pow-mono, pow-lt, shl-lt, fin, binary64, up, down, round, fits, up-pos, down-pos, and-l, and-r, HasValue}
 use lib.Ieee.Digits.{back}
-use lib.Ieee.Exact.{HasValue, round-exact}
+use lib.Ieee.Exact.{round-exact}
 use Rattle.arithmetic.specs.Nearest.{unitsOf}
 
 -- X is c * 2 ^ k with c below 2 ^ 53

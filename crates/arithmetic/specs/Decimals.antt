@@ -24,21 +24,21 @@ pub data Reading : Type 0 where
 abbrev is : Char → Char → Bool
 is c d = eqb (code c) (code d)
 
-abbrev isDigit : Char → Bool
-isDigit c = leb (code "0") (code c) && leb (code c) (code "9")
+abbrev isNumeral : Char → Bool
+isNumeral c = leb (code "0") (code c) && leb (code c) (code "9")
 
 -- n with the digit c written after it
 abbrev then : ℕ → Char → ℕ
 then n c = n * 10 + (code c - code "0")
 
 abbrev next : Reading → Char → Reading
-next start c = cond (isDigit c) (whole (then 0 c)) noNumber
-next (whole n) c = cond (isDigit c) (whole (then n c)) (cond (is c ".") (point n) (cond (is c "e") (power n 0) noNumber))
-next (point n) c = cond (isDigit c) (decimals (then n c) 1) noNumber
-next (decimals n d) c = cond (isDigit c) (decimals (then n c) (suc d)) (cond (is c "e") (power n d) noNumber)
-next (power n d) c = cond (isDigit c) (scaled n d false (then 0 c)) (cond (is c "-") (minus n d) noNumber)
-next (minus n d) c = cond (isDigit c) (scaled n d true (then 0 c)) noNumber
-next (scaled n d s k) c = cond (isDigit c) (scaled n d s (then k c)) noNumber
+next start c = cond (isNumeral c) (whole (then 0 c)) noNumber
+next (whole n) c = cond (isNumeral c) (whole (then n c)) (cond (is c ".") (point n) (cond (is c "e") (power n 0) noNumber))
+next (point n) c = cond (isNumeral c) (decimals (then n c) 1) noNumber
+next (decimals n d) c = cond (isNumeral c) (decimals (then n c) (suc d)) (cond (is c "e") (power n d) noNumber)
+next (power n d) c = cond (isNumeral c) (scaled n d false (then 0 c)) (cond (is c "-") (minus n d) noNumber)
+next (minus n d) c = cond (isNumeral c) (scaled n d true (then 0 c)) noNumber
+next (scaled n d s k) c = cond (isNumeral c) (scaled n d s (then k c)) noNumber
 next noNumber c = noNumber
 
 abbrev read : Reading → String → Reading
@@ -46,48 +46,48 @@ read r [] = r
 read r (c ∷ t) = read (next r c) t
 
 -- the fraction that a text stands for, if it stands for one
-pub record Fraction : Type 0 where
+pub record Ratio : Type 0 where
   pub isNumber : Bool
   pub negative : Bool
   pub numerator : ℕ
   pub denominator : ℕ
 
-abbrev over : Bool → ℕ → ℕ → Fraction
-over s n d = record { isNumber = true; negative = s; numerator = n; denominator = d }
+abbrev ratio : Bool → ℕ → ℕ → Ratio
+ratio s n d = record { isNumber = true; negative = s; numerator = n; denominator = d }
 
-abbrev noFraction : Fraction
+abbrev noFraction : Ratio
 noFraction = record { isNumber = false; negative = false; numerator = 0; denominator = 1 }
 
-abbrev fractionOf : Bool → Reading → Fraction
+abbrev fractionOf : Bool → Reading → Ratio
 fractionOf s start = noFraction
-fractionOf s (whole n) = over s n 1
+fractionOf s (whole n) = ratio s n 1
 fractionOf s (point n) = noFraction
-fractionOf s (decimals n d) = over s n (10 ^ d)
+fractionOf s (decimals n d) = ratio s n (10 ^ d)
 fractionOf s (power n d) = noFraction
 fractionOf s (minus n d) = noFraction
-fractionOf s (scaled n d false k) = over s (n * 10 ^ k) (10 ^ d)
-fractionOf s (scaled n d true k) = over s n (10 ^ (d + k))
+fractionOf s (scaled n d false k) = ratio s (n * 10 ^ k) (10 ^ d)
+fractionOf s (scaled n d true k) = ratio s n (10 ^ (d + k))
 fractionOf s noNumber = noFraction
 
-abbrev pub fraction : String → Fraction
+abbrev pub fraction : String → Ratio
 fraction [] = noFraction
 fraction (c ∷ t) = let below = is c "-" in fractionOf below (read start (cond below t (c ∷ t)))
 
 -- ---- the double
 -- how many binary digits an n below 2 ^ (2 ^ k) has
-abbrev pub digits : ℕ → ℕ → ℕ
-digits zero n = n
-digits (suc k) n = let s = cond (ltb n (2 ^ (2 ^ k))) 0 (2 ^ k) in s + digits k (n / 2 ^ s)
+abbrev pub binaryDigits : ℕ → ℕ → ℕ
+binaryDigits zero n = n
+binaryDigits (suc k) n = let s = cond (ltb n (2 ^ (2 ^ k))) 0 (2 ^ k) in s + binaryDigits k (n / 2 ^ s)
 
 -- num / den, in units of the smallest double, keeps its 53 leading digits and drops k; the exponent's field of the bit pattern counts those
 abbrev pub pattern : ℕ → ℕ → ℕ
 pattern num den =
     let n = num * 2 ^ 1074 in
-    let k = digits 12 (n / den) - 53 in
+    let k = binaryDigits 12 (n / den) - 53 in
     let u = den * 2 ^ k in
     min (k * 2 ^ 52 + nearest (n / u) (compare (n % u * 2) u)) (2047 * 2 ^ 52)
 
-abbrev pub nearestTo : Fraction → Float
+abbrev pub nearestTo : Ratio → Float
 nearestTo f = cond (f .isNumber) (ofBits binary64 (cond (f .negative) (2 ^ 63) 0 + pattern (f .numerator) (f .denominator))) nan
 
 abbrev pub decimal : String → Float

@@ -20,13 +20,13 @@ floorMod (pos n) d = n % d
 floorMod (negsuc n) d = d - suc (n % d)
 
 -- A word of p places stands for a = whole * 2^p + part, and where it is negative for -(a + 1).
-abbrev pub digits : ℕ → Word → ℕ
-digits p w = w .whole * 2 ^ p + w .part
+abbrev pub wordDigits : ℕ → Word → ℕ
+wordDigits places w = w .whole * 2 ^ places + w .part
 
 abbrev pub wordValue : ℕ → Word → ℤ
-wordValue p w = cond (w .negative) (negsuc (digits p w)) (pos (digits p w))
+wordValue places w = cond (w .negative) (negsuc (wordDigits places w)) (pos (wordDigits places w))
 
 -- the word of p places for a whole number
 abbrev pub asWord : ℕ → ℤ → Word
-asWord p (pos a) = record { negative = false; whole = a / 2 ^ p; part = a % 2 ^ p }
-asWord p (negsuc a) = record { negative = true; whole = a / 2 ^ p; part = a % 2 ^ p }
+asWord places (pos a) = record { negative = false; whole = a / 2 ^ places; part = a % 2 ^ places }
+asWord places (negsuc a) = record { negative = true; whole = a / 2 ^ places; part = a % 2 ^ places }

@@ -1,21 +1,13 @@
 -- One line more is answered: where it ends, what is left after it, and that it is whole. Assumes nothing.
-use mathlib.Core.Path.{_≡_, refl, sym, ap, ap₂, _∙_}
-use mathlib.Core.Bool.{Bool, true, false, _||_, _&&_, cond}
-use mathlib.Core.List.{List, [], _∷_}
-use Prim.Native.Nat.{ℕ, suc, _+_, _-_, _≤_, _<_}
-use native.Mathlib.Numerals.{add-one}
-use native.Mathlib.Omega.{arith}
-use borrow.Author.Tests.{ltb-true}
-use lib.Dec.{ltb, eqb}
-use lib.ListN.{length, getD, take, drop}
-use lib.Seq.{drop-drop, length-take-le}
+use Rattle.arithmetic.proofs.Kit.{_≡_, refl, sym, ap, ap₂, _∙_, Bool, true, false, _||_, _&&_, cond, List, [], _∷_, ℕ, suc, _+_, _-_, _≤_, _<_, add-one, arith, ltb-true, ltb, eqb, length, getD, take, drop, length-append, drop-drop}
 use Rattle.bytes.specs.Bytes.{indexOf, indexAfter}
-use Rattle.pieces.specs.Pieces.{Appended}
-use Rattle.pieces.proofs.Growing.{and-then, same-more}
-use Rattle.questions.specs.declared.lines.Found.the-variants.{Line, Nothing}
-use Rattle.questions.specs.Lines.{lineEnd, nextLine, hasLine, foundLine}
-use Rattle.line_answers.specs.Answers.{answerLine}
-use Rattle.ask_run.specs.Answered.{after, answersTo, AreWhole, Answered}
+use Rattle.pages.specs.Pages.{Appended}
+use Rattle.pages.proofs.Growing.{same-length, and-then, same-more, held-length}
+use Rattle.questions.specs.declared.line_ends.Found.the-variants.{Line, Nothing}
+use Rattle.questions.specs.Lines.{lineEnd, firstLine, nextLine, hasLine, foundLine}
+use Rattle.lines.specs.Answers.{answerLine}
+use Rattle.ask_run.proofs.Short.{answers-fit}
+use Rattle.ask_run.specs.Answered.{linesAfter, answersTo, AreWhole, Answered}
 
 index-within : (b : ℕ) (s : List ℕ) → indexOf b s ≤ length s
 unfolding indexOf indexAfter
@@ -71,13 +63,13 @@ found ended s {end} {next} e = go (hasLine ended s) refl e
     go false h e = let z : _≡_ {A = ℕ} 0 1 = cc in absurd (omega arith)
 
 -- ---- after n lines
-module _ (ended : Bool) (s : List ℕ) (n taken : ℕ) {end next : ℕ} (rest : drop taken s ≡ after n s) (t : Taken ended (drop taken s) end next) where
-  pub rest-again : drop (taken + next) s ≡ after (n + 1) s
-  unfolding after
+module _ (ended : Bool) (s : List ℕ) (n taken : ℕ) {end next : ℕ} (rest : drop taken s ≡ linesAfter n s) (t : Taken ended (drop taken s) end next) where
+  pub rest-again : drop (taken + next) s ≡ linesAfter (n + 1) s
+  unfolding linesAfter
   rest-again =
       sym (drop-drop next taken s)
       ∙ ap₂ (λ (k : ℕ) (l : List ℕ). drop k l) (t .next-is ∙ ap nextLine rest) rest
-      ∙ ap (λ (k : ℕ). after k s) (sym (add-one n))
+      ∙ ap (λ (k : ℕ). linesAfter k s) (sym (add-one n))
 
   pub whole-again : AreWhole ended n s → AreWhole ended (n + 1) s
   unfolding AreWhole
@@ -89,9 +81,16 @@ module _ (ended : Bool) (s : List ℕ) (n taken : ℕ) {end next : ℕ} (rest : 
   text-again a b =
       rw add-one (and-then a (same-more (ap₂ (λ (k : ℕ) (l : List ℕ). answerLine (take k l)) (t .end-is ∙ ap lineEnd rest) rest) b))
 
+-- each answer is begun with room for the longest
+pub room-again : (n : ℕ) (s : List ℕ) {page middle : List ℕ} {written : ℕ} → Appended page 0 (answersTo n s) middle written → length (answersTo n s) ≤ length page
+    → written + 2048 ≤ length middle → length (answersTo (n + 1) s) ≤ length page
+unfolding answersTo
+room-again n s a room free =
+    let line = firstLine (linesAfter n s) in
+    rw add-one (omega (arith, length-append (answersTo n s) (answerLine line), answers-fit line, held-length a room, same-length a))
+
 -- ---- what is answered when no more is
-pub progressed : {ended : Bool} {s page last : List ℕ} {n taken written : ℕ} → AreWhole ended n s → drop taken s ≡ after n s → taken ≤ length s
-    → Appended page 0 (answersTo n s) last written → Answered ended s page last (record { lines = n; taken = taken; written = written })
-progressed {last = last} {written = written} whole rest few text =
-    let within : written ≤ length last = omega (arith, text .whole, text .within (omega arith)) in
-    record { whole = whole; rest = rest; taken = few; text = text; within = within; counted = sym (length-take-le written last within) }
+pub progressed : {ended : Bool} {s page last : List ℕ} {n taken written : ℕ} → AreWhole ended n s → drop taken s ≡ linesAfter n s → taken ≤ length s
+    → Appended page 0 (answersTo n s) last written → length (answersTo n s) ≤ length page
+    → Answered ended s page last (record { lines = n; taken = taken; written = written })
+progressed whole rest few text room = record { whole = whole; rest = rest; taken = few; text = text; room = room }

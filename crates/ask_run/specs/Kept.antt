@@ -2,7 +2,7 @@
 use Prim.Native.Nat.{ℕ, _+_, _-_, min}
 use mathlib.Core.List.{List}
 use lib.ListN.{length, getD}
-use Rattle.questions.specs.Digits.{upTo}
+use Rattle.pages.specs.Pages.{upTo}
 
 unfoldable pub keptOf : List ℕ → ℕ → ℕ → List ℕ
 keptOf buffer taken all = upTo (λ i. getD buffer (taken + i) 0) (min (min all (length buffer) - taken) 4098)

@@ -1,11 +1,11 @@
 // The answers to lines of input, one after the other.
 ghost use mathlib.Core.Path.{_≡_};
 ghost use Rattle.ask_run.specs.Answered.{Answered};
-use line_answers::put_line_answer;
-use questions::lines::Found;
-use questions::lines::first_line;
+use lines::put_line_answer;
+use questions::line_ends::Found;
+use questions::line_ends::first_line;
 
-// No answer is longer.
+// An answer is begun with so many bytes free; none is longer than 2,048.
 const LONGEST: usize = 4096;
 
 // How many lines were answered, how many bytes of input they are, and how many the answers are.
@@ -15,9 +15,9 @@ pub struct Progress {
     pub written: usize,
 }
 
-// The answers to the lines at the head of the input, at the start of the page, as long as there is a whole
-// line and room for the longest answer. Where the input has ended, the last line may lack its newline. The
-// input is left as it was.
+// All the answers to the lines at the head of the input, at the start of the page, as long as there is a
+// whole line and room for the longest answer. Where the input has ended, the last line may lack its
+// newline. The input is left as it was.
 pub fn answer_lines(input: &[u8], ended: bool, page: &mut [u8]) -> Progress
     ensures answered { λ r. ⌜ Answered ended (now (input .entry)) (now (page .entry)) (now (page .exit)) r ⌝ }
     ensures kept { λ _. ⌜ now (input .exit) ≡ now (input .entry) ⌝ }

@@ -1,7 +1,7 @@
 // What the program `ask` does: it reads lines and answers each. No contract can say what is read or
 // written, so the loop that reads and writes is all that stands outside of one.
-pub mod answered;
-pub mod kept;
+mod answered;
+mod kept;
 
 use answered::answer_lines;
 use kept::keep;

@@ -1,12 +1,6 @@
 -- Laws of the first layer that passes a test: it is one of those searched, it depends on nothing but the test there, and of a test that a higher layer passes
 -- too it tells every answer. Assumes nothing.
-use mathlib.Core.Path.{_≡_, refl, sym, ap₂, subst, _∙_}
-use mathlib.Core.Bool.{Bool, true, false, cond}
-use Prim.Native.Nat.{ℕ, zero, suc, _+_, _≤_, _<_}
-use native.Mathlib.Nat.{le-refl}
-use native.Mathlib.Omega.{arith}
-use borrow.Author.Tests.{le-leb, lt-leb}
-use lib.Dec.{leb}
+use Rattle.arithmetic.proofs.Kit.{_≡_, refl, sym, ap₂, subst, _∙_, Bool, true, false, cond, ℕ, zero, suc, _+_, _≤_, _<_, le-refl, arith, le-leb, lt-leb, leb}
 use Rattle.atmosphere.specs.Layers.{firstFrom}
 
 -- at most the last

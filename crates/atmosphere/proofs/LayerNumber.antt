@@ -1,16 +1,9 @@
 -- Laws of the choice of layer by height: it is the first layer below whose top the height lies, one of seven, and the only one in whose range it lies. The
 -- former search chooses the same one. Assumes nothing.
-use mathlib.Core.Path.{_≡_, refl, sym, ap, subst, _∙_}
-use mathlib.Core.Bool.{Bool, true, false, not, _&&_, cond, true≢false}
-use Prim.Native.Nat.{ℕ, zero, suc, _+_, _≤_, _<_}
-use native.Mathlib.Omega.{arith}
-use borrow.Author.Tests.{le-leb, lt-leb, leb-true, leb-false}
-use lib.Dec.{T, leb, lit≤}
-use lib.Ieee.{Float, nan, inf, fin, binary64, ofBits, fits, lt, le, isNan}
-use lib.Ieee.Bits.{is-true, is-false}
+use Rattle.arithmetic.proofs.Kit.{_≡_, refl, sym, ap, subst, _∙_, Bool, true, false, not, _&&_, cond, true≢false, ℕ, zero, suc, _+_, _≤_, _<_, arith, le-leb, lt-leb, leb-true, leb-false, T, leb, lit≤, Float, nan, inf, fin, binary64, ofBits, fits, lt, le, isNan, is-true, is-false}
 use Rattle.arithmetic.proofs.Order.{number}
 use Rattle.arithmetic.proofs.Strict.{less-of-not-le, not-le-of-less, lt-le-trans}
-use Rattle.atmosphere.specs.Layers.{layers, firstFrom, baseHeight, layerAt, Range, OnlyRange, highestUpTo, NoAnswerMoves}
+use Rattle.atmosphere.specs.Layers.{layers, firstFrom, baseHeight, layerAt, Range, OnlyRange, highestUpTo}
 use Rattle.atmosphere.proofs.FirstLayer.{first-le, told-by-first}
 
 -- ---- a height and a top, two numbers
@@ -61,7 +54,7 @@ run : {k l m o p q : Bool} (a b c d e f : Bool) → k ≡ not a → l ≡ not b 
     → _≡_ {A = ℕ} (cond a 0 (cond (k && b) 1 (cond (l && c) 2 (cond (m && d) 3 (cond (o && e) 4 (cond (p && f) 5 (cond q 6 0))))))) (cond a 0 (cond b 1 (cond c 2 (cond d 3 (cond e 4 (cond f 5 6))))))
 run a b c d e f h₁ h₂ h₃ h₄ h₅ h₆ = cc (flat a b c d e f)
 
-pub first-below : (H : Float) → isNan H ≡ false → layerAt H ≡ firstFrom (below H) 6 0
+first-below : (H : Float) → isNan H ≡ false → layerAt H ≡ firstFrom (below H) 6 0
 unfolding layers layerAt firstFrom ofBits
 first-below H e =
     let u = is-number H e in
@@ -132,7 +125,7 @@ highest-is H f e (suc i) l h = either (leb (layerAt H) i) refl (λ k. highest-is
     either true k lower = simp (told-above H f e i (omega arith), k) (lower (leb-true (layerAt H) i k))
     either false k lower = simp (told-above H f e i (omega arith), k) (omega (arith, leb-false (layerAt H) i k))
 
-pub former : NoAnswerMoves
+pub former : (H : Float) → T (fits binary64 H) → layerAt H ≡ highestUpTo 6 H
 unfolding layers layerAt highestUpTo ofBits isNan lt le
 former nan f = refl
 former (inf s) f = sym (highest-is (inf s) f refl 6 (omega (arith, layer-lt (inf s))) (omega arith))

@@ -1,6 +1,6 @@
 -- The ICAO standard atmosphere, by ICAO Doc 7488, Manual of the ICAO Standard Atmosphere: geopotential height, the layers, and temperature and
 -- pressure in a layer. The manual's sections and tables are cited by what they hold, since their numbers were not at hand. Constants and rounding order
--- are those of src/atmosphere.rs; p is the number of places of exp and power. Definitions only.
+-- are those of src/atmosphere.rs; `places` is the number of places of exp and power. Definitions only.
 use mathlib.Core.Path.{_≡_}
 use Prim.Native.Nat.{ℕ, zero, suc, _<_}
 use Prim.Native.String.{String}
@@ -8,16 +8,16 @@ use mathlib.Core.Bool.{Bool, _&&_, cond}
 use mathlib.Core.List.{List, [], _∷_}
 use lib.ListN.{getD}
 use lib.Dec.{T}
-use lib.Ieee.{Float, nan, binary64, fits, neg, lt, le}
+use lib.Ieee.{Float, nan, neg, lt, le}
 use Rattle.arithmetic.specs.Decimals.{decimal}
 use Rattle.arithmetic.specs.Operators.{_⊕_, _⊖_, _⊗_, _⊘_}
-use Rattle.elementary.specs.Exponents.{ofDouble, g₀, Rd, pressureExponent}
+use Rattle.elementary.specs.Exponents.{ofDouble, g₀, Rd, gradientOf, pressureExponent}
 use Rattle.elementary.specs.Power.{power}
 use Rattle.elementary.specs.Exp.{exp}
-use Rattle.doubles.specs.Doubles.{clampDouble, absDouble}
+use Rattle.arithmetic.specs.Doubles.{clampDouble, absDouble}
 use Rattle.atmosphere.specs.declared.layers.StandardAir.{StandardAir}
 
--- ---- Doc 7488, primary constants; g₀ and R, here `Rd`, are elementary's, where the exponents need them
+-- ---- Doc 7488, primary constants; g₀, R, here `Rd`, and the gradients are elementary's, where the exponents need them
 -- r, the nominal radius of the Earth, in m
 abbrev pub r : Float
 r = decimal "6356766"
@@ -40,18 +40,18 @@ standardHeight altitude = clampDouble (geopotentialHeight (clampDouble altitude 
 
 -- ---- Doc 7488, temperature and vertical temperature gradient: the layers
 -- a layer's row: H_b (m), T_b (K) and p_b (Pa), the geopotential height, temperature and pressure of its base, and β (K/m), its temperature gradient
-abbrev row : String → String → String → String → List Float
-row H T P β = decimal H ∷ decimal T ∷ decimal P ∷ decimal β ∷ []
+abbrev layerRow : String → String → String → Float → List Float
+layerRow H T P β = decimal H ∷ decimal T ∷ decimal P ∷ β ∷ []
 
 unfoldable pub layers : List (List Float)
 layers =
-    row "0" "288.15" "101325" "-0.0065" ∷
-    row "11000" "216.65" "22632.1" "0" ∷
-    row "20000" "216.65" "5474.89" "0.001" ∷
-    row "32000" "228.65" "868.02" "0.0028" ∷
-    row "47000" "270.65" "110.91" "0" ∷
-    row "51000" "270.65" "66.94" "-0.0028" ∷
-    row "71000" "214.65" "3.96" "-0.002" ∷ []
+    layerRow "0" "288.15" "101325" (gradientOf 0) ∷
+    layerRow "11000" "216.65" "22632.1" (gradientOf 1) ∷
+    layerRow "20000" "216.65" "5474.89" (gradientOf 2) ∷
+    layerRow "32000" "228.65" "868.02" (gradientOf 3) ∷
+    layerRow "47000" "270.65" "110.91" (gradientOf 4) ∷
+    layerRow "51000" "270.65" "66.94" (gradientOf 5) ∷
+    layerRow "71000" "214.65" "3.96" (gradientOf 6) ∷ []
 
 -- H_b, T_b, p_b and β of layer i
 abbrev pub baseHeight : ℕ → Float
@@ -105,9 +105,6 @@ unfoldable pub highestUpTo : ℕ → Float → ℕ
 highestUpTo zero H = 0
 highestUpTo (suc i) H = cond (le (baseHeight (suc i)) H) (suc i) (highestUpTo i H)
 
-abbrev pub NoAnswerMoves : Type 0
-NoAnswerMoves = (H : Float) → T (fits binary64 H) → layerAt H ≡ highestUpTo 6 H
-
 -- ---- temperature
 -- in layer i at d = H - H_b above its base: T = T_b + β (H - H_b)
 abbrev pub layerTemperature : ℕ → Float → Float
@@ -123,22 +120,22 @@ isothermal i = lt (absDouble (gradient i)) negligible
 
 -- without a gradient: p_b exp (-g₀ (H - H_b) / (R T_b))
 abbrev pub isothermalPressure : ℕ → ℕ → Float → Float
-isothermalPressure p i d = basePressure i ⊗ exp p (neg g₀ ⊗ d ⊘ (Rd ⊗ baseTemperature i))
+isothermalPressure places i d = basePressure i ⊗ exp places (neg g₀ ⊗ d ⊘ (Rd ⊗ baseTemperature i))
 
 -- with a gradient, at the temperature T: p_b (T / T_b) ^ (-g₀ / (β R))
 abbrev pub gradientPressure : ℕ → ℕ → Float → Float
-gradientPressure p i T = basePressure i ⊗ power p (ofDouble (pressureExponent (gradient i))) (T ⊘ baseTemperature i)
+gradientPressure places i T = basePressure i ⊗ power places (ofDouble (pressureExponent (gradient i))) (T ⊘ baseTemperature i)
 
 unfoldable pub layerPressure : ℕ → ℕ → Float → Float → Float
-layerPressure p i d T = cond (isothermal i) (isothermalPressure p i d) (gradientPressure p i T)
+layerPressure places i d T = cond (isothermal i) (isothermalPressure places i d) (gradientPressure places i T)
 
 -- ---- temperature and pressure at the geopotential height H in layer i, and at a geometric altitude
 abbrev pub layerAir : ℕ → ℕ → Float → StandardAir
-layerAir p i H =
+layerAir places i H =
     let d = H ⊖ baseHeight i in
     let T = layerTemperature i d in
-    record { «temperature_k» = T; «pressure_pa» = layerPressure p i d T }
+    record { «temperature_k» = T; «pressure_pa» = layerPressure places i d T }
 
 unfoldable pub standardAir : ℕ → Float → StandardAir
 unfolding layers layerAt standardHeight layerPressure
-standardAir p altitude = let H = standardHeight altitude in layerAir p (layerAt H) H
+standardAir places altitude = let H = standardHeight altitude in layerAir places (layerAt H) H

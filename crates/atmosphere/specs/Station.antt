@@ -7,9 +7,9 @@ use Rattle.arithmetic.specs.Decimals.{decimal, one, hundred}
 use Rattle.arithmetic.specs.Operators.{_⊕_, _⊖_, _⊗_, _⊘_}
 use Rattle.elementary.specs.Exponents.{ofDouble, pressureExponent}
 use Rattle.elementary.specs.Power.{power}
-use Rattle.doubles.specs.Doubles.{absDouble}
-use Rattle.atmosphere.specs.declared.station.Reading.{Reading}
-use Rattle.atmosphere.specs.declared.station.Reading.the-variants.{Given, FromLayer}
+use Rattle.arithmetic.specs.Doubles.{absDouble}
+use Rattle.atmosphere.specs.declared.given.Reading.{Reading}
+use Rattle.atmosphere.specs.declared.given.Reading.the-variants.{Given, FromLayer}
 use Rattle.atmosphere.specs.Layers.{baseTemperature, basePressure, gradient, standardHeight}
 
 -- ---- the default bands: within 0.5 hPa of 1013.25 hPa, and within 0.1 °C of 15 °C
@@ -26,14 +26,14 @@ abbrev pub inTemperatureBand : Float → Bool
 inTemperatureBand t = lt (absDouble (t ⊖ standardTemperature)) (decimal "0.1")
 
 -- a reading in its band, more than 1 m from sea level, is a default and comes from the layer
-abbrev pub resolved : Bool → Float → Float → Reading
-resolved inBand x altitude = cond (inBand && lt one (absDouble altitude)) FromLayer (Given x)
+abbrev pub unlessDefault : Bool → Float → Float → Reading
+unlessDefault inBand x altitude = cond (inBand && lt one (absDouble altitude)) FromLayer (Given x)
 
-abbrev pub stationPressure : Float → Float → Reading
-stationPressure p altitude = resolved (inPressureBand p) p altitude
+abbrev pub resolvedStationPressure : Float → Float → Reading
+resolvedStationPressure p altitude = unlessDefault (inPressureBand p) p altitude
 
-abbrev pub stationTemperature : Float → Float → Reading
-stationTemperature t altitude = resolved (inTemperatureBand t) t altitude
+abbrev pub resolvedStationTemperature : Float → Float → Reading
+resolvedStationTemperature t altitude = unlessDefault (inTemperatureBand t) t altitude
 
 -- ---- QNH, the altimeter setting, reduced to the station: QNH (1 + (β H / T₀) (p₀ / QNH)^(1/q))^q, with the β, T₀ and p₀ of the lowest layer and the
 -- exponent q of its pressure, -g₀ / (β R); p₀ in hPa

@@ -4,11 +4,11 @@ ghost use mathlib.Core.Path.{_≡_};
 ghost use Prim.Native.Nat.{_<_};
 ghost use Rattle.atmosphere.specs.Layers.{geopotentialHeight, standardHeight, layerAt, layerPressure, standardAir};
 ghost use Rattle.arithmetic.specs.Places.{places};
-use doubles::doubles::abs;
-use doubles::doubles::clamp;
+use arithmetic::doubles::abs;
+use arithmetic::doubles::clamp;
 use elementary::exp::exp;
 use elementary::power::power;
-use moist_air::mixture::R_AIR;
+use humid_air::mixture::R_AIR;
 
 pub const G_ACCEL_MPS2: f64 = 9.80665;
 

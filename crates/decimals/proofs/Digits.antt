@@ -1,15 +1,6 @@
 -- The digits of a number: those of its tenth and then the last one, and how many a number has at least. Assumes nothing.
-use mathlib.Core.Path.{_≡_, refl, ap, _∙_}
-use mathlib.Core.Bool.{Bool, true, false, cond}
-use mathlib.Core.List.{List, [], _∷_, _++_}
-use Prim.Native.Nat.{ℕ, zero, suc, _+_, _/_, _%_, _^_, _≤_, _<_}
-use native.Mathlib.Nat.{pow-suc, pow-le-pow-right}
-use native.Mathlib.Omega.{arith}
-use borrow.Author.Tests.{ltb-true, ltb-false, lt-ltb, le-ltb}
-use lib.Dec.{ltb, lit<}
-use lib.ListN.{length, length-append}
+use Rattle.arithmetic.proofs.Kit.{_≡_, refl, ap, _∙_, Bool, true, false, cond, List, [], _∷_, _++_, ℕ, zero, suc, _+_, _/_, _%_, _^_, _≤_, _<_, pow-suc, pow-le-pow-right, arith, ltb-true, ltb-false, lt-ltb, le-ltb, ltb, lit<, length, length-append}
 use Rattle.decimals.specs.Decimal.{lastDigits, digitsWithin, digits}
-use Rattle.decimals.specs.Laws.{Digits}
 
 -- more room than digits changes nothing
 enough : (j k n : ℕ) → n < j → n < k → digitsWithin j (ltb n 10) n ≡ digitsWithin k (ltb n 10) n
@@ -23,7 +14,7 @@ enough (suc j) (suc k) n h g = go (ltb n 10) refl (enough j k (n / 10))
     go true e before = refl
     go false e before = let ten = ltb-false n 10 e in ap (λ (l : List ℕ). l ++ (48 + n % 10) ∷ []) (before (omega arith) (omega arith))
 
-pub digits-are : Digits
+pub digits-are : (n : ℕ) → digits n ≡ cond (ltb n 10) ((48 + n) ∷ []) (digits (n / 10) ++ (48 + n % 10) ∷ [])
 unfolding digits digitsWithin
 digits-are n = go (ltb n 10) refl
   where

@@ -1,11 +1,6 @@
 -- The whole number that a text shows, by the words of the code: twice it and its half. Assumes nothing.
-use mathlib.Core.Path.{_≡_, sym, ap, ap₂, _∙_}
-use mathlib.Core.Logic.{⊎-elim}
-use Prim.Native.Nat.{ℕ, _+_, _-_, _*_, _/_, _%_, _^_, _≤_, _<_, min}
-use native.Mathlib.Nat.{le-refl, le-trans, mul-right-comm, mul-le-mul, add-div-right, div-div-eq-div-mul, mul-div-mul-right, le-div-iff-mul-le, min-eq-left, min-eq-right}
-use native.Mathlib.Omega.{arith}
-use lib.Dec.{lit≤}
-use lib.Pow.{pow-pos, pow-add, pow-mono}
+use Rattle.arithmetic.proofs.Kit.{_≡_, sym, ap, ap₂, _∙_, ⊎-elim, ℕ, _+_, _-_, _*_, _/_, _%_, _^_, _≤_, _<_, min, le-refl, le-trans, mul-right-comm, mul-le-mul, div-div-eq-div-mul, mul-div-mul-right, le-div-iff-mul-le, min-eq-left, min-eq-right, arith, lit≤, pow-pos, pow-add, pow-mono}
+use native.Mathlib.Nat.{add-div-right}
 use Rattle.arithmetic.specs.Parts.{Digits}
 use Rattle.decimals.specs.Decimal.{nearestCount}
 
@@ -13,7 +8,7 @@ use Rattle.decimals.specs.Decimal.{nearestCount}
 unfoldable pub halves : ℕ → ℕ → ℕ
 halves n s = 2 * (n * s) / 2 ^ 1074
 
-pub from-halves : (n s : ℕ) → nearestCount n s ≡ (halves n s + 1) / 2
+from-halves : (n s : ℕ) → nearestCount n s ≡ (halves n s + 1) / 2
 unfolding nearestCount halves
 from-halves n s =
     ap (λ (d : ℕ). (2 * (n * s) + 2 ^ 1074) / d) (pow-add 2 1074 1)

@@ -4,3 +4,5 @@ pub mod Standing
 pub mod Halves
 pub mod TooLong
 pub mod Samples
+pub mod TypedDigits
+pub mod Parts

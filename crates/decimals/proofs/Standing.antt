@@ -1,14 +1,6 @@
 -- A text in sixteen places that grows at its front: where it stands, and where it no longer fits. Assumes nothing.
-use mathlib.Core.Path.{_≡_, refl, sym, ap, _∙_}
-use mathlib.Core.Bool.{Bool, true, false, cond}
-use mathlib.Core.List.{List, [], _∷_, _++_, append-assoc}
-use Prim.Native.Nat.{ℕ, zero, suc, _+_, _-_, _≤_, _<_}
-use native.Mathlib.Numerals.{add-one}
-use native.Mathlib.Omega.{arith}
-use borrow.Author.Tests.{ltb-true, lt-ltb, le-ltb}
-use lib.Dec.{ltb}
-use lib.ListN.{length, set, replicate}
-use Rattle.decimals.specs.declared.text.DecimalText.{DecimalText}
+use Rattle.arithmetic.proofs.Kit.{_≡_, refl, sym, ap, _∙_, Bool, true, false, cond, List, [], _∷_, _++_, append-assoc, ℕ, zero, suc, _+_, _-_, _≤_, _<_, add-one, arith, ltb-true, lt-ltb, le-ltb, ltb, length, set, replicate}
+use Rattle.decimals.specs.declared.shown.DecimalText.{DecimalText}
 use Rattle.decimals.specs.Places.{tooLong, standing, inSixteen, Before}
 
 pub too-long : (t : List ℕ) → 16 < length t → inSixteen t ≡ tooLong
@@ -28,7 +20,7 @@ length-known t = go (ltb 16 (length t))
     go true h = absurd (omega arith)
     go false h = refl
 
-pub length-long : (t : List ℕ) → 16 ≤ inSixteen t .len → 16 ≤ length t
+length-long : (t : List ℕ) → 16 ≤ inSixteen t .len → 16 ≤ length t
 unfolding inSixteen
 length-long t = go (ltb 16 (length t)) refl
   where

@@ -1,15 +1,5 @@
 -- Texts that are longer than sixteen bytes: of a number from 2 ^ 63 on, and with fifteen decimals or more. Assumes nothing.
-use mathlib.Core.Path.{_≡_, refl, sym, ap, _∙_}
-use mathlib.Core.Bool.{Bool, true, false, _&&_, cond}
-use mathlib.Core.List.{List, [], _∷_, _++_}
-use Prim.Native.Nat.{ℕ, zero, suc, _+_, _-_, _/_, _^_, _≤_, _<_, min}
-use native.Mathlib.Nat.{le-trans, le-of-eq, le-of-lt, min-eq-left, min-eq-right, le-div-iff-mul-le, pow-le-pow-right}
-use native.Mathlib.Omega.{arith}
-use borrow.Author.Tests.{ltb-true, ltb-false}
-use lib.Dec.{ltb, lit<, lit≤}
-use lib.ListN.{length, length-append}
-use lib.Pow.{pow-add}
-use lib.Ieee.{Float, nan, inf, fin}
+use Rattle.arithmetic.proofs.Kit.{_≡_, refl, sym, ap, _∙_, Bool, true, false, _&&_, cond, List, [], _∷_, _++_, ℕ, zero, suc, _+_, _-_, _/_, _^_, _≤_, _<_, min, le-trans, le-of-eq, le-of-lt, min-eq-left, min-eq-right, le-div-iff-mul-le, pow-le-pow-right, arith, ltb-true, ltb-false, ltb, lit<, lit≤, length, length-append, pow-add, Float, nan, inf, fin}
 use Rattle.arithmetic.specs.Nearest.{unitsOf}
 use Rattle.decimals.specs.Decimal.{digits, pointed, nearestCount, countText, decimalText}
 use Rattle.decimals.specs.Places.{inSixteen}

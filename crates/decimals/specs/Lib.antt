@@ -1,5 +1,4 @@
--- What the contracts of `decimals` cite: the decimal text of a double, how it stands in sixteen places, the law of its digits, and samples.
+-- What the contracts of `decimals` cite: the decimal text of a double, how it stands in sixteen places, and a decimal as it is typed.
 pub mod Decimal
 pub mod Places
-pub mod Laws
-pub mod Samples
+pub mod Typed

@@ -5,7 +5,7 @@ use mathlib.Core.Bool.{cond}
 use mathlib.Core.List.{List, _++_}
 use lib.Dec.{ltb}
 use lib.ListN.{length, replicate}
-use Rattle.decimals.specs.declared.text.DecimalText.{DecimalText}
+use Rattle.decimals.specs.declared.shown.DecimalText.{DecimalText}
 
 -- seventeen stands for every length above sixteen, with blanks only
 abbrev pub tooLong : DecimalText

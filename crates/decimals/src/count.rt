@@ -3,8 +3,8 @@ ghost use mathlib.Core.Path.{_≡_};
 ghost use Prim.Native.Nat.{_*_, _^_, _≤_, _<_, min};
 ghost use Rattle.arithmetic.specs.Parts.{Digits};
 ghost use Rattle.decimals.specs.Decimal.{nearestCount};
-use wide::words::product;
-use wide::words::shifted_right;
+use arithmetic::wide::product;
+use arithmetic::wide::shifted_right;
 
 pub(crate) fn power_of_ten(k: u32) -> u64
     requires { ⌜ k ≤ 15 ⌝ }

@@ -1,3 +1,4 @@
-// The decimal text of a double, from its exact value.
+// The decimal text of a double, from its exact value, and the count of thousandths that a typed decimal means.
 mod count;
-pub mod text;
+pub mod shown;
+pub mod typed;

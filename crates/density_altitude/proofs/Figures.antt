@@ -1,23 +1,18 @@
 -- Each figure of the resolved station keeps or turns the order of the density altitudes or of the temperatures, infinities included: every step is one rounded operation with the
 -- other operand fixed. Assumes nothing.
-use mathlib.Core.Path.{refl}
-use mathlib.Core.Bool.{true, false}
-use Prim.Native.Nat.{ℕ}
-use lib.IntN.{pos, negsuc}
-use lib.Dec.{T}
-use lib.Ieee.{Float, nan, inf, fin, binary64, ofBits, neg, add, sub, mul, div, fits, le}
-use lib.Ieee.Fits.{add-fits, sub-fits, mul-fits, div-fits}
+use Rattle.arithmetic.proofs.Kit.{refl, true, false, ℕ, pos, negsuc, T, Float, nan, inf, fin, binary64, ofBits, neg, add, sub, mul, div, fits, le, sub-fits, mul-fits, div-fits}
+use lib.Ieee.Fits.{add-fits}
 use Rattle.arithmetic.specs.Decimals.{decimal}
 use Rattle.arithmetic.specs.Operators.{_⊖_, _⊗_, _⊘_}
 use Rattle.arithmetic.proofs.Order.{Rises}
 use Rattle.elementary.proofs.Rises.{power-rises, power-fits}
 use Rattle.arithmetic.proofs.Sums.{add-rises, sub-falls, sub-rises}
 use Rattle.arithmetic.proofs.Products.{mul-rises, mul-by-rises, div-rises}
-use Rattle.atmosphere.specs.declared.station.Reading.{Reading}
-use Rattle.atmosphere.specs.declared.station.Reading.the-variants.{Given, FromLayer}
-use Rattle.doubles.specs.Doubles.{isFinite}
-use Rattle.altitudes.specs.Altitudes.{foot, seaLevelFahrenheit, standardFahrenheit}
-use Rattle.altitudes.proofs.AltitudeOrder.{Falls, standard-falls}
+use Rattle.atmosphere.specs.declared.given.Reading.{Reading}
+use Rattle.atmosphere.specs.declared.given.Reading.the-variants.{Given, FromLayer}
+use Rattle.arithmetic.specs.Doubles.{isFinite}
+use Rattle.atmosphere.specs.Altitudes.{foot, seaLevelFahrenheit, standardFahrenheit}
+use Rattle.atmosphere.proofs.AltitudeOrder.{Falls, standard-falls}
 use Rattle.density_altitude.specs.Inverse.{fahrenheit, correction, steepness, pressureAltitudeFeet, stationCelsius, nwsBase, nwsReciprocal, nwsPressure}
 
 -- ---- the correction for a temperature

@@ -3,19 +3,18 @@
 use Prim.Native.Nat.{ℕ}
 use mathlib.Core.Bool.{Bool, not, _&&_}
 use mathlib.Core.List.{List, [], _∷_, _++_}
-use lib.Ieee.{Float, lt, le}
+use lib.Ieee.{Float, le}
 use Rattle.refusal.specs.Outcomes.{Outcome, accepted, Row, row, _then_}
-use Rattle.refusal.specs.Causes.{ExactlyCaused}
 use Rattle.arithmetic.specs.Decimals.{decimal, nought, one}
 use Rattle.arithmetic.specs.Operators.{_⊕_, _⊖_, _⊗_, _⊘_}
 use Rattle.elementary.specs.Exponents.{Exponent, ofDouble, nwsExponent}
 use Rattle.elementary.specs.Power.{power}
-use Rattle.atmosphere.specs.declared.station.Reading.{Reading}
-use Rattle.atmosphere.specs.declared.station.Reading.the-variants.{Given, FromLayer}
-use Rattle.doubles.specs.Doubles.{isFinite}
+use Rattle.atmosphere.specs.declared.given.Reading.{Reading}
+use Rattle.atmosphere.specs.declared.given.Reading.the-variants.{Given, FromLayer}
+use Rattle.arithmetic.specs.Doubles.{isFinite, isFiniteAbove}
 use Rattle.atmosphere.specs.Station.{standardPressure}
-use Rattle.altitudes.specs.Altitudes.{foot, nwsFeet, seaLevelFahrenheit, thousand, fahrenheitPerThousandFeet, feetPerDegree, standardFahrenheit}
-use Rattle.answered.specs.declared.inverse.Station.{Station}
+use Rattle.atmosphere.specs.Altitudes.{foot, nwsFeet, seaLevelFahrenheit, thousand, fahrenheitPerThousandFeet, feetPerDegree, standardFahrenheit}
+use Rattle.refusal.specs.declared.inverse.Station.{Station}
 
 -- ---- the pressure altitude h in ft
 -- The FAA's rule is d = h + K (t - (59 - 3.57 h / 1000)), with t in °F and K its feet for each degree. So h is (d - K (t - 59)) / (1 + K 3.57 / 1000).
@@ -75,21 +74,14 @@ abbrev pub inputRows : Float → Reading → List Row
 inputRows d t = row (not (isFinite d)) 1 (d ∷ []) ∷ givenRows t
 
 -- 4: resolved altitude, pressure or temperature not finite, pressure ≤ 0 or temperature ≤ -273.15
-abbrev pub isFiniteAbove : Float → Float → Bool
-isFiniteAbove bound x = isFinite x && lt bound x
-
 abbrev pub hasAir : Station → Bool
 hasAir s = isFinite (s .«altitude_m») && (isFiniteAbove nought (s .«pressure_hpa») && isFiniteAbove absoluteZero (s .«temperature_c»))
 
-abbrev pub airRows : Float → Station → List Row
-airRows d s = row (not (hasAir s)) 4 (d ∷ s .«altitude_m» ∷ []) ∷ []
+abbrev pub resolvedRows : Float → Station → List Row
+resolvedRows d s = row (not (hasAir s)) 4 (d ∷ s .«altitude_m» ∷ []) ∷ []
 
 abbrev pub stationRows : ℕ → Float → Reading → List Row
-stationRows places d t = inputRows d t ++ airRows d (resolve places d t)
+stationRows places d t = inputRows d t ++ resolvedRows d (resolve places d t)
 
 unfoldable pub station : ℕ → Float → Reading → Outcome Station
 station places d t = stationRows places d t then accepted (resolve places d t)
-
--- ---- each of 1 to 4 has exactly its cause
-abbrev pub Caused : ℕ → Float → Reading → Type 0
-Caused places d t = ExactlyCaused (stationRows places d t) (resolve places d t) (station places d t)

@@ -1,24 +1,25 @@
 // The FAA's rule turned round: the station whose air has a given density altitude, with a given
 // temperature or the standard one.
 ghost use mathlib.Core.Path.{_≡_};
+ghost use Rattle.arithmetic.specs.Doubles.{isFiniteAbove};
 ghost use Rattle.refusal.specs.Outcomes.{accepted, checked, passed, _then_};
-ghost use Rattle.density_altitude.specs.Inverse.{stationWith, resolve, isFiniteAbove, hasAir, temperatureRows, givenRows, airRows, station};
-ghost use Rattle.answered.specs.Inverted.{outcome};
+ghost use Rattle.density_altitude.specs.Inverse.{stationWith, resolve, hasAir, temperatureRows, givenRows, resolvedRows, station};
+ghost use Rattle.refusal.specs.Inverted.{inverseOutcome};
 ghost use Rattle.arithmetic.specs.Places.{places};
-use altitudes::altitudes::DA_FAA_RULE_FT_PER_DEG_F;
-use altitudes::altitudes::DA_FT_TO_M;
-use altitudes::altitudes::DA_NWS_LAPSE_F_PER_1000FT;
-use altitudes::altitudes::DA_NWS_PRESSURE_ALT_FT;
-use altitudes::altitudes::DA_NWS_SEA_LEVEL_HPA;
-use altitudes::altitudes::DA_NWS_SEA_LEVEL_TEMP_F;
-use answered::inverse::Answer;
-use answered::inverse::Station;
-use atmosphere::station::Reading;
-use doubles::doubles::is_finite;
+use arithmetic::doubles::is_finite;
+use atmosphere::altitudes::DA_FAA_RULE_FT_PER_DEG_F;
+use atmosphere::altitudes::DA_FT_TO_M;
+use atmosphere::altitudes::DA_NWS_LAPSE_F_PER_1000FT;
+use atmosphere::altitudes::DA_NWS_PRESSURE_ALT_FT;
+use atmosphere::altitudes::DA_NWS_SEA_LEVEL_HPA;
+use atmosphere::altitudes::DA_NWS_SEA_LEVEL_TEMP_F;
+use atmosphere::given::Reading;
 use elementary::power::power;
 use refusal::Check;
 use refusal::Refusal;
 use refusal::first_of;
+use refusal::inverse::Answer;
+use refusal::inverse::Station;
 use refusal::refuse_if;
 
 // the number of the exponent 1 / 0.190284 in elementary's table
@@ -89,7 +90,7 @@ fn has_air(station: Station) -> bool
 
 // The resolved station, or that there is no air.
 fn checked_station(density_altitude_m: f64, explicit_temperature_c: Reading) -> Answer
-    ensures { λ r. ⌜ outcome r ≡ (airRows «density_altitude_m» (resolve places «density_altitude_m» «explicit_temperature_c»)
+    ensures { λ r. ⌜ inverseOutcome r ≡ (resolvedRows «density_altitude_m» (resolve places «density_altitude_m» «explicit_temperature_c»)
         then accepted (resolve places «density_altitude_m» «explicit_temperature_c»)) ⌝ }
 {
     let station = resolve_atmosphere_for_density_altitude(
@@ -132,7 +133,7 @@ pub fn station_for_density_altitude(
     density_altitude_m: f64,
     explicit_temperature_c: Reading,
 ) -> Answer
-    ensures { λ r. ⌜ outcome r ≡ station places «density_altitude_m» «explicit_temperature_c» ⌝ }
+    ensures { λ r. ⌜ inverseOutcome r ≡ station places «density_altitude_m» «explicit_temperature_c» ⌝ }
 {
     let altitude = refuse_if(
         !is_finite(density_altitude_m),

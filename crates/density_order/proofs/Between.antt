@@ -1,17 +1,12 @@
 -- What lies between two accepted density altitudes is accepted, and the figures are in order: the pressure altitudes keep the order of the density altitudes.
 -- Assumes nothing.
-use mathlib.Core.Path.{sym, subst₂}
-use Prim.Native.Nat.{ℕ}
-use lib.Dec.{T}
-use lib.Ieee.{Float, binary64, fits, le}
-use lib.Ieee.Bits.{ofBits-fits}
-use lib.Ieee.Fits.{div-fits}
+use Rattle.arithmetic.proofs.Kit.{sym, subst₂, ℕ, T, Float, binary64, fits, le, ofBits-fits, div-fits}
 use Rattle.arithmetic.specs.Operators.{_⊗_}
-use Rattle.atmosphere.specs.declared.station.Reading.{Reading}
-use Rattle.atmosphere.specs.declared.station.Reading.the-variants.{Given, FromLayer}
-use Rattle.doubles.specs.Doubles.{isFinite}
-use Rattle.altitudes.specs.Altitudes.{foot}
-use Rattle.density_altitude.specs.Inverse.{pressureAltitudeFeet, stationCelsius, resolve, absoluteZero, isFiniteAbove, station}
+use Rattle.atmosphere.specs.declared.given.Reading.{Reading}
+use Rattle.atmosphere.specs.declared.given.Reading.the-variants.{Given, FromLayer}
+use Rattle.arithmetic.specs.Doubles.{isFinite, isFiniteAbove}
+use Rattle.atmosphere.specs.Altitudes.{foot}
+use Rattle.density_altitude.specs.Inverse.{pressureAltitudeFeet, stationCelsius, resolve, absoluteZero, station}
 use Rattle.density_order.specs.Order.{NoneGiven, InOrder}
 use Rattle.density_altitude.proofs.Figures.{Corrected, corrected-finite, pressure-altitude-rises, pressure-altitude-fits, temperature-falls}
 use Rattle.density_order.proofs.Accepted.{Exists, exists, has-air, Granted, is-station}

@@ -1,10 +1,6 @@
 -- Demand 3, of the definition, over any number of places from 52 to 60. Assumes nothing.
-use mathlib.Core.Path.{sym, subst, subst₂}
-use Prim.Native.Nat.{ℕ, _≤_}
-use lib.Dec.{T}
-use lib.Ieee.{Float, binary64, fits, le}
-use lib.Ieee.Fits.{sub-fits}
-use Rattle.atmosphere.specs.declared.station.Reading.{Reading}
+use Rattle.arithmetic.proofs.Kit.{sym, subst, subst₂, ℕ, _≤_, T, Float, binary64, fits, le, sub-fits}
+use Rattle.atmosphere.specs.declared.given.Reading.{Reading}
 use Rattle.density_altitude.specs.Inverse.{pressureAltitudeFeet, nwsBase, station}
 use Rattle.density_order.specs.Order.{Accepted, Temperate, InRange, OneMetreApart, Strictly, Demand₃}
 use Rattle.density_order.proofs.Accepted.{Granted, granted, is-station}

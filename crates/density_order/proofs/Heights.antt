@@ -1,21 +1,15 @@
 -- Stations at rising pressure altitudes: the altitude never falls and the pressure never rises, infinities included, and between two stations that exist there
 -- is one, if its temperature can be. Assumes nothing.
-use mathlib.Core.Bool.{true, false}
-use Prim.Native.Nat.{ℕ, zero, suc}
-use lib.IntN.{pos}
-use lib.Dec.{T}
-use lib.Ieee.{Float, nan, inf, fin, binary64, ofBits, mul, div, fits, lt, le}
-use lib.Ieee.Bits.{ofBits-fits}
-use lib.Ieee.Fits.{and-i, and-l, and-r, sub-fits, mul-fits}
+use Rattle.arithmetic.proofs.Kit.{true, false, ℕ, zero, suc, pos, T, Float, nan, inf, fin, binary64, ofBits, mul, div, fits, lt, le, ofBits-fits, and-i, and-l, and-r, sub-fits, mul-fits}
 use Rattle.arithmetic.specs.Decimals.{nought}
 use Rattle.arithmetic.specs.Operators.{_⊗_}
 use Rattle.elementary.specs.Power.{power}
 use Rattle.arithmetic.proofs.Order.{zero-below, le-trans-double}
 use Rattle.arithmetic.proofs.Strict.{lt-le-trans}
-use Rattle.doubles.specs.Doubles.{isFinite}
+use Rattle.arithmetic.specs.Doubles.{isFinite, isFiniteAbove}
 use Rattle.atmosphere.specs.Station.{standardPressure}
-use Rattle.altitudes.specs.Altitudes.{foot}
-use Rattle.density_altitude.specs.Inverse.{nwsBase, nwsReciprocal, nwsPressure, stationWith, absoluteZero, isFiniteAbove}
+use Rattle.atmosphere.specs.Altitudes.{foot}
+use Rattle.density_altitude.specs.Inverse.{nwsBase, nwsReciprocal, nwsPressure, stationWith, absoluteZero}
 use Rattle.density_altitude.proofs.Figures.{altitude-rises, base-falls, pressure-falls}
 use Rattle.density_order.proofs.Accepted.{Exists}
 

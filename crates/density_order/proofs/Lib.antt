@@ -7,3 +7,4 @@ pub mod PressuresApart
 pub mod Spread
 pub mod Demand
 pub mod Rejected
+pub mod Owned

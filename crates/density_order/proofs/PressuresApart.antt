@@ -1,11 +1,7 @@
 -- The pressures of the National Weather Service's formula, 1013.25 hPa times a power: for bases from 1/2 to 2 that lie one part in 2^18 apart, the greater
 -- base has the greater pressure. Assumes nothing.
-use mathlib.Core.Bool.{true, false}
-use Prim.Native.Nat.{ℕ, zero, suc, _+_, _*_, _^_, _≤_}
-use lib.IntN.{ℤ, pos, negsuc}
-use lib.Dec.{T, lit<, lit≤}
-use lib.Ieee.{Float, nan, inf, fin, binary64, ofBits, div, fits, lt, le}
-use lib.Ieee.Positive.{positive, between}
+use Rattle.arithmetic.proofs.Kit.{true, false, ℕ, zero, suc, _+_, _*_, _^_, _≤_, ℤ, pos, negsuc, T, lit<, lit≤, Float, nan, inf, fin, binary64, ofBits, div, fits, lt, le, positive}
+use lib.Ieee.Positive.{between}
 use Rattle.arithmetic.specs.Operators.{_⊗_}
 use Rattle.arithmetic.specs.Nearest.{unitsOf}
 use Rattle.elementary.specs.Power.{power}

@@ -1,11 +1,10 @@
 -- Demand 3 and request K8 reject what specs/Rejected lists: where its hypotheses hold, what it promises is computed to be false. Assumes nothing.
-use mathlib.Core.Path.{refl}
+use Rattle.arithmetic.proofs.Kit.{refl, Float, ofBits, neg, add, sub, mul, div, lt, le}
 use lib.Signed.{leZ-yes}
-use lib.Ieee.{Float, ofBits, neg, add, sub, mul, div, lt, le}
 use Rattle.elementary.specs.Power.{power}
-use Rattle.doubles.specs.Doubles.{isFinite}
-use Rattle.atmosphere.specs.declared.station.Reading.{Reading}
-use Rattle.answered.specs.declared.inverse.Station.{Station}
+use Rattle.arithmetic.specs.Doubles.{isFinite}
+use Rattle.atmosphere.specs.declared.given.Reading.{Reading}
+use Rattle.refusal.specs.declared.inverse.Station.{Station}
 use Rattle.refusal.specs.Outcomes.{Outcome}
 use Rattle.density_altitude.specs.Inverse.{station}
 use Rattle.density_order.specs.Order.{Accepted, Strictly}

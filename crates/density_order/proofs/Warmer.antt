@@ -1,20 +1,15 @@
 -- What lies between two accepted temperatures at one density altitude is accepted, and the figures are in order: the pressure altitudes turn the order of the
 -- temperatures. The FAA's density altitudes keep it. Assumes nothing.
-use mathlib.Core.Path.{_≡_, sym, subst, subst₂}
-use mathlib.Core.Bool.{not}
-use Prim.Native.Nat.{ℕ}
-use lib.Dec.{T, not-T}
-use lib.Ieee.{Float, binary64, fits, lt, le}
-use lib.Ieee.Bits.{ofBits-fits}
-use lib.Ieee.Fits.{and-i, and-l, and-r}
+use Rattle.arithmetic.proofs.Kit.{_≡_, sym, subst, subst₂, not, ℕ, T, Float, binary64, fits, lt, le, ofBits-fits, and-i, and-l, and-r}
+use lib.Dec.{not-T}
 use Rattle.arithmetic.specs.Places.{places}
 use Rattle.arithmetic.specs.Operators.{_⊘_}
 use Rattle.arithmetic.proofs.Strict.{not-le-of-less}
-use Rattle.atmosphere.specs.declared.station.Reading.the-variants.{Given}
-use Rattle.doubles.specs.Doubles.{isFinite}
-use Rattle.altitudes.specs.Altitudes.{foot, faaDensityAltitude}
-use Rattle.altitudes.proofs.AltitudeOrder.{faa-never-falls}
-use Rattle.density_altitude.specs.Inverse.{pressureAltitudeFeet, resolve, absoluteZero, isFiniteAbove, station}
+use Rattle.atmosphere.specs.declared.given.Reading.the-variants.{Given}
+use Rattle.arithmetic.specs.Doubles.{isFinite, isFiniteAbove}
+use Rattle.atmosphere.specs.Altitudes.{foot, faaDensityAltitude}
+use Rattle.atmosphere.proofs.AltitudeOrder.{faa-never-falls}
+use Rattle.density_altitude.specs.Inverse.{pressureAltitudeFeet, resolve, absoluteZero, station}
 use Rattle.density_order.specs.Order.{Accepted}
 use Rattle.density_order.specs.Warmer.{Lower, InBetween, FaaNeverFalls}
 use Rattle.density_altitude.proofs.Figures.{corrected-finite, pressure-altitude-falls, pressure-altitude-fits}

@@ -7,9 +7,9 @@ use lib.Ieee.{Float, nan, inf, fin, lt, le}
 use Rattle.arithmetic.specs.Decimals.{decimal}
 use Rattle.arithmetic.specs.Whole.{signed}
 use Rattle.arithmetic.specs.Nearest.{unitsOf}
-use Rattle.atmosphere.specs.declared.station.Reading.{Reading}
-use Rattle.atmosphere.specs.declared.station.Reading.the-variants.{Given, FromLayer}
-use Rattle.answered.specs.declared.inverse.Station.{Station}
+use Rattle.atmosphere.specs.declared.given.Reading.{Reading}
+use Rattle.atmosphere.specs.declared.given.Reading.the-variants.{Given, FromLayer}
+use Rattle.refusal.specs.declared.inverse.Station.{Station}
 use Rattle.refusal.specs.Outcomes.{Outcome, accepted, refused}
 
 -- ---- an answer
@@ -19,17 +19,17 @@ Accepted (accepted s) = Unit {0}
 Accepted (refused number values) = ⊥
 
 -- its figures; a refusal has none, and NaN is not in order with anything
-abbrev pub altitude : Outcome Station → Float
-altitude (accepted s) = s .«altitude_m»
-altitude (refused number values) = nan
+abbrev pub altitudeFound : Outcome Station → Float
+altitudeFound (accepted s) = s .«altitude_m»
+altitudeFound (refused number values) = nan
 
-abbrev pub pressure : Outcome Station → Float
-pressure (accepted s) = s .«pressure_hpa»
-pressure (refused number values) = nan
+abbrev pub pressureFound : Outcome Station → Float
+pressureFound (accepted s) = s .«pressure_hpa»
+pressureFound (refused number values) = nan
 
-abbrev pub temperature : Outcome Station → Float
-temperature (accepted s) = s .«temperature_c»
-temperature (refused number values) = nan
+abbrev pub temperatureFound : Outcome Station → Float
+temperatureFound (accepted s) = s .«temperature_c»
+temperatureFound (refused number values) = nan
 
 -- ---- a figure, from one answer to another
 abbrev pub NeverFalls : (Outcome Station → Float) → Outcome Station → Outcome Station → Type 0
@@ -72,13 +72,13 @@ OneMetreApart d₁ d₂ = (exactly d₁ +ℤ pos (2 ^ 1074)) ≤ℤ exactly d₂
 
 -- ---- the demand, on the answers at d₁ ≤ d ≤ d₂, a₁ and a₂ being accepted
 pub record InOrder (t : Reading) (from to : Outcome Station) : Type 0 where
-  pub altitudes : NeverFalls altitude from to
-  pub pressures : NeverRises pressure from to
-  pub temperatures : NoneGiven t → NeverRises temperature from to
+  pub altitudes : NeverFalls altitudeFound from to
+  pub pressures : NeverRises pressureFound from to
+  pub temperatures : NoneGiven t → NeverRises temperatureFound from to
 
 pub record Strictly (from to : Outcome Station) : Type 0 where
-  pub altitudes : StrictlyRises altitude from to
-  pub pressures : StrictlyFalls pressure from to
+  pub altitudes : StrictlyRises altitudeFound from to
+  pub pressures : StrictlyFalls pressureFound from to
 
 pub record Demand₃ (t : Reading) (d₁ d₂ : Float) (a₁ a a₂ : Outcome Station) : Type 0 where
   pub accepted : Accepted a
@@ -91,4 +91,4 @@ pub record Demand₃ (t : Reading) (d₁ d₂ : Float) (a₁ a a₂ : Outcome St
 pub record TwoInOrder (t : Reading) (d₁ d₂ : Float) (a₁ a₂ : Outcome Station) : Type 0 where
   pub never : T (le d₁ d₂) → Accepted a₁ → Accepted a₂ → InOrder t a₁ a₂
   pub strictly : T (le (decimal "-500") d₁) → T (le d₁ d₂) → T (le d₂ (decimal "3000")) → OneMetreApart d₁ d₂ → Temperate t → Accepted a₁ → Accepted a₂
-      → T (lt (altitude a₁) (altitude a₂)) × T (lt (pressure a₂) (pressure a₁))
+      → T (lt (altitudeFound a₁) (altitudeFound a₂)) × T (lt (pressureFound a₂) (pressureFound a₁))

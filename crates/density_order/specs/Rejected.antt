@@ -8,31 +8,31 @@ use lib.Ieee.{Float}
 use Rattle.arithmetic.specs.Places.{places}
 use Rattle.arithmetic.specs.Decimals.{decimal}
 use Rattle.arithmetic.specs.Operators.{_⊖_}
-use Rattle.atmosphere.specs.declared.station.Reading.{Reading}
-use Rattle.atmosphere.specs.declared.station.Reading.the-variants.{Given, FromLayer}
-use Rattle.answered.specs.declared.inverse.Station.{Station}
+use Rattle.atmosphere.specs.declared.given.Reading.{Reading}
+use Rattle.atmosphere.specs.declared.given.Reading.the-variants.{Given, FromLayer}
+use Rattle.refusal.specs.declared.inverse.Station.{Station}
 use Rattle.refusal.specs.Outcomes.{Outcome, accepted, refused}
-use Rattle.altitudes.specs.Altitudes.{faaDensityAltitude}
+use Rattle.atmosphere.specs.Altitudes.{faaDensityAltitude}
 use Rattle.density_altitude.specs.Inverse.{station}
-use Rattle.density_order.specs.Order.{altitude, pressure, Demand₃}
+use Rattle.density_order.specs.Order.{altitudeFound, pressureFound, Demand₃}
 use Rattle.density_order.specs.Warmer.{WarmerMeansLower, FaaNeverFalls}
 
 -- an answer's altitude in m, temperature in °C and pressure in hPa
-abbrev pub air : Float → Float → Float → Outcome Station
-air altitude celsius hPa = accepted (record { «altitude_m» = altitude; «temperature_c» = celsius; «pressure_hpa» = hPa })
+abbrev pub airAt : Float → Float → Float → Outcome Station
+airAt altitude celsius hPa = accepted (record { «altitude_m» = altitude; «temperature_c» = celsius; «pressure_hpa» = hPa })
 
 -- ---- wrong inverses
 -- the echo: the height that was asked about, with 15 °C and 1013.25 hPa
 abbrev pub echo : Float → Reading → Outcome Station
-echo d t = air d (decimal "15") (decimal "1013.25")
+echo d t = airAt d (decimal "15") (decimal "1013.25")
 
 -- one set of air for all
 abbrev pub oneAir : Float → Reading → Outcome Station
-oneAir d t = air (decimal "0") (decimal "15") (decimal "1013.25")
+oneAir d t = airAt (decimal "0") (decimal "15") (decimal "1013.25")
 
 -- the height left at 0 m, in air that thins with d
 abbrev pub heightLeft : Float → Reading → Outcome Station
-heightLeft d t = air (decimal "0") (decimal "15") (decimal "1013.25" ⊖ d)
+heightLeft d t = airAt (decimal "0") (decimal "15") (decimal "1013.25" ⊖ d)
 
 -- demand 3 of an inverse's answers is false at both ends of the heights and of the temperatures, 1 m apart, and with none given
 abbrev FalseAt : (Float → Reading → Outcome Station) → Reading → Float → Float → Type 0
@@ -46,16 +46,16 @@ pub record RejectedAtTheEdges (inverse : Float → Reading → Outcome Station) 
 
 -- ---- answers at 0 m, 15 °C and 1000 hPa, and with one of the three figures greater
 abbrev plain : Outcome Station
-plain = air (decimal "0") (decimal "15") (decimal "1000")
+plain = airAt (decimal "0") (decimal "15") (decimal "1000")
 
 abbrev higher : Outcome Station
-higher = air (decimal "1") (decimal "15") (decimal "1000")
+higher = airAt (decimal "1") (decimal "15") (decimal "1000")
 
 abbrev hotter : Outcome Station
-hotter = air (decimal "0") (decimal "16") (decimal "1000")
+hotter = airAt (decimal "0") (decimal "16") (decimal "1000")
 
 abbrev denser : Outcome Station
-denser = air (decimal "0") (decimal "15") (decimal "1001")
+denser = airAt (decimal "0") (decimal "15") (decimal "1001")
 
 abbrev noAir : Outcome Station
 noAir = refused 4 (decimal "0" ∷ decimal "0" ∷ [])
@@ -102,6 +102,6 @@ pub record RejectedByWarmth : Type 0 where
   pub pressure-falls-from : FalseWarmed plain denser plain
   pub faa-falls : FaaNeverFalls (decimal "0") least greatest (decimal "1") (decimal "0") → ⊥
   pub faa-falls-at-one-temperature : FaaNeverFalls greatest (decimal "0") (decimal "0") (decimal "1") (decimal "0") → ⊥
-  pub altitude-stays : altitude (warmed "5e-324") ≡ altitude (warmed "0")
-  pub pressure-stays : pressure (warmed "5e-324") ≡ pressure (warmed "0")
+  pub altitude-stays : altitudeFound (warmed "5e-324") ≡ altitudeFound (warmed "0")
+  pub pressure-stays : pressureFound (warmed "5e-324") ≡ pressureFound (warmed "0")
   pub faa-stays : faa "5e-324" ≡ faa "0"

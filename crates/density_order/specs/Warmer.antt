@@ -3,15 +3,15 @@
 use lib.Dec.{T}
 use lib.Ieee.{Float, le}
 use Rattle.arithmetic.specs.Decimals.{nought}
-use Rattle.doubles.specs.Doubles.{isFinite}
-use Rattle.answered.specs.declared.inverse.Station.{Station}
+use Rattle.arithmetic.specs.Doubles.{isFinite}
+use Rattle.refusal.specs.declared.inverse.Station.{Station}
 use Rattle.refusal.specs.Outcomes.{Outcome}
-use Rattle.density_order.specs.Order.{Accepted, altitude, pressure, NeverFalls, NeverRises}
+use Rattle.density_order.specs.Order.{Accepted, altitudeFound, pressureFound, NeverFalls, NeverRises}
 
 -- ---- from the answer at a temperature to that at a warmer one: the resolved altitude never rises, and the pressure never falls
 pub record Lower (from to : Outcome Station) : Type 0 where
-  pub altitudes : NeverRises altitude from to
-  pub pressures : NeverFalls pressure from to
+  pub altitudes : NeverRises altitudeFound from to
+  pub pressures : NeverFalls pressureFound from to
 
 -- the answers at one density altitude with the given temperatures t₁ ≤ t ≤ t₂: if a₁ and a₂ are accepted, a is accepted and they are in order
 pub record InBetween (a₁ a a₂ : Outcome Station) : Type 0 where

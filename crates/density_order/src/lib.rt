@@ -1,2 +1,3 @@
-// What engineers may rely on between stations with given density altitudes: definitions and laws. The
-// functions that promise it are those of `promised_stations`.
+// What engineers may rely on between stations with given density altitudes, and between temperatures at one.
+pub mod order;
+pub mod warmth;

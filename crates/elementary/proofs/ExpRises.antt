@@ -1,14 +1,5 @@
 -- exp keeps the order of the doubles, over any number of places: subnormals, zeros and infinities included. Assumes nothing.
-use mathlib.Core.Path.{subst₂}
-use mathlib.Core.Bool.{Bool, true, false, cond}
-use Prim.Native.Nat.{ℕ, _*_, _^_}
-use lib.IntN.{ℤ, pos, _*ℤ_}
-use lib.Dec.{T, lit<}
-use lib.Signed.{_≤ℤ_}
-use lib.Pow.{pow-pos}
-use lib.Ieee.{Float, nan, inf, fin, binary64, ofBits, neg, fits, le, isNan}
-use lib.Ieee.Bits.{ofBits-fits}
-use lib.Ieee.Fits.{neg-fits}
+use Rattle.arithmetic.proofs.Kit.{subst₂, Bool, true, false, cond, ℕ, _^_, ℤ, pos, _*ℤ_, T, lit<, _≤ℤ_, pow-pos, Float, nan, inf, fin, binary64, ofBits, neg, fits, le, isNan, ofBits-fits, neg-fits}
 use Rattle.arithmetic.specs.Whole.{floorDiv}
 use Rattle.arithmetic.specs.Nearest.{unitsOf}
 use Rattle.elementary.specs.Exp.{floorScaled, log2e, expTop, expBottom, expWithin, exp}

@@ -1,27 +1,9 @@
 -- The table of the exponents: no entry is zero, by one test that antt computes; and where 3 and 4 stand in it.
 -- Assumes nothing.
-use mathlib.Core.Path.{_≡_, refl, sym, subst, _∙_}
-use mathlib.Core.Bool.{Bool, true, false, _&&_, Bool·beq}
-use mathlib.Core.Logic.{inl, inr}
-use Prim.Native.Nat.{ℕ, zero, suc, _<_}
-use native.Mathlib.Nat.{not-suc-le-zero, eq-or-lt-of-le, le-of-suc-le-suc}
-use borrow.Author.Tests.{eq-eqb, ne-eqb}
-use lib.Dec.{T, eqb, ltb, ltb→lt}
-use lib.Ieee.Fits.{and-l, and-r}
+use Rattle.arithmetic.proofs.Kit.{_≡_, refl, _∙_, Bool, true, false, ℕ, _<_, eq-eqb, ne-eqb, T, eqb, ltb, ltb→lt}
+use mathlib.Core.Bool.{Bool·beq}
+use Rattle.arithmetic.proofs.Every.{at}
 use Rattle.elementary.specs.Exponents.{exponents, exponentAt, isThree, isFour}
-
--- ---- a test at every number below n
-abbrev pub every : ℕ → (ℕ → Bool) → Bool
-every zero test = true
-every (suc n) test = test n && every n test
-
-pub at : (n : ℕ) (test : ℕ → Bool) → T (every n test) → (i : ℕ) → i < n → T (test i)
-at zero test t i h = absurd (not-suc-le-zero h)
-at (suc n) test t i h =
-    elim (eq-or-lt-of-le (le-of-suc-le-suc h)) [
-      | inl e ↦ subst (λ (k : ℕ). T (test k)) (sym e) (and-l (test n) (every n test) t)
-      | inr l ↦ at n test (and-r (test n) (every n test) t) i l
-    ]
 
 same : (a b : Bool) → T (Bool·beq a b) → a ≡ b
 same true true t = refl

@@ -1,11 +1,5 @@
 -- The power of each kind of double, as the code tells them apart: the rule at an exponent of which it is known whether it is 3 or 4. Assumes nothing.
-use mathlib.Core.Path.{_≡_, refl, sym, ap, _∙_}
-use mathlib.Core.Bool.{Bool, true, false, not, cond}
-use Prim.Native.Nat.{ℕ, _<_}
-use lib.IntN.{pos}
-use lib.Dec.{ltb, lt→ltb}
-use lib.Ieee.{Float, nan, inf, fin, neg, odd}
-use lib.Ieee.Bits.{is-true}
+use Rattle.arithmetic.proofs.Kit.{_≡_, refl, sym, ap, _∙_, Bool, true, false, not, cond, ℕ, _<_, pos, ltb, lt→ltb, Float, nan, inf, fin, neg, odd, is-true}
 use Rattle.elementary.specs.Exponents.{Exponent, exponentAt, isThree, isFour}
 use Rattle.elementary.specs.Power.{positivePower, infinityOrZero, power, powerAt}
 use Rattle.arithmetic.proofs.Parts.{finite-of-parts}

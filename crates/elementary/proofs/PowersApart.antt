@@ -1,21 +1,13 @@
 -- Powers of bases that lie apart lie apart: of two bases from 1/2 to 2 of which the greater is 1 + 2^-18 times the smaller or more, and with an exponent
 -- from 5 to 5.5, the powers have two neighbouring multiples of 2^-25 between them. No error of the power is worked out. Assumes nothing.
-use mathlib.Core.Path.{_≡_, sym, ap, _∙_, subst}
-use Prim.Native.Nat.{ℕ, suc, _+_, _-_, _*_, _/_, _%_, _^_, _≤_, _<_}
-use native.Mathlib.Nat.{le-trans, le-of-eq, lt-of-lt-of-le, lt-of-le-of-lt, lt-suc-self, add-mul, suc-mul, mul-assoc, mul-comm, mul-left-comm, mul-right-comm, mul-le-mul, mul-le-mul-left, mul-le-mul-right, mul-lt-mul-of-pos-right, lt-of-mul-lt-mul-right, one-le-pow, pow-le-pow-left, mod-lt, div-add-mod', le-div-iff-mul-le, div-lt-iff-lt-mul, div-mul-le-self}
-use native.Mathlib.Omega.{arith}
-use mathlib.Core.Bool.{false}
-use lib.IntN.{ℤ, pos, _*ℤ_}
-use lib.Dec.{T, lit<}
-use lib.Pow.{pow-pos, pow-lt, pow-mono, pow-add}
-use lib.Ieee.{fin, binary64, round, minus, fits}
+use Rattle.arithmetic.proofs.Kit.{_≡_, sym, ap, _∙_, subst, ℕ, suc, _+_, _-_, _*_, _/_, _%_, _^_, _≤_, _<_, le-trans, le-of-eq, lt-of-lt-of-le, lt-of-le-of-lt, lt-suc-self, add-mul, suc-mul, mul-assoc, mul-comm, mul-left-comm, mul-right-comm, mul-le-mul, mul-le-mul-left, mul-le-mul-right, mul-lt-mul-of-pos-right, lt-of-mul-lt-mul-right, one-le-pow, pow-le-pow-left, mod-lt, div-add-mod', le-div-iff-mul-le, div-lt-iff-lt-mul, div-mul-le-self, arith, false, ℤ, pos, _*ℤ_, T, lit<, pow-pos, pow-lt, pow-mono, pow-add, fin, binary64, round, minus, fits}
 use Rattle.arithmetic.specs.Whole.{floorDiv}
 use Rattle.arithmetic.specs.Nearest.{unitsOf}
 use Rattle.antilog.specs.Log.{logWord}
 use Rattle.antilog.specs.Antilog.{antilogRoot, antilog}
 use Rattle.elementary.specs.Exponents.{Exponent}
 use Rattle.elementary.specs.Power.{power}
-use Rattle.estimate.proofs.Powers.{pow-product, pow-power, pow-scaled, two-each-le-next, next-le-two-each, lt-of-powers, lt-of-exponents}
+use Rattle.arithmetic.proofs.Powers.{pow-product, pow-power, pow-scaled, two-each-le-next, next-le-two-each, lt-of-powers, lt-of-exponents}
 use Rattle.antilog.proofs.Range.{antilogRoot-mantissa}
 use Rattle.antilog.proofs.Distance.{antilogRoot-below, antilogRoot-above, NearLog, near-log}
 use Rattle.arithmetic.proofs.Differences.{minus-same, minus-times, floor-minus}

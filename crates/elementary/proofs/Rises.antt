@@ -1,16 +1,7 @@
 -- Power and ln keep the order of the doubles, and a power with a negative exponent turns it, over any number of places: subnormals, zeros and
 -- infinities included. Assumes nothing.
-use mathlib.Core.Path.{_≡_, refl, sym, ap, subst}
-use mathlib.Core.Logic.{_⊎_, inl, inr}
-use mathlib.Core.Bool.{Bool, true, false, not, _&&_, cond, and-false}
-use Prim.Native.Nat.{ℕ, zero, suc, _*_, _^_, _≤_, _<_}
-use native.Mathlib.Nat.{zero-lt-suc}
-use lib.IntN.{ℤ, pos, negℤ, _*ℤ_, _-ℤ_}
-use lib.Dec.{T, eqb, eqb→eq, lt→ltb, lit<}
-use lib.Signed.{_≤ℤ_, ≤ℤ-refl}
-use lib.Pow.{pow-pos}
-use lib.Ieee.{Float, nan, inf, fin, binary64, up, down, neg, fits, le}
-use lib.Ieee.Fits.{round-fits, cond-fits, neg-fits}
+use Rattle.arithmetic.proofs.Kit.{_≡_, refl, sym, ap, subst, _⊎_, inl, inr, Bool, true, false, not, _&&_, cond, ℕ, zero, suc, _*_, _^_, zero-lt-suc, ℤ, pos, negℤ, _*ℤ_, _-ℤ_, T, eqb, eqb→eq, lt→ltb, lit<, _≤ℤ_, ≤ℤ-refl, pow-pos, Float, nan, inf, fin, binary64, up, down, neg, fits, le, round-fits, cond-fits, neg-fits}
+use mathlib.Core.Bool.{and-false}
 use lib.Ieee.Positive.{above-of-le}
 use Rattle.arithmetic.specs.Whole.{signed, floorDiv, floorMod}
 use Rattle.arithmetic.specs.Nearest.{nearestRatio}

@@ -1,4 +1,4 @@
--- Document 01, "exp", with p places for its 52. Definitions only.
+-- Document 01, "exp", with any number of places for its 52. Definitions only.
 use Prim.Native.Nat.{ℕ, _*_, _^_}
 use mathlib.Core.Bool.{false, cond}
 use lib.IntN.{ℤ, pos, _*ℤ_}
@@ -8,11 +8,11 @@ use Rattle.arithmetic.specs.Decimals.{decimal}
 use Rattle.arithmetic.specs.Nearest.{unitsOf}
 use Rattle.antilog.specs.Antilog.{antilog}
 
--- floor(x * 2^p), for the finite x of so many units of 2 ^ -1074
+-- floor(x * 2^places), for the finite x of so many units of 2 ^ -1074
 abbrev pub floorScaled : ℕ → Float → ℤ
-floorScaled p nan = pos 0
-floorScaled p (inf s) = pos 0
-floorScaled p (fin s m e) = floorDiv (signed s (unitsOf (fin s m e) * 2 ^ p)) (2 ^ 1074)
+floorScaled places nan = pos 0
+floorScaled places (inf s) = pos 0
+floorScaled places (fin s m e) = floorDiv (signed s (unitsOf (fin s m e) * 2 ^ places)) (2 ^ 1074)
 
 -- 1 / ln 2, times 2^62
 abbrev pub log2e : ℕ
@@ -25,10 +25,10 @@ expTop = decimal "1024"
 abbrev pub expBottom : Float
 expBottom = neg (decimal "1100")
 
--- W = floor(x * 2^p), antilog of floor(W * log2e / 2^62)
+-- W = floor(x * 2^places), antilog of floor(W * log2e / 2^62)
 abbrev pub expWithin : ℕ → Float → Float
-expWithin p x = antilog p (floorDiv (floorScaled p x *ℤ pos log2e) (2 ^ 62))
+expWithin places x = antilog places (floorDiv (floorScaled places x *ℤ pos log2e) (2 ^ 62))
 
 unfoldable pub exp : ℕ → Float → Float
 unfolding antilog isNan le neg ofBits
-exp p x = cond (isNan x) nan (cond (le expTop x) (inf false) (cond (le x expBottom) (fin false 0 (pos 0)) (expWithin p x)))
+exp places x = cond (isNan x) nan (cond (le expTop x) (inf false) (cond (le x expBottom) (fin false 0 (pos 0)) (expWithin places x)))

@@ -18,21 +18,9 @@ g₀ = decimal "9.80665"
 abbrev pub Rd : Float
 Rd = decimal "287.0531"
 
--- ---- the temperature gradients of the layers that have one, K/m (`ICAO_LAYERS`); layers 1 and 4 have none
-abbrev gradient0 : Float
-gradient0 = decimal "-0.0065"
-
-abbrev gradient2 : Float
-gradient2 = decimal "0.001"
-
-abbrev gradient3 : Float
-gradient3 = decimal "0.0028"
-
-abbrev gradient5 : Float
-gradient5 = decimal "-0.0028"
-
-abbrev gradient6 : Float
-gradient6 = decimal "-0.002"
+-- the temperature gradient of each layer, K/m (`ICAO_LAYERS`); layers 1 and 4 have none
+abbrev pub gradientOf : ℕ → Float
+gradientOf i = getD (decimal "-0.0065" ∷ decimal "0" ∷ decimal "0.001" ∷ decimal "0.0028" ∷ decimal "0" ∷ decimal "-0.0028" ∷ decimal "-0.002" ∷ []) i nan
 
 -- the troposphere's lapse rate (`ISA_LAPSE_K_PER_M`)
 abbrev pub lapse : Float
@@ -64,19 +52,19 @@ unfoldable pub exponents : List Float
 unfolding ofBits neg sub mul div
 exponents =
     -- 0 to 4
-    pressureExponent gradient0 ∷ pressureExponent gradient2 ∷ pressureExponent gradient3 ∷ pressureExponent gradient5 ∷ pressureExponent gradient6 ∷
+    pressureExponent (gradientOf 0) ∷ pressureExponent (gradientOf 2) ∷ pressureExponent (gradientOf 3) ∷ pressureExponent (gradientOf 5) ∷ pressureExponent (gradientOf 6) ∷
     -- 5: the QNH reduction's `exponent.recip()`
-    one ⊘ pressureExponent gradient0 ∷
+    one ⊘ pressureExponent (gradientOf 0) ∷
     -- 6 to 10
-    temperatureExponent gradient0 ∷ temperatureExponent gradient2 ∷ temperatureExponent gradient3 ∷ temperatureExponent gradient5 ∷ temperatureExponent gradient6 ∷
+    temperatureExponent (gradientOf 0) ∷ temperatureExponent (gradientOf 2) ∷ temperatureExponent (gradientOf 3) ∷ temperatureExponent (gradientOf 5) ∷ temperatureExponent (gradientOf 6) ∷
     -- 11, 12: the National Weather Service's and `1.0 / DA_NWS_EXPONENT`
     nwsExponent ∷ one ⊘ nwsExponent ∷
     -- 13, 14
     troposphereExponent ∷ one ⊘ troposphereExponent ∷
     -- 15 to 17
-    densityExponent gradient2 ∷ densityExponent gradient3 ∷ densityExponent gradient5 ∷
+    densityExponent (gradientOf 2) ∷ densityExponent (gradientOf 3) ∷ densityExponent (gradientOf 5) ∷
     -- 18 to 21: `1.0 / density_exponent`
-    one ⊘ densityExponent gradient2 ∷ one ⊘ densityExponent gradient3 ∷ one ⊘ densityExponent gradient5 ∷ one ⊘ densityExponent gradient6 ∷
+    one ⊘ densityExponent (gradientOf 2) ∷ one ⊘ densityExponent (gradientOf 3) ∷ one ⊘ densityExponent (gradientOf 5) ∷ one ⊘ densityExponent (gradientOf 6) ∷
     -- 22 to 26, of the saturation pressure
     decimal "1.5" ∷ decimal "3" ∷ decimal "3.5" ∷ decimal "4" ∷ decimal "7.5" ∷ []
 

@@ -1,4 +1,4 @@
--- Document 01, "ln", with p places for its 52. Definitions only.
+-- Document 01, "ln", with any number of places for its 52. Definitions only.
 use Prim.Native.Nat.{ℕ, zero, suc, _^_}
 use mathlib.Core.Bool.{true, false}
 use lib.IntN.{pos, _*ℤ_}
@@ -11,15 +11,15 @@ use Rattle.antilog.specs.Log.{logWord, wordOfUnits}
 abbrev pub ln2 : ℕ
 ln2 = 0x2c5c85fdf473de6a
 
--- positive finite: the double nearest to floor(L * ln2 / 2^62) / 2^p
+-- positive finite: the double nearest to floor(L * ln2 / 2^62) / 2^places
 abbrev pub lnPositive : ℕ → Float → Float
-lnPositive p x = nearestRatio (floorDiv (logWord p x *ℤ pos ln2) (2 ^ 62)) (2 ^ p)
+lnPositive places x = nearestRatio (floorDiv (logWord places x *ℤ pos ln2) (2 ^ 62)) (2 ^ places)
 
 unfoldable pub ln : ℕ → Float → Float
 unfolding wordOfUnits round
-ln p nan = nan
-ln p (inf false) = inf false
-ln p (inf true) = nan
-ln p (fin s zero e) = inf true
-ln p (fin false (suc m) e) = lnPositive p (fin false (suc m) e)
-ln p (fin true (suc m) e) = nan
+ln places nan = nan
+ln places (inf false) = inf false
+ln places (inf true) = nan
+ln places (fin s zero e) = inf true
+ln places (fin false (suc m) e) = lnPositive places (fin false (suc m) e)
+ln places (fin true (suc m) e) = nan

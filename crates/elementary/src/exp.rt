@@ -10,12 +10,12 @@ use super::multiples::times;
 use super::power::infinity_or_zero;
 use antilog::antilog::antilog;
 use arithmetic::double::Parts;
+use arithmetic::nearest::take_apart;
+use arithmetic::wide::Wide;
+use arithmetic::wide::shifted_right;
 use arithmetic::word::PLACES;
 use arithmetic::word::WHOLE;
 use arithmetic::word::Word;
-use rounding::nearest::take_apart;
-use wide::words::Wide;
-use wide::words::shifted_right;
 
 // 1 / ln 2, times 2^62
 const LOG2_E: u64 = 0x5c55_1d94_ae0b_f85d;

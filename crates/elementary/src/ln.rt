@@ -11,9 +11,9 @@ ghost use Rattle.arithmetic.specs.Places.{places};
 use super::log::log_of_digits;
 use super::multiples::times;
 use arithmetic::double::Parts;
+use arithmetic::nearest::nearest_to_digits;
+use arithmetic::nearest::take_apart;
 use arithmetic::word::Word;
-use rounding::nearest::nearest_to_digits;
-use rounding::nearest::take_apart;
 
 // ln 2, times 2^62
 const LN_2: u64 = 0x2c5c_85fd_f473_de6a;

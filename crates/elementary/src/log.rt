@@ -7,12 +7,12 @@ ghost use Rattle.antilog.specs.Log.{logBits, wordOfUnits, logarithm};
 ghost use Rattle.arithmetic.specs.Parts.{Digits};
 ghost use Rattle.arithmetic.specs.Places.{places};
 use arithmetic::double::Parts;
+use arithmetic::nearest::take_apart;
+use arithmetic::wide::product;
 use arithmetic::word::Logarithm;
 use arithmetic::word::ONES;
 use arithmetic::word::PLACES;
 use arithmetic::word::Word;
-use rounding::nearest::take_apart;
-use wide::words::product;
 
 // floor(m * m / 2^62): the upper word of the square of 2 m, with nothing to shift.
 fn squared(m: u64) -> u64

@@ -4,15 +4,15 @@ ghost use Prim.Native.Nat.{_^_, _≤_, _<_};
 ghost use lib.IntN.{pos, negℤ, _*ℤ_};
 ghost use Rattle.arithmetic.specs.Whole.{floorDiv, wordValue, asWord};
 ghost use Rattle.arithmetic.specs.Places.{places};
+use arithmetic::wide::Wide;
+use arithmetic::wide::product;
+use arithmetic::wide::shifted_left;
+use arithmetic::wide::shifted_right;
+use arithmetic::wide::sum;
 use arithmetic::word::ONES;
 use arithmetic::word::PLACES;
 use arithmetic::word::WHOLE;
 use arithmetic::word::Word;
-use wide::words::Wide;
-use wide::words::product;
-use wide::words::shifted_left;
-use wide::words::shifted_right;
-use wide::words::sum;
 
 // -w.
 pub(crate) fn opposite(w: Word) -> Word

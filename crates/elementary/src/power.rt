@@ -15,8 +15,8 @@ use super::multiples::opposite;
 use super::multiples::times;
 use antilog::antilog::antilog;
 use arithmetic::double::Parts;
+use arithmetic::nearest::take_apart;
 use arithmetic::word::Word;
-use rounding::nearest::take_apart;
 
 // The exponents' magnitudes times 2^58, and which exponents are negative, by their numbers in
 // specs/Exponents.

@@ -1,15 +1,8 @@
 -- There are fractions that stand for a square root and for a power: what is promised of all of them is promised of some. Assumes nothing.
-use mathlib.Core.Path.{_≡_, sym, ap, _∙_, subst}
-use Prim.Native.Nat.{ℕ, zero, suc, _+_, _-_, _*_, _^_, _≤_, _<_}
-use native.Mathlib.Nat.{le-refl, le-trans, le-of-eq, le-of-lt, lt-of-lt-of-le, lt-of-le-of-lt, lt-of-not-le, not-le-of-lt, one-mul, ne-of-gt, mul-assoc, mul-right-comm, mul-pos, mul-one, mul-le-mul, mul-le-mul-right, mul-le-mul-left, le-of-mul-le-mul-right, lt-of-mul-lt-mul-right, mul-lt-mul-of-pos-right, one-le-pow, pow-suc, pow-le-pow-left, pow-lt-pow-left}
-use native.Mathlib.Decide.{decLe}
-use native.Mathlib.Omega.{arith}
-use lib.Dec.{lit<, lit≤}
-use lib.Pow.{pow-pos}
-use lib.Ieee.{Float}
+use Rattle.arithmetic.proofs.Kit.{_≡_, sym, ap, _∙_, subst, ℕ, zero, suc, _+_, _-_, _*_, _^_, _≤_, _<_, le-refl, le-trans, le-of-eq, le-of-lt, lt-of-lt-of-le, lt-of-le-of-lt, lt-of-not-le, not-le-of-lt, one-mul, ne-of-gt, mul-assoc, mul-right-comm, mul-pos, mul-one, mul-le-mul, mul-le-mul-right, mul-le-mul-left, le-of-mul-le-mul-right, lt-of-mul-lt-mul-right, mul-lt-mul-of-pos-right, one-le-pow, pow-suc, pow-le-pow-left, pow-lt-pow-left, decLe, arith, lit<, lit≤, pow-pos, Float}
 use Rattle.arithmetic.proofs.Counts.{over, under}
-use Rattle.antilog.specs.HowNear.{Fraction}
-use Rattle.estimate.proofs.Powers.{pow-one, pow-product, lt-of-squares}
+use Rattle.arithmetic.specs.Fractions.{Fraction}
+use Rattle.arithmetic.proofs.Powers.{pow-one, pow-product, lt-of-squares}
 use Rattle.exact.specs.Exact.{Exact, _⊞_, opposite, _⊠_, _÷_}
 use Rattle.exact.specs.Powers.{IsRoot, IsPower}
 use Rattle.exact.proofs.Rounded.{N, N-pos}

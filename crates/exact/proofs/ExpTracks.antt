@@ -1,23 +1,13 @@
 -- exp of a double that tracks a number tracks every fraction that stands for the power of e. Assumes nothing.
-use mathlib.Core.Path.{_≡_, sym, ap, _∙_}
-use mathlib.Core.Bool.{Bool, true, false, _&&_}
-use mathlib.Core.List.{List, [], _∷_}
-use Prim.Native.Nat.{ℕ, _+_, _-_, _*_, _/_, _^_, _≤_, _<_}
-use native.Mathlib.Nat.{le-trans, le-of-eq, le-of-lt, mul-pos, mul-le-mul-right, mul-le-mul-left, le-of-mul-le-mul-right, pow-le-pow-left, div-mul-le-self}
-use native.Mathlib.Omega.{arith}
-use lib.IntN.{ℤ}
-use lib.Dec.{T, leb, ltb, eqb, leb→le, ltb→lt, eqb→eq, lit<, lit≤}
-use lib.Ieee.{Float, nan, inf, fin, binary64, up, down, fits}
-use lib.Ieee.Fits.{and-r, down-pos}
-use lib.Ieee.Positive.{num, den, den-pos}
+use Rattle.arithmetic.proofs.Kit.{_≡_, sym, ap, _∙_, Bool, true, false, _&&_, List, [], _∷_, ℕ, _+_, _-_, _*_, _/_, _^_, _≤_, _<_, le-trans, le-of-eq, le-of-lt, mul-pos, mul-le-mul-right, mul-le-mul-left, le-of-mul-le-mul-right, pow-le-pow-left, div-mul-le-self, arith, ℤ, T, leb, ltb, eqb, leb→le, ltb→lt, eqb→eq, lit<, lit≤, Float, nan, inf, fin, binary64, up, down, fits, and-r, down-pos, num, den, den-pos}
 use Rattle.arithmetic.specs.Nearest.{unitsOf}
 use Rattle.arithmetic.proofs.CommonDenominator.{above, beneath}
 use Rattle.arithmetic.proofs.Order.{units-exact}
 use Rattle.arithmetic.proofs.Counts.{over, under}
-use Rattle.antilog.specs.HowNear.{Fraction, _isAtMost_}
+use Rattle.arithmetic.specs.Fractions.{Fraction, _isAtMost_}
 use Rattle.elementary.specs.Exp.{exp}
-use Rattle.functions_near.specs.FunctionsNear.{Normal, Within, raisedBy, eBelow, eAbove}
-use Rattle.functions_near.proofs.FunctionsNear.{functions-near-60}
+use Rattle.exact.specs.FunctionsNear.{Normal, InBounds, raisedBy, eBelow, eAbove}
+use Rattle.exact.proofs.FunctionsNear.{functions-near-60}
 use Rattle.exact.specs.Exact.{Exact}
 use Rattle.exact.proofs.Rounded.{N, N-pos}
 use Rattle.exact.proofs.Tracks.{Bounds, Tracks}
@@ -149,7 +139,7 @@ module _ (L H : ℕ) (yb : Bounds) (good : T (exponential L H yb .good)) (b : Fr
       let d : ℕ = den y in
       let is : M * N ≡ v * d = scaled m e (t .double) in
       let few : M / (4 * d) ≤ 6 = fewer M d v is (down-pos e) (omega (arith, t .low, leb→le (yb .M) (24 * N) (passed 3))) in
-      let w : Within (134 + M / (4 * d)) 60 r d (raisedBy y b) = functions-near-60 .exponential b b₀ least most y (t .double) tt normal in
+      let w : InBounds (134 + M / (4 * d)) 60 r d (raisedBy y b) = functions-near-60 .exponential b b₀ least most y (t .double) tt normal in
       let small : 2 * n * yb .E ≤ N = le-trans (le-of-eq (omega arith)) (div-mul-le-self N (2 * yb .E)) in
       let low : (num r * (2 ^ 60 - 140)) ^ d * b .over ^ M ≤ b .under ^ M * (den r * 2 ^ 60) ^ d =
       le-trans (mul-le-mul-right (b .over ^ M) (pow-le-pow-left (mul-le-mul-left (num r) (omega (arith, few))) d)) (le-of-lt (w .low)) in

@@ -1,15 +1,9 @@
 -- Fractions compared, multiplied and raised, and powers whose exponent is a fraction, by whole powers. Assumes nothing.
-use mathlib.Core.Path.{_≡_, sym, ap, ap₂, _∙_, subst, subst₂}
-use Prim.Native.Nat.{ℕ, _+_, _-_, _*_, _^_, _≤_, _<_}
-use native.Mathlib.Nat.{le-refl, le-trans, le-of-eq, lt-of-not-le, mul-one, mul-assoc, mul-comm, mul-right-comm, mul-le-mul, mul-le-mul-right, mul-le-mul-left, le-of-mul-le-mul-right, one-le-pow, pow-le-pow-left, pow-zero}
-use native.Mathlib.Decide.{decLe}
-use native.Mathlib.Omega.{arith}
-use lib.Pow.{pow-add}
-use Rattle.estimate.proofs.Powers.{pow-product, pow-power}
-use Rattle.antilog.specs.HowNear.{Fraction, _isAtMost_, _toThe_}
-use Rattle.functions_near.specs.FunctionsNear.{_times_, inverse}
-use Rattle.functions_near.proofs.RootsNear.{le-of-powers}
-use Rattle.exact.proofs.Relative.{far-one}
+use Rattle.arithmetic.proofs.Kit.{_≡_, sym, ap, ap₂, _∙_, subst, subst₂, ℕ, _+_, _-_, _*_, _^_, _≤_, _<_, le-refl, le-trans, le-of-eq, lt-of-not-le, mul-one, mul-assoc, mul-comm, mul-right-comm, mul-le-mul, mul-le-mul-right, mul-le-mul-left, le-of-mul-le-mul-right, one-le-pow, pow-le-pow-left, decLe, add-one, arith, pow-add}
+use native.Mathlib.Nat.{pow-zero}
+use Rattle.arithmetic.proofs.Powers.{pow-product, pow-power, le-of-powers, far-one}
+use Rattle.arithmetic.specs.Fractions.{Fraction, _isAtMost_, _toThe_}
+use Rattle.exact.specs.FunctionsNear.{_times_, inverse}
 
 fraction : ℕ → ℕ → Fraction
 fraction a b = record { over = a; under = b }
@@ -43,7 +37,7 @@ pub power-power : (a : Fraction) (i k : ℕ) → ((a toThe i) toThe k) ≡ (a to
 unfolding fraction
 power-power a i k = ap₂ fraction (pow-power (a .over) i k) (pow-power (a .under) i k)
 
-pub power-sum : (a : Fraction) (i k : ℕ) → (a toThe (i + k)) ≡ ((a toThe i) times (a toThe k))
+power-sum : (a : Fraction) (i k : ℕ) → (a toThe (i + k)) ≡ ((a toThe i) times (a toThe k))
 unfolding fraction
 power-sum a i k = ap₂ fraction (pow-add (a .over) i k) (pow-add (a .under) i k)
 
@@ -56,7 +50,7 @@ no-power a n z e = rw (e, pow-zero (a .over), pow-zero (a .under)) (ap₂ fracti
 abbrev pub next : ℕ → Fraction
 next n = record { over = n + 1; under = n }
 
-pub next-rises : (n i j : ℕ) → i ≤ j → (next n toThe i) isAtMost (next n toThe j)
+next-rises : (n i j : ℕ) → i ≤ j → (next n toThe i) isAtMost (next n toThe j)
 next-rises n i j h =
     let d : ℕ = j - i in
     let whole : j ≡ i + d = omega arith in
@@ -71,7 +65,7 @@ module _ (m k e : ℕ) (m₀ : 0 < m) where
   few : (y : Fraction) → 0 < y .under → y isAtMost wide → (t : ℕ) → t * k ≤ e → (y toThe t) isAtMost (next m toThe e)
   few y y₀ h t less =
       transitive (y toThe t) (wide toThe t) (next m toThe e) (one-le-pow t m m₀) (raise y wide t h)
-      (transitive (wide toThe t) ((next m toThe k) toThe t) (next m toThe e) (one-le-pow t (m ^ k) (one-le-pow k m m₀)) (raise wide (next m toThe k) t (le-trans (le-of-eq (mul-comm (m + k) (m ^ k))) (far-one m k)))
+      (transitive (wide toThe t) ((next m toThe k) toThe t) (next m toThe e) (one-le-pow t (m ^ k) (one-le-pow k m m₀)) (raise wide (next m toThe k) t (le-trans (le-of-eq (mul-comm (m + k) (m ^ k))) (rw (add-one m) (far-one m k))))
       (subst (λ (z : Fraction). z isAtMost (next m toThe e)) (sym (power-power (next m) k t)) (next-rises m (k * t) e (omega arith))))
 
   pub exponents-near : (x : Fraction) → 0 < x .over → 0 < x .under → x isAtMost wide → inverse x isAtMost wide → (s w : ℕ) → s * k ≤ w * k + e → w * k ≤ s * k + e

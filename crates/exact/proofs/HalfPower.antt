@@ -1,24 +1,14 @@
 -- The power to j halves of a double that tracks a number tracks the j-th power of every fraction that stands for the number's root: the analysis finds how near, and
 -- `power` is such a power. Assumes nothing.
-use mathlib.Core.Path.{_≡_, ap, _∙_}
-use mathlib.Core.Bool.{Bool, false, _&&_}
-use mathlib.Core.List.{List, [], _∷_}
-use Prim.Native.Nat.{ℕ, _+_, _-_, _*_, _/_, _^_, _≤_, _<_}
-use native.Mathlib.Nat.{le-trans, le-of-eq, lt-of-lt-of-le, mul-pos, one-le-pow, div-mul-le-self}
-use native.Mathlib.Omega.{arith}
-use lib.Dec.{T, leb, ltb, eqb, leb→le, ltb→lt, eqb→eq, lit<, lit≤}
-use lib.Pow.{pow-pos, pow-add}
-use lib.Ieee.{Float, binary64, fits}
-use lib.Ieee.Fits.{and-r}
-use lib.Ieee.Positive.{num, den, positive}
+use Rattle.arithmetic.proofs.Kit.{_≡_, ap, _∙_, Bool, false, _&&_, List, [], _∷_, ℕ, _+_, _-_, _*_, _/_, _^_, _≤_, _<_, le-trans, le-of-eq, lt-of-lt-of-le, mul-pos, one-le-pow, div-mul-le-self, arith, T, leb, ltb, eqb, leb→le, ltb→lt, eqb→eq, lit<, lit≤, pow-pos, pow-add, Float, binary64, fits, and-r, num, den, positive}
 use Rattle.arithmetic.proofs.Counts.{over, under}
-use Rattle.antilog.specs.HowNear.{Fraction, value, _toThe_}
-use Rattle.wide.specs.Root.{root}
+use Rattle.arithmetic.specs.Fractions.{Fraction, exactValue, _toThe_}
+use Rattle.roots.specs.Root.{root}
 use Rattle.elementary.specs.Exponents.{Exponent}
 use Rattle.elementary.specs.Power.{power}
 use Rattle.elementary.proofs.Rises.{power-fits}
-use Rattle.functions_near.specs.FunctionsNear.{Normal, Within}
-use Rattle.functions_near.proofs.PowerNear.{power-within}
+use Rattle.exact.specs.FunctionsNear.{Normal, InBounds}
+use Rattle.exact.proofs.PowerNear.{power-within}
 use Rattle.exact.specs.Exact.{Exact, _⊞_, opposite}
 use Rattle.exact.proofs.Rounded.{N, N-pos}
 use Rattle.exact.proofs.Tracks.{Bounds, Tracks}
@@ -140,7 +130,7 @@ module _ (j : ℕ) (τb : Bounds) (small : j * 2 ^ 57 ≤ 8 * 2 ^ 58) (good : T 
       let some : T (positive x) = x-positive (2 ^ 60) 147 j τb (lit< tt) good x τ t in
       let x-is : Positive x = x-units (2 ^ 60) 147 j τb (lit< tt) good x τ t in
       let r-is : Positive r = positive-units r (normal .0) (power-fits 60 _ x) in
-      let w : Within 147 60 r (2 ^ 58) (value x toThe (j * 2 ^ 57)) = power-within 60 8 (halves j) (lit≤ tt) (lit≤ tt) (lit≤ tt) small x (t .double) some normal in
+      let w : InBounds 147 60 r (2 ^ 58) (exactValue x toThe (j * 2 ^ 57)) = power-within 60 8 (halves j) (lit≤ tt) (lit≤ tt) (lit≤ tt) small x (t .double) some normal in
       tracks-half (2 ^ 60) 147 j τb (lit< tt) good x τ t k is-root r (normal .0) (power-fits 60 _ x)
       (units-above (num r) (den r) (over r) (num x) (den x) (over x) N j N-pos (r-is .is-over) (x-is .is-over) (2 ^ 60 - 147) (2 ^ 60) (unraised (num r * (2 ^ 60 - 147)) (den x) (num x) (den r * 2 ^ 60) 2 j j 2 (2 ^ 57) (w .low)))
       (units-below (num r) (den r) (over r) (num x) (den x) (over x) N j N-pos (r-is .is-over) (x-is .is-over) (2 ^ 60 + 147) (2 ^ 60) (unraised (num x) (den r * 2 ^ 60) (num r * (2 ^ 60 + 147)) (den x) j 2 2 j (2 ^ 57) (w .high)))

@@ -1,10 +1,7 @@
 -- What a double between bounds is not changed by. Assumes nothing.
-use mathlib.Core.Path.{_≡_, refl, ap, _∙_}
-use mathlib.Core.Bool.{Bool, true, false, _||_, cond}
-use lib.Dec.{T}
-use lib.Ieee.{Float, lt, le}
+use Rattle.arithmetic.proofs.Kit.{_≡_, refl, ap, _∙_, Bool, true, false, _||_, cond, T, Float, lt, le}
 use Rattle.arithmetic.proofs.Strict.{not-le-of-less}
-use Rattle.doubles.specs.Doubles.{clampDouble}
+use Rattle.arithmetic.specs.Doubles.{clampDouble}
 
 pub taken : {A : Type 0} (a b : A) (c : Bool) → T c → cond c a b ≡ a
 taken a b true h = refl

@@ -23,3 +23,10 @@ pub mod PowerTracks
 pub mod Sides
 pub mod Kept
 pub mod NoFurther
+pub mod RoundedNear
+pub mod RootsNear
+pub mod PowerNear
+pub mod EulerNear
+pub mod ExpNear
+pub mod LnNear
+pub mod FunctionsNear

@@ -1,10 +1,5 @@
 -- What is near a number is no further from it than any greater distance. Assumes nothing.
-use mathlib.Core.Path.{_≡_, sym, ap, _∙_}
-use Prim.Native.Nat.{ℕ, _+_, _-_, _*_, _^_, _≤_}
-use native.Mathlib.Nat.{le-trans, le-of-eq, mul-one, mul-le-mul-left, le-of-mul-le-mul-right}
-use native.Mathlib.Omega.{arith}
-use lib.Pow.{pow-add, pow-pos}
-use lib.Ieee.{Float}
+use Rattle.arithmetic.proofs.Kit.{_≡_, sym, ap, _∙_, ℕ, _+_, _-_, _*_, _^_, _≤_, le-trans, le-of-eq, mul-one, mul-le-mul-left, le-of-mul-le-mul-right, arith, pow-add, pow-pos, Float}
 use Rattle.exact.specs.Exact.{Exact, _⊟_, number}
 use Rattle.exact.specs.Near.{IsNear}
 

@@ -1,8 +1,5 @@
 -- A double between two others lies on one side of any double between them, and so in one of six parts. Assumes nothing.
-use mathlib.Core.Path.{_≡_, refl, sym, subst}
-use mathlib.Core.Bool.{Bool, true, false}
-use lib.Dec.{T}
-use lib.Ieee.{Float, lt, eq, le}
+use Rattle.arithmetic.proofs.Kit.{_≡_, refl, sym, subst, Bool, true, false, T, Float, lt, eq, le}
 use Rattle.arithmetic.proofs.Order.{or-left, numbers-of-le}
 use Rattle.arithmetic.proofs.Strict.{less-of-not-le}
 use Rattle.exact.specs.Near.{Between}

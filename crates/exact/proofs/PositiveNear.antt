@@ -1,14 +1,8 @@
 -- A positive double that is near a fraction as a part of itself tracks it. Assumes nothing.
-use mathlib.Core.Path.{_≡_, ap, _∙_}
-use mathlib.Core.Bool.{Bool}
-use Prim.Native.Nat.{ℕ, _+_, _*_, _/_, _^_, _≤_, _<_}
-use native.Mathlib.Nat.{le-of-eq, mul-le-mul-right, le-of-mul-le-mul-right, lt-div-mul-add}
-use native.Mathlib.Omega.{arith}
-use lib.Dec.{T}
-use lib.Ieee.{Float, binary64, fits}
-use lib.Ieee.Positive.{positive, positive-finite}
+use Rattle.arithmetic.proofs.Kit.{_≡_, ap, _∙_, Bool, ℕ, _+_, _*_, _/_, _^_, _≤_, _<_, le-of-eq, mul-le-mul-right, le-of-mul-le-mul-right, lt-div-mul-add, arith, T, Float, binary64, fits, positive}
+use lib.Ieee.Positive.{positive-finite}
 use Rattle.arithmetic.proofs.Counts.{over, under}
-use Rattle.antilog.specs.HowNear.{Fraction}
+use Rattle.arithmetic.specs.Fractions.{Fraction}
 use Rattle.exact.specs.Exact.{Exact, _⊞_, opposite, number}
 use Rattle.exact.specs.Near.{IsNearly}
 use Rattle.exact.specs.Powers.{of}

@@ -1,23 +1,14 @@
 -- A power with a constant exponent, of a double that tracks a number above zero, tracks every fraction that stands for the exact power. Assumes nothing.
-use mathlib.Core.Path.{_≡_, refl, subst}
-use mathlib.Core.Bool.{Bool, false}
-use mathlib.Core.List.{List, [], _∷_}
-use Prim.Native.Nat.{ℕ, _+_, _-_, _*_, _/_, _^_, _≤_, _<_, zero-le}
-use native.Mathlib.Nat.{le-refl, le-trans, lt-of-le-of-lt, le-of-eq, le-of-lt, mul-pos, mul-comm, mul-le-mul-right, mul-le-mul-left, le-of-mul-le-mul-right}
-use native.Mathlib.Omega.{arith}
-use lib.IntN.{pos}
-use lib.Dec.{T, leb, ltb, eqb, leb→le, ltb→lt, eqb→eq, lit<, lit≤}
-use lib.Pow.{pow-pos}
-use lib.Ieee.{Float, fin, binary64, fits, le}
-use lib.Ieee.Positive.{num, den, den-pos, positive, own-value, value-pos}
+use Rattle.arithmetic.proofs.Kit.{_≡_, refl, subst, Bool, false, List, [], _∷_, ℕ, _+_, _-_, _*_, _/_, _^_, _≤_, _<_, zero-le, le-refl, le-trans, lt-of-le-of-lt, le-of-eq, le-of-lt, mul-pos, mul-comm, mul-le-mul-right, mul-le-mul-left, le-of-mul-le-mul-right, arith, pos, T, leb, ltb, eqb, leb→le, ltb→lt, eqb→eq, lit<, lit≤, pow-pos, Float, fin, binary64, fits, le, num, den, den-pos, positive}
+use lib.Ieee.Positive.{own-value, value-pos}
 use Rattle.arithmetic.proofs.Counts.{over, under}
 use Rattle.arithmetic.proofs.Order.{le-trans-double}
-use Rattle.antilog.specs.HowNear.{Fraction, _isAtMost_, _toThe_, value}
+use Rattle.arithmetic.specs.Fractions.{Fraction, _isAtMost_, _toThe_, exactValue}
 use Rattle.elementary.specs.Exponents.{Exponent}
 use Rattle.elementary.specs.Power.{power}
 use Rattle.elementary.proofs.Rises.{power-rises, power-fits}
-use Rattle.functions_near.specs.FunctionsNear.{_times_, inverse, less, more, Normal, Within}
-use Rattle.functions_near.proofs.PowerNear.{power-within}
+use Rattle.exact.specs.FunctionsNear.{_times_, inverse, less, more, Normal, InBounds}
+use Rattle.exact.proofs.PowerNear.{power-within}
 use Rattle.exact.specs.Exact.{Exact, number}
 use Rattle.exact.specs.Near.{Between}
 use Rattle.exact.specs.Powers.{of, positivePart, IsPower}
@@ -221,7 +212,7 @@ module _ (s : Power) (w : Window) (good : T (powerBounds s w .good)) (computed :
   r-units : Positive r
   r-units = positive-units r (r-normal .0) r-fits
 
-  near : Within (C s) 60 r (2 ^ 58) (value x toThe s .M)
+  near : InBounds (C s) 60 r (2 ^ 58) (exactValue x toThe s .M)
   near = power-within 60 (s .whole) (exponentOf s) (lit≤ tt) (lit≤ tt) (leb→le (s .whole) 36 (passed 5)) (leb→le (s .M) (s .whole * 2 ^ 58) (passed 4)) x (t .double) x-positive r-normal
 
   -- ---- the exact power
@@ -238,12 +229,12 @@ module _ (s : Power) (w : Window) (good : T (powerBounds s w .good)) (computed :
   room : E * (W w + 1) ≤ over x
   room = le-trans (leb→le (E * (W w + 1)) (over (w .lo)) (passed 21)) x-least
 
-  base-high : value x isAtMost (positivePart X times next (W w))
+  base-high : exactValue x isAtMost (positivePart X times next (W w))
   base-high =
       from-units (num x) (den x) (over x) x-is (X .under * W w) ((X .plus - X .minus) * (W w + 1))
       (base-above (over x) E (W w) (X .plus) (X .minus) (X .under) (under x) (x-units .none-under) apart room (t .not-above))
 
-  base-low : positivePart X isAtMost (value x times next (W w))
+  base-low : positivePart X isAtMost (exactValue x times next (W w))
   base-low =
       le-trans (le-of-eq (turn (X .plus - X .minus) (den x) (W w)))
       (le-trans (from-units' (num x) (den x) (over x) x-is ((W w + 1) * X .under) ((X .plus - X .minus) * W w)
@@ -268,12 +259,12 @@ module _ (s : Power) (w : Window) (good : T (powerBounds s w .good)) (computed :
       go : (p q m k c : ℕ) → p * 16 ≤ q * (16 + c) → m * c ≤ 16 * k → p * m ≤ q * (m + k)
       go p q m k c h i = le-of-mul-le-mul-right {k = 16} (omega (arith, mul-le-mul-right m h, mul-le-mul-left q i)) (lit< tt)
 
-  x-at-most : value x isAtMost record { over = m s w + k s; under = m s w }
+  x-at-most : exactValue x isAtMost record { over = m s w + k s; under = m s w }
   x-at-most =
       let few : num x * 16 ≤ (16 + w .c) * den x = from-units (num x) (den x) (over x) x-is 16 (16 + w .c) (le-trans (mul-le-mul-right 16 x-most) (leb→le (over (w .hi) * 16) ((16 + w .c) * N) (passed 10))) in
       le-trans (widest (num x) (den x) (le-trans few (le-of-eq (mul-comm (16 + w .c) (den x))))) (le-of-eq (mul-comm (den x) (m s w + k s)))
 
-  x-at-least : inverse (value x) isAtMost record { over = m s w + k s; under = m s w }
+  x-at-least : inverse (exactValue x) isAtMost record { over = m s w + k s; under = m s w }
   x-at-least =
       let few : 16 * den x ≤ num x * (16 + w .c) = from-units' (num x) (den x) (over x) x-is (16 + w .c) 16 (le-trans (leb→le (16 * N) (over (w .lo) * (16 + w .c)) (passed 11)) (mul-le-mul-right (16 + w .c) x-least)) in
       le-trans (widest (den x) (num x) (le-trans (le-of-eq (mul-comm (den x) 16)) few)) (le-of-eq (mul-comm (num x) (m s w + k s)))
@@ -284,17 +275,17 @@ module _ (s : Power) (w : Window) (good : T (powerBounds s w .good)) (computed :
   exponents-low : s .Q .plus * 2 ^ 58 * k s ≤ s .M * s .Q .under * k s + scale s
   exponents-low = leb→le (s .Q .plus * 2 ^ 58 * k s) (s .M * s .Q .under * k s + scale s) (passed 7)
 
-  power-high : (value r times less (C s) 60) isAtMost (R times (more 1 80 times slack (Y s w) (m s w)))
+  power-high : (exactValue r times less (C s) 60) isAtMost (R times (more 1 80 times slack (Y s w) (m s w)))
   power-high =
-      subst (λ (z : Fraction). (value r times less (C s) 60) isAtMost z) (times-assoc R (more 1 80) (slack (Y s w) (m s w)))
-      (at-most (2 ^ 58) (s .M) (s .Q .plus) (s .Q .under) (m s w) (k s) (W w) (Y s w) (lit< tt) U₀ m₀ W₀ Y₀ part exponents-high exponents-low (value x) (positivePart X) x₀ (den-pos x) (t .some) x-at-most x-at-least
-      (value r times less (C s) 60) (R times more 1 80) (mul-pos (is-power .proper) (pow-pos 80)) (le-of-lt (near .low)) base-high exact-high)
+      subst (λ (z : Fraction). (exactValue r times less (C s) 60) isAtMost z) (times-assoc R (more 1 80) (slack (Y s w) (m s w)))
+      (at-most (2 ^ 58) (s .M) (s .Q .plus) (s .Q .under) (m s w) (k s) (W w) (Y s w) (lit< tt) U₀ m₀ W₀ Y₀ part exponents-high exponents-low (exactValue x) (positivePart X) x₀ (den-pos x) (t .some) x-at-most x-at-least
+      (exactValue r times less (C s) 60) (R times more 1 80) (mul-pos (is-power .proper) (pow-pos 80)) (le-of-lt (near .low)) base-high exact-high)
 
-  power-low : (R times less 1 80) isAtMost (value r times (more (C s) 60 times slack (Y s w) (m s w)))
+  power-low : (R times less 1 80) isAtMost (exactValue r times (more (C s) 60 times slack (Y s w) (m s w)))
   power-low =
-      subst (λ (z : Fraction). (R times less 1 80) isAtMost z) (times-assoc (value r) (more (C s) 60) (slack (Y s w) (m s w)))
-      (at-least (2 ^ 58) (s .M) (s .Q .plus) (s .Q .under) (m s w) (k s) (W w) (Y s w) (lit< tt) U₀ m₀ W₀ Y₀ part exponents-high exponents-low (value x) (positivePart X) x₀ (den-pos x) (t .some) x-at-most x-at-least
-      (value r times more (C s) 60) (R times less 1 80) (mul-pos (den-pos r) (pow-pos 60)) (le-of-lt (near .high)) base-low exact-low)
+      subst (λ (z : Fraction). (R times less 1 80) isAtMost z) (times-assoc (exactValue r) (more (C s) 60) (slack (Y s w) (m s w)))
+      (at-least (2 ^ 58) (s .M) (s .Q .plus) (s .Q .under) (m s w) (k s) (W w) (Y s w) (lit< tt) U₀ m₀ W₀ Y₀ part exponents-high exponents-low (exactValue x) (positivePart X) x₀ (den-pos x) (t .some) x-at-most x-at-least
+      (exactValue r times more (C s) 60) (R times less 1 80) (mul-pos (den-pos r) (pow-pos 60)) (le-of-lt (near .high)) base-low exact-low)
 
   -- ---- in units
   parts : Apart (2 ^ 80) (D s w) (over r * R .under) (R .over * N)

@@ -1,9 +1,7 @@
 -- Two powers, of a base x with the exponent M / E and of a base X with the exponent P / U, are near where the bases and the exponents are. Assumes nothing.
-use mathlib.Core.Path.{_≡_, sym, ap, _∙_, subst, subst₂}
-use Prim.Native.Nat.{ℕ, _+_, _*_, _≤_, _<_}
-use native.Mathlib.Nat.{le-refl, mul-comm, mul-pos, one-le-pow}
-use Rattle.antilog.specs.HowNear.{Fraction, _isAtMost_, _toThe_}
-use Rattle.functions_near.specs.FunctionsNear.{_times_, inverse}
+use Rattle.arithmetic.proofs.Kit.{_≡_, sym, ap, _∙_, subst, subst₂, ℕ, _+_, _*_, _≤_, _<_, le-refl, mul-comm, mul-pos, one-le-pow}
+use Rattle.arithmetic.specs.Fractions.{Fraction, _isAtMost_, _toThe_}
+use Rattle.exact.specs.FunctionsNear.{_times_, inverse}
 use Rattle.exact.proofs.Fractions.{transitive, times-rises, raise, unraise, times-assoc, times-swap, times-power, power-power, next, exponents-near}
 
 -- of two bases, one at most 1 + 1 / W times the other: their powers with the exponent P / U, to the e = E * U

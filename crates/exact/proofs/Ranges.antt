@@ -1,15 +1,6 @@
 -- Into the analysis and out of it: a double between two others tracks the number that it is, what tracks a number closely is near it, and bounds may be widened.
 -- Assumes nothing.
-use mathlib.Core.Path.{_≡_, ap}
-use mathlib.Core.Bool.{Bool, true, false}
-use mathlib.Core.List.{List, [], _∷_}
-use Prim.Native.Nat.{ℕ, _+_, _*_, _^_, _≤_, _<_}
-use native.Mathlib.Nat.{le-trans, le-of-eq, mul-assoc, mul-le-mul-right, mul-le-mul-left, le-of-mul-le-mul-right}
-use native.Mathlib.Omega.{arith}
-use lib.Dec.{T, leb, leb→le}
-use lib.Ieee.{Float, nan, inf, fin, binary64, down, fits, le}
-use lib.Ieee.Fits.{down-pos}
-use lib.Ieee.Scale.{finite}
+use Rattle.arithmetic.proofs.Kit.{_≡_, ap, Bool, true, false, List, [], _∷_, ℕ, _+_, _*_, _^_, _≤_, _<_, le-trans, le-of-eq, mul-assoc, mul-le-mul-right, mul-le-mul-left, le-of-mul-le-mul-right, arith, T, leb, leb→le, Float, nan, inf, fin, binary64, down, fits, le, down-pos, finite}
 use Rattle.arithmetic.specs.Nearest.{unitsOf}
 use Rattle.arithmetic.proofs.CommonDenominator.{above, beneath, at-most}
 use Rattle.arithmetic.proofs.Order.{units-exact, count-of-le}

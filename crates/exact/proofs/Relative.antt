@@ -1,11 +1,6 @@
 -- Errors that are parts of a number, and what half powers and powers of a b between 1 and 3 make of them, over natural numbers. Assumes nothing.
-use mathlib.Core.Path.{_≡_, sym, ap, _∙_}
-use Prim.Native.Nat.{ℕ, zero, suc, _+_, _-_, _*_, _^_, _≤_, _<_}
-use native.Mathlib.Nat.{lt-of-le-of-lt, le-trans, le-of-eq, lt-of-lt-of-le, mul-pos, mul-le-mul-right, mul-le-mul-left, mul-comm, le-of-mul-le-mul-right, lt-of-mul-lt-mul-right, mul-lt-mul-of-pos-right, one-le-pow, pow-le-pow-left, pow-zero, pow-suc}
-use native.Mathlib.Omega.{arith}
-use lib.Pow.{pow-add}
-use Rattle.estimate.proofs.Powers.{pow-product, pow-power, lt-of-powers}
-use Rattle.functions_near.proofs.RootsNear.{le-of-powers}
+use Rattle.arithmetic.proofs.Kit.{_≡_, sym, ap, _∙_, ℕ, _+_, _-_, _*_, _^_, _≤_, _<_, lt-of-le-of-lt, le-trans, le-of-eq, lt-of-lt-of-le, mul-pos, mul-le-mul-right, mul-le-mul-left, mul-comm, le-of-mul-le-mul-right, lt-of-mul-lt-mul-right, mul-lt-mul-of-pos-right, one-le-pow, pow-le-pow-left, add-one, arith, pow-add}
+use Rattle.arithmetic.proofs.Powers.{pow-product, pow-power, lt-of-powers, le-of-powers, far-one}
 
 -- ---- a number A and a number B, each at most a part D / F of A from the other
 pub record Apart (F D A B : ℕ) : Type 0 where
@@ -88,24 +83,24 @@ module _ (A B X N g h W W₁ Y Z j : ℕ) (h₀ : 0 < h) (W₀ : 0 < W) (W₁₀
           (lt-of-lt-of-le (mul-lt-mul-of-pos-right l p) (le-trans (le-of-eq (omega arith)) (le-trans (mul-le-mul-right (A * N * H) f) (le-of-eq (omega arith)))))
 
 -- ---- powers of b = β / γ, from 1 to 3: b ^ (1 / (2 * n)) is at most 1 + 1 / n
--- (1 + 1 / n) ^ k is at least 1 + k / n
-pub far-one : (n k : ℕ) → n ^ k * (n + k) ≤ (n + 1) ^ k * n
-far-one n zero = rw (pow-zero (n + 1), pow-zero n) (omega arith)
-far-one n (suc k) =
-    rw (pow-suc (n + 1) k, pow-suc n k)
-    (le-trans (le-of-eq (omega arith)) (le-trans (step (n ^ k) n k) (le-trans (mul-le-mul-left (n + 1) (far-one n k)) (le-of-eq (omega arith)))))
-  where
-    step : (x n k : ℕ) → x * n * (n + suc k) ≤ (n + 1) * (x * (n + k))
-    step x n k = le-trans (le-add (x * n * (n + suc k)) (x * k)) (le-of-eq (omega arith))
-      where
-        le-add : (a b : ℕ) → a ≤ a + b
-        le-add a b = omega arith
-
 three : (n : ℕ) → 0 < n → n ^ (2 * n) * 3 ≤ (n + 1) ^ (2 * n)
-three n n₀ = le-of-mul-le-mul-right {k = n} (le-trans (le-of-eq (go (n ^ (2 * n)) n)) (far-one n (2 * n))) n₀
+three n n₀ = le-of-mul-le-mul-right {k = n} (le-trans (le-of-eq (go (n ^ (2 * n)) n)) (rw (add-one n) (far-one n (2 * n)))) n₀
   where
     go : (x n : ℕ) → x * 3 * n ≡ x * (n + 2 * n)
     go x n = omega arith
+
+-- the three comparisons below, multiplied, and the same turned round
+chained : (a H n B G n' βm βP βw γs γm γP γw βs : ℕ) → βw ≡ βm * βP → γw ≡ γm * γP → a * βm ≤ γm * B → βP * γs * H ≤ G * (γP * βs) → βs * γw * n ≤ n' * (βw * γs) → a * H * n * (βw * γs) ≤ B * G * n' * (βw * γs)
+chained a H n B G n' βm βP βw γs γm γP γw βs f g h i j =
+    le-trans (le-of-eq (ap (λ (x : ℕ). a * H * n * (x * γs)) f ∙ omega arith))
+    (le-trans (mul-le-mul-right (H * n * βP * γs) h)
+    (le-trans (le-of-eq (omega arith))
+    (le-trans (mul-le-mul-right (γm * B * n) i)
+    (le-trans (le-of-eq (omega arith ∙ ap (λ (x : ℕ). βs * x * n * (B * G)) (sym g)))
+    (le-trans (mul-le-mul-right (B * G) j) (le-of-eq (omega arith)))))))
+
+turned : (a H n B G n' βm βP βw γs γm γP γw βs : ℕ) → βw ≡ βm * βP → γw ≡ γm * γP → B * γm ≤ βm * a → G * (γP * βs) ≤ βP * γs * H → βw * γs * n ≤ n' * (βs * γw) → B * G * n * (βs * γw) ≤ a * H * n' * (βs * γw)
+turned a H n B G n' βm βP βw γs γm γP γw βs f g h i j = let r = chained B G n a H n' γm γP γw βs βm βP βw γs g f h (omega (arith, i)) (omega (arith, j)) in omega (arith, r)
 
 module _ (β γ n : ℕ) (n₀ : 0 < n) (γ₀ : 0 < γ) (least : γ ≤ β) (most : β ≤ 3 * γ) where
   pub exponents-near : (s w e : ℕ) → 2 * n * s ≤ 2 * n * w + e → β ^ s * γ ^ w * n ^ e ≤ (n + 1) ^ e * (β ^ w * γ ^ s)
@@ -164,16 +159,7 @@ module _ (β γ n : ℕ) (n₀ : 0 < n) (γ₀ : 0 < γ) (least : γ ≤ β) (mo
         le-of-powers (a * H * n) (B * G * (n + 1)) e (mul-pos d₀ U₀)
         (rw (pow-product (a * H) n e, pow-product a H e, pow-product (B * G) (n + 1) e, pow-product B G e)
         (le-of-mul-le-mul-right {k = β ^ w * γ ^ s}
-        (go (a ^ e) (H ^ e) (n ^ e) (B ^ e) (G ^ e) ((n + 1) ^ e) (β ^ (m * U)) (β ^ (P * d)) (β ^ w) (γ ^ s) (γ ^ (m * U)) (γ ^ (P * d)) (γ ^ w) (β ^ s) (betas β) (betas γ) (first-power a B β γ first) four (exponents-near s w e near)) common))
-      where
-        go : (a H n B G n' βm βP βw γs γm γP γw βs : ℕ) → βw ≡ βm * βP → γw ≡ γm * γP → a * βm ≤ γm * B → βP * γs * H ≤ G * (γP * βs) → βs * γw * n ≤ n' * (βw * γs) → a * H * n * (βw * γs) ≤ B * G * n' * (βw * γs)
-        go a H n B G n' βm βP βw γs γm γP γw βs f g h i j =
-            le-trans (le-of-eq (ap (λ (x : ℕ). a * H * n * (x * γs)) f ∙ omega arith))
-            (le-trans (mul-le-mul-right (H * n * βP * γs) h)
-            (le-trans (le-of-eq (omega arith))
-            (le-trans (mul-le-mul-right (γm * B * n) i)
-            (le-trans (le-of-eq (omega arith ∙ ap (λ (x : ℕ). βs * x * n * (B * G)) (sym g)))
-            (le-trans (mul-le-mul-right (B * G) j) (le-of-eq (omega arith)))))))
+        (chained (a ^ e) (H ^ e) (n ^ e) (B ^ e) (G ^ e) ((n + 1) ^ e) (β ^ (m * U)) (β ^ (P * d)) (β ^ w) (γ ^ s) (γ ^ (m * U)) (γ ^ (P * d)) (γ ^ w) (β ^ s) (betas β) (betas γ) (first-power a B β γ first) four (exponents-near s w e near)) common))
 
     pub both-below : γ ^ m * B ^ d ≤ a ^ d * β ^ m → G ^ U * (γ ^ P * β ^ Q) ≤ β ^ P * γ ^ Q * H ^ U → 2 * n * w ≤ 2 * n * s + e → B * G * n ≤ a * H * (n + 1)
     both-below second third near =
@@ -181,16 +167,4 @@ module _ (β γ n : ℕ) (n₀ : 0 < n) (γ₀ : 0 < γ) (least : γ ≤ β) (mo
         le-of-powers (B * G * n) (a * H * (n + 1)) e (mul-pos d₀ U₀)
         (rw (pow-product (B * G) n e, pow-product B G e, pow-product (a * H) (n + 1) e, pow-product a H e)
         (le-of-mul-le-mul-right {k = β ^ s * γ ^ w}
-        (go (a ^ e) (H ^ e) (n ^ e) (B ^ e) (G ^ e) ((n + 1) ^ e) (β ^ (m * U)) (β ^ (P * d)) (β ^ w) (γ ^ s) (γ ^ (m * U)) (γ ^ (P * d)) (γ ^ w) (β ^ s) (betas β) (betas γ) (first-turned second) three (exponents-near w s e near)) other))
-      where
-        first-turned : γ ^ m * B ^ d ≤ a ^ d * β ^ m → γ ^ (m * U) * B ^ e ≤ a ^ e * β ^ (m * U)
-        first-turned h = rw (← pow-power a d U, ← pow-power β m U, ← pow-product (a ^ d) (β ^ m) U, ← pow-power γ m U, ← pow-power B d U, ← pow-product (γ ^ m) (B ^ d) U) (pow-le-pow-left h U)
-
-        go : (a H n B G n' βm βP βw γs γm γP γw βs : ℕ) → βw ≡ βm * βP → γw ≡ γm * γP → γm * B ≤ a * βm → G * (γP * βs) ≤ βP * γs * H → βw * γs * n ≤ n' * (βs * γw) → B * G * n * (βs * γw) ≤ a * H * n' * (βs * γw)
-        go a H n B G n' βm βP βw γs γm γP γw βs f g h i j =
-            le-trans (le-of-eq (ap (λ (x : ℕ). B * G * n * (βs * x)) g ∙ omega arith))
-            (le-trans (mul-le-mul-right (G * n * βs * γP) h)
-            (le-trans (le-of-eq (omega arith))
-            (le-trans (mul-le-mul-right (a * βm * n) i)
-            (le-trans (le-of-eq (omega arith ∙ ap (λ (x : ℕ). x * γs * n * (a * H)) (sym f)))
-            (le-trans (mul-le-mul-right (a * H) j) (le-of-eq (omega arith)))))))
+        (turned (a ^ e) (H ^ e) (n ^ e) (B ^ e) (G ^ e) ((n + 1) ^ e) (β ^ (m * U)) (β ^ (P * d)) (β ^ w) (γ ^ s) (γ ^ (m * U)) (γ ^ (P * d)) (γ ^ w) (β ^ s) (betas β) (betas γ) (first-power B a γ β (rw (mul-comm (B ^ d) (γ ^ m), mul-comm (β ^ m) (a ^ d)) second)) three (exponents-near w s e near)) other))

@@ -1,16 +1,6 @@
 -- One rounded operation on two finite doubles lies within a step of the exact result. Numbers are counts of units of 2 ^ -1074. Assumes nothing.
-use mathlib.Core.Path.{_≡_, ap, ap₂}
-use mathlib.Core.Bool.{Bool, true, false}
-use Prim.Native.Nat.{ℕ, suc, _+_, _-_, _*_, _^_, _≤_, _<_}
-use native.Mathlib.Nat.{le-trans, le-of-eq, lt-of-lt-of-le, mul-pos}
-use native.Mathlib.Omega.{arith}
-use lib.IntN.{ℤ}
-use lib.Dec.{T, eqb·suc-zero}
-use lib.Pow.{pow-add, pow-pos, pow-mono}
-use lib.Ieee.{Float, fin, binary64, up, down, unlike, size, round, add, mul, div, fits}
-use lib.Ieee.Digits.{size-lt}
-use lib.Ieee.Fits.{up-pos, down-pos}
-use lib.Ieee.Scale.{round-same}
+use Rattle.arithmetic.proofs.Kit.{_≡_, ap, ap₂, Bool, true, false, ℕ, suc, _+_, _-_, _*_, _^_, _≤_, _<_, le-trans, le-of-eq, lt-of-lt-of-le, mul-pos, arith, ℤ, T, eqb·suc-zero, pow-add, pow-pos, pow-mono, Float, fin, binary64, up, down, size, round, add, mul, div, fits, size-lt, up-pos, down-pos, round-same}
+use lib.Ieee.{unlike}
 use Rattle.arithmetic.specs.Nearest.{unitsOf}
 use Rattle.arithmetic.proofs.CommonDenominator.{above, beneath}
 use Rattle.arithmetic.proofs.Order.{units-exact}

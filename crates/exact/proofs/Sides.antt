@@ -1,12 +1,5 @@
 -- What is tracked is at most, at least or below a double that its bounds say. Assumes nothing.
-use mathlib.Core.Bool.{Bool, _&&_}
-use Prim.Native.Nat.{_+_, _≤_, _<_}
-use native.Mathlib.Nat.{le-refl}
-use native.Mathlib.Omega.{arith}
-use lib.Dec.{T, leb, leb→le}
-use lib.Ieee.{Float, binary64, fits, lt, le}
-use lib.Ieee.Fits.{and-l, and-r}
-use lib.Ieee.Scale.{finite}
+use Rattle.arithmetic.proofs.Kit.{Bool, _&&_, _+_, _≤_, _<_, le-refl, arith, T, leb, leb→le, Float, binary64, fits, lt, le, and-l, and-r, finite}
 use Rattle.arithmetic.specs.Nearest.{unitsOf}
 use Rattle.arithmetic.proofs.Counts.{over, under, Small, lt-of-sides, le-of-sides}
 use Rattle.exact.specs.Exact.{Exact}

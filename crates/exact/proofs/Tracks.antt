@@ -1,15 +1,8 @@
 -- A double tracks an exact number: both bounds of the double, and how far it is from the number, in units of 2 ^ -1074; and what an operation makes of two
 -- of them. Assumes nothing.
-use mathlib.Core.Path.{_≡_, refl, ap, _∙_}
-use mathlib.Core.Bool.{Bool, true, false, _&&_, cond}
-use Prim.Native.Nat.{ℕ, zero, suc, _+_, _-_, _*_, _/_, _^_, _≤_, _<_, max, zero-le}
-use native.Mathlib.Nat.{le-trans, le-of-eq, lt-of-lt-of-le, lt-of-le-of-lt, le-max-left, le-max-right, mul-pos, mul-le-mul, mul-le-mul-right, mul-le-mul-left, le-of-mul-le-mul-right, div-mul-le-self, lt-div-mul-add, mul-lt-mul-of-pos-right, zero-mul, zero-div}
-use native.Mathlib.Omega.{arith}
-use lib.IntN.{ℤ}
-use lib.Dec.{T, leb, ltb, eqb, leb→le, ltb→lt, eqb→eq}
-use lib.Ieee.{Float, nan, inf, fin, binary64, up, down, size, neg, add, mul, div, fits}
-use lib.Ieee.Fits.{neg-fits}
-use lib.Ieee.Scale.{finite}
+use Rattle.arithmetic.proofs.Kit.{_≡_, refl, ap, _∙_, Bool, true, false, _&&_, cond, ℕ, zero, suc, _+_, _-_, _*_, _/_, _^_, _≤_, _<_, zero-le, le-trans, le-of-eq, lt-of-lt-of-le, lt-of-le-of-lt, mul-pos, mul-le-mul, mul-le-mul-right, mul-le-mul-left, le-of-mul-le-mul-right, div-mul-le-self, lt-div-mul-add, mul-lt-mul-of-pos-right, zero-mul, zero-div, arith, ℤ, T, leb, ltb, eqb, leb→le, ltb→lt, eqb→eq, Float, nan, inf, fin, binary64, up, down, size, neg, add, mul, div, fits, neg-fits, finite}
+use Prim.Native.Nat.{max}
+use native.Mathlib.Nat.{le-max-left, le-max-right}
 use Rattle.arithmetic.specs.Nearest.{unitsOf}
 use Rattle.arithmetic.proofs.CommonDenominator.{above, beneath}
 use Rattle.arithmetic.proofs.Counts.{over, under}
@@ -45,14 +38,14 @@ pub record Tracks (b : Bounds) (x : Float) (X : Exact) : Type 0 where
   pub not-below : under x * X .under + X .plus * N ≤ over x * X .under + X .minus * N + b .E * X .under
 
 -- ---- the size
-pub size-most : {b : Bounds} (x : Float) (X : Exact) → Tracks b x X → unitsOf x ≤ most b
+size-most : {b : Bounds} (x : Float) (X : Exact) → Tracks b x X → unitsOf x ≤ most b
 unfolding above beneath
 size-most nan X t = absurd (t .is-finite)
 size-most (inf s) X t = absurd (t .is-finite)
 size-most {b} (fin false m e) X t = omega (arith, t .high, le-max-left (b .H) (b .M))
 size-most {b} (fin true m e) X t = omega (arith, t .low, le-max-right (b .H) (b .M))
 
-pub sides-most : {b : Bounds} (x : Float) (X : Exact) → Tracks b x X → (over x ≤ under x + most b) × (under x ≤ over x + most b)
+sides-most : {b : Bounds} (x : Float) (X : Exact) → Tracks b x X → (over x ≤ under x + most b) × (under x ≤ over x + most b)
 sides-most {b} x X t = (omega (arith, t .high, le-max-left (b .H) (b .M)), omega (arith, t .low, le-max-right (b .H) (b .M)))
 
 -- ---- the opposite

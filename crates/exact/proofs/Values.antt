@@ -1,23 +1,17 @@
 -- Powers and exps are normal doubles and in their range, by their order and a few of them that are computed. Assumes nothing.
-use mathlib.Core.Path.{refl}
-use mathlib.Core.Bool.{false}
-use Prim.Native.Nat.{ℕ, _*_, _^_}
-use lib.IntN.{ℤ, pos, _*ℤ_, _-ℤ_}
-use lib.Dec.{T, lit≤}
-use lib.Ieee.{Float, nan, inf, fin, binary64, up, down, span, climb, size, odd, units, round, ofFields, ofBits, lt, eq, le, neg, isNan, fits}
-use lib.Ieee.Fits.{cond-fits, round-fits}
+use Rattle.arithmetic.proofs.Kit.{refl, false, ℕ, _*_, _^_, ℤ, pos, _*ℤ_, _-ℤ_, T, lit≤, Float, nan, inf, fin, binary64, up, down, span, climb, size, odd, units, round, ofFields, ofBits, lt, eq, le, neg, isNan, fits, cond-fits, round-fits}
 use Rattle.arithmetic.specs.Decimals.{decimal}
 use Rattle.arithmetic.specs.Whole.{floorDiv, floorMod}
 use Rattle.arithmetic.proofs.CommonDenominator.{above, beneath}
 use Rattle.arithmetic.proofs.Order.{le-trans-double}
-use Rattle.wide.specs.Root.{root, rootIn}
+use Rattle.roots.specs.Root.{root, rootIn}
 use Rattle.antilog.specs.Log.{logBits, wordOfUnits}
 use Rattle.antilog.specs.Antilog.{antilogRoot, antilog}
 use Rattle.elementary.specs.Power.{power}
 use Rattle.elementary.specs.Exp.{exp, log2e, floorScaled, expTop, expBottom, expWithin}
 use Rattle.elementary.proofs.Rises.{power-rises, power-fits}
 use Rattle.elementary.proofs.ExpRises.{exp-rises}
-use Rattle.functions_near.specs.FunctionsNear.{Normal}
+use Rattle.exact.specs.FunctionsNear.{Normal}
 use Rattle.exact.specs.Near.{Between}
 use Rattle.exact.specs.Exact.{number}
 use Rattle.exact.proofs.Ranges.{tracks-itself}
@@ -29,25 +23,9 @@ use Rattle.exact.proofs.HalfPower.{halves}
 abbrev pub Moderate : ℕ → Type 0
 Moderate j = T (le (decimal "0.001") (power 60 (halves j) (decimal "0.5"))) × T (le (power 60 (halves j) (decimal "1")) (decimal "2"))
 
-pub moderate-3 : Moderate 3
+pub moderate : Moderate 3 × Moderate 6 × Moderate 7 × Moderate 8 × Moderate 15
 unfolding power antilog antilogRoot root rootIn wordOfUnits logBits round units size span climb odd ofFields ofBits le lt eq
-moderate-3 = (tt, tt)
-
-pub moderate-6 : Moderate 6
-unfolding power antilog antilogRoot root rootIn wordOfUnits logBits round units size span climb odd ofFields ofBits le lt eq
-moderate-6 = (tt, tt)
-
-pub moderate-7 : Moderate 7
-unfolding power antilog antilogRoot root rootIn wordOfUnits logBits round units size span climb odd ofFields ofBits le lt eq
-moderate-7 = (tt, tt)
-
-pub moderate-8 : Moderate 8
-unfolding power antilog antilogRoot root rootIn wordOfUnits logBits round units size span climb odd ofFields ofBits le lt eq
-moderate-8 = (tt, tt)
-
-pub moderate-15 : Moderate 15
-unfolding power antilog antilogRoot root rootIn wordOfUnits logBits round units size span climb odd ofFields ofBits le lt eq
-moderate-15 = (tt, tt)
+moderate = ((tt, tt), (tt, tt), (tt, tt), (tt, tt), (tt, tt))
 
 pub power-normal : (j : ℕ) → Moderate j → (x : Float) → T (fits binary64 x) → T (le (decimal "0.5") x) → T (le x (decimal "1")) → Normal (power 60 (halves j) x)
 unfolding above beneath ofBits fits le lt eq
@@ -69,7 +47,7 @@ unfolding exp fits
 exp-fits p x =
     cond-fits binary64 (isNan x) nan _ tt (cond-fits binary64 (le expTop x) (inf false) _ tt (cond-fits binary64 (le x expBottom) (fin false 0 (pos 0)) (expWithin p x) tt (antilog-fits p (floorDiv (floorScaled p x *ℤ pos log2e) (2 ^ 62)))))
 
-pub cold-exp : T (le (decimal "1e-11") (exp 60 (decimal "-24")))
+cold-exp : T (le (decimal "1e-11") (exp 60 (decimal "-24")))
 unfolding exp antilog antilogRoot root rootIn round units size span climb odd ofFields ofBits le lt eq isNan neg
 cold-exp = tt
 

@@ -2,3 +2,4 @@
 pub mod Exact
 pub mod Near
 pub mod Powers
+pub mod FunctionsNear

@@ -1,8 +1,8 @@
 -- Square roots and powers, which in general are no fractions. A fraction stands for one if it comes near enough: what is promised of all that stand for a root is
 -- promised of fractions as near to it as one likes, and so of the root itself. Definitions only.
 use Prim.Native.Nat.{_+_, _-_, _*_, _^_, _≤_, _<_}
-use Rattle.antilog.specs.HowNear.{Fraction, _isAtMost_, _toThe_}
-use Rattle.functions_near.specs.FunctionsNear.{_times_, inverse, less, more}
+use Rattle.arithmetic.specs.Fractions.{Fraction, _isAtMost_, _toThe_}
+use Rattle.exact.specs.FunctionsNear.{_times_, inverse, less, more}
 use Rattle.exact.specs.Exact.{Exact, _⊟_}
 
 -- a fraction as an exact number

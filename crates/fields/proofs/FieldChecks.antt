@@ -1,10 +1,5 @@
 -- A field by the outcomes of its checks. Assumes nothing.
-use mathlib.Core.Path.{_≡_}
-use mathlib.Core.Bool.{Bool, not, cond}
-use mathlib.Core.List.{List, []}
-use Prim.Native.Nat.{ℕ}
-use lib.Dec.{ltb, eqb}
-use lib.ListN.{length}
+use Rattle.arithmetic.proofs.Kit.{_≡_, Bool, not, cond, List, [], ℕ, ltb, eqb, length}
 use Rattle.refusal.specs.Outcomes.{accepted, refused}
 use Rattle.fields.specs.Fields.{isTag, dataSize, tagOf, lengthOf, sizeOf, field, headRows, fieldOf}
 

@@ -1,3 +1,6 @@
--- A field by its form and its checks.
+-- A field by its form and its checks, and the fields of a record.
 pub mod Forms
 pub mod FieldChecks
+pub mod Heads
+pub mod Thin
+pub mod Held

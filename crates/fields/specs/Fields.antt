@@ -1,10 +1,10 @@
 -- A field of the mast record, document 01: one-byte tag, two-byte length, data; big-endian. It stands at the head of the bytes s. Definitions only.
-use Prim.Native.Nat.{ℕ, _+_, _-_}
+use Prim.Native.Nat.{ℕ, zero, suc, _+_, _-_}
 use mathlib.Core.Bool.{Bool, true, false, not, _&&_, _||_, cond}
 use mathlib.Core.List.{List, [], _∷_}
 use lib.Dec.{ltb, leb, eqb}
 use lib.ListN.{length, getD, drop}
-use Rattle.refusal.specs.Outcomes.{Outcome, accepted, refusal, Row, row, _then_}
+use Rattle.refusal.specs.Outcomes.{Outcome, accepted, refusal, _⟫_, Row, row, _then_}
 use lib.Ieee.{Float}
 use Rattle.thousandths.specs.Thousandths.{countOf, thousandths}
 use Rattle.fields.specs.declared.fields.Field.{Field}
@@ -12,7 +12,9 @@ use Rattle.fields.specs.declared.fields.Value.{Value}
 use Rattle.fields.specs.declared.fields.Value.the-variants.{Double, Count}
 use Rattle.fields.specs.declared.fields.Found.{Found}
 use Rattle.fields.specs.declared.fields.Found.the-variants as found-as
-use Rattle.fields.specs.Bytes.{wordAt, doubleAt}
+use Rattle.fields.specs.declared.reader.Step.{Step}
+use Rattle.fields.specs.declared.reader.Step.the-variants as step
+use Rattle.fields.specs.Bytes.{numberAt, doubleAt}
 
 -- ---- the tags, and the meanings that readings are kept by
 -- 01 altitude m, 02 temperature °C, 03 station pressure hPa, 04 QNH hPa, 05 humidity percent, 06 density altitude m; document 02: 07 measured station
@@ -73,16 +75,16 @@ abbrev pub tagOf : List ℕ → ℕ
 tagOf s = getD s 0 0
 
 abbrev pub lengthOf : List ℕ → ℕ
-lengthOf s = wordAt s 1 2
+lengthOf s = numberAt s 1 2
 
 abbrev pub sizeOf : List ℕ → ℕ
 sizeOf s = 3 + dataSize (tagOf s)
 
 abbrev pub valueOf : List ℕ → Value
-valueOf s = cond (isCountTag (tagOf s)) (Count (wordAt s 3 4)) (Double (doubleAt s 3))
+valueOf s = cond (isCountTag (tagOf s)) (Count (numberAt s 3 4)) (Double (doubleAt s 3))
 
 unfoldable pub field : List ℕ → Field
-field s = record { tag = tagOf s; meaning = meaningOf (tagOf s); value = valueOf s; size = sizeOf s }
+field s = record { tag = tagOf s; meaning = meaningOf (tagOf s); value = valueOf s }
 
 -- what is wrong with it. 5: header cut. 6: unknown tag. 7: length not the form's. 5: data cut
 unfoldable pub headRows : List ℕ → List Row
@@ -100,6 +102,23 @@ abbrev pub found : Found → Outcome Field
 found (found-as.Field f) = accepted f
 found (found-as.Refused c) = refusal c
 
+-- ---- the fields of a record one after the other: the bytes from the first of each on. A field has a byte at least, so n fields for n bytes are enough
+unfoldable pub headsFrom : ℕ → List ℕ → List (List ℕ)
+headsFrom zero s = []
+headsFrom (suc n) [] = []
+headsFrom (suc n) (b ∷ t) = let s = b ∷ t in s ∷ headsFrom n (drop (sizeOf s) s)
+
+abbrev pub heads : List ℕ → List (List ℕ)
+heads s = headsFrom (length s) s
+
 -- ---- the position after the field at position i, or the record's end where that comes first
 unfoldable pub nextAt : List ℕ → ℕ → ℕ
 nextAt s i = cond (leb (sizeOf (drop i s)) (length (drop i s))) (i + sizeOf (drop i s)) (length s)
+
+-- the field at position i and the position after it, or what is wrong with the field
+abbrev pub stepAt : List ℕ → ℕ → Outcome (Field × ℕ)
+stepAt s i = fieldOf (drop i s) ⟫ (λ f. accepted (f, nextAt s i))
+
+abbrev pub stepped : Step → Outcome (Field × ℕ)
+stepped (step.Field f next) = accepted (f, next)
+stepped (step.Refused c) = refusal c

@@ -3,10 +3,10 @@ ghost use mathlib.Core.Path.{_≡_};
 ghost use Prim.Native.Nat.{_+_, _^_, _≤_, _<_};
 ghost use lib.ListN.{length};
 ghost use lib.Ieee.{binary64, ofBits, toBits, isNan};
-ghost use Rattle.fields.specs.Bytes.{wordAt, doubleAt};
+ghost use Rattle.fields.specs.Bytes.{numberAt, doubleAt};
 
 // Whether a pattern is a NaN's: it lies above that of an infinity of its sign.
-pub fn is_nan_pattern(bits: u64) -> bool
+fn is_nan_pattern(bits: u64) -> bool
     ensures { λ r. ⌜ r ≡ isNan (ofBits binary64 bits) ⌝ }
 {
     bits % 0x8000_0000_0000_0000 > 0x7FF0_0000_0000_0000
@@ -44,7 +44,7 @@ fn wide(x: u8) -> u64
 // The number that `width` bytes spell, the highest first.
 pub(crate) fn word_at(bytes: &[u8], at: usize, width: usize) -> u64
     requires { ⌜ (width ≤ 8) × (at + width ≤ length (now bytes)) ⌝ }
-    ensures { λ r. ⌜ r ≡ wordAt (now (bytes .entry)) at width ⌝ }
+    ensures { λ r. ⌜ r ≡ numberAt (now (bytes .entry)) at width ⌝ }
     ensures below { λ r. ⌜ r < 256 ^ width ⌝ }
 {
     let mut value = 0;

@@ -32,12 +32,11 @@ pub enum Value {
     Count(u32),
 }
 
-// A tag, its meaning, the value, and how many bytes the field takes.
+// A tag, its meaning, and the value.
 pub struct Field {
     pub tag: u8,
     pub meaning: usize,
     pub value: Value,
-    pub size: usize,
 }
 
 // A field, or what is wrong with it: a cause 5, 6 or 7.
@@ -125,19 +124,18 @@ fn head_field(bytes: &[u8]) -> Found
     if word_at(bytes, 1, 2) != data as u64 {
         return Found::Refused(Refusal::WrongLength);
     }
-    if bytes.len() - HEADER < data {
+    if bytes.len() < HEADER + data {
         return Found::Refused(Refusal::Cut);
     }
     Found::Field(Field {
         tag,
         meaning: meaning_of(tag),
         value: value_of(bytes),
-        size: HEADER + data,
     })
 }
 
 // The field at a position, or what is wrong with it.
-pub fn field_at(bytes: &[u8], at: usize) -> Found
+pub(crate) fn field_at(bytes: &[u8], at: usize) -> Found
     ensures { λ r. ⌜ found r ≡ fieldOf (drop at (now (bytes .entry))) ⌝ }
     ensures kept { λ _. ⌜ now (bytes .exit) ≡ now (bytes .entry) ⌝ }
 {
@@ -148,7 +146,7 @@ pub fn field_at(bytes: &[u8], at: usize) -> Found
 }
 
 // The position after the field at a position; after a field that is cut, the record's end.
-pub fn next_at(bytes: &[u8], at: usize) -> usize
+pub(crate) fn next_at(bytes: &[u8], at: usize) -> usize
     ensures { λ r. ⌜ r ≡ nextAt (now (bytes .entry)) at ⌝ }
     ensures kept { λ _. ⌜ now (bytes .exit) ≡ now (bytes .entry) ⌝ }
 {

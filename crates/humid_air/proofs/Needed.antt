@@ -1,14 +1,11 @@
 -- The saturation pressure that is needed serves for the mole fraction, and is the same for a humidity and for that humidity kept within 0 and 100
 -- percent. Assumes nothing.
-use mathlib.Core.Path.{_≡_, refl, ap}
-use mathlib.Core.Bool.{Bool, true, false, cond}
-use Prim.Native.Nat.{ℕ}
-use lib.Ieee.{Float, lt, eq, ofBits}
+use Rattle.arithmetic.proofs.Kit.{_≡_, refl, ap, Bool, true, false, cond, ℕ, Float, lt, eq, ofBits}
 use Rattle.arithmetic.specs.Decimals.{nought, hundred}
 use Rattle.arithmetic.specs.Operators.{_⊗_, _⊘_}
-use Rattle.doubles.specs.Doubles.{clampDouble}
-use Rattle.saturation.specs.Saturation.{saturationPressure}
-use Rattle.moist_air.specs.MoistAir.{moleFraction}
+use Rattle.arithmetic.specs.Doubles.{clampDouble}
+use Rattle.humid_air.specs.Saturation.{saturationPressure}
+use Rattle.humid_air.specs.MoistAir.{moleFraction}
 use Rattle.humid_air.specs.Humidity.{neededPressure}
 
 -- dry air has the same mole fraction at every saturation pressure

@@ -3,13 +3,13 @@ ghost use mathlib.Core.Path.{_≡_};
 ghost use Rattle.humid_air.specs.Humidity.{neededPressure, moleFractionAt, moleFractionCelsius, moleFractionKelvin, airDensity};
 ghost use Rattle.humid_air.specs.Sound.{soundSpeedAt, soundSpeed};
 ghost use Rattle.arithmetic.specs.Places.{places};
-use doubles::doubles::clamp;
-use moist_air::mixture::R_AIR;
-use moist_air::mixture::air_density_at_mole_fraction;
-use moist_air::mixture::capped_vapor_mole_fraction;
-use moist_air::mixture::vapor_mole_fraction_of;
-use saturation::saturation::enhanced_saturation_vapor_pressure;
-use square_root::sqrt::sqrt;
+use crate::mixture::R_AIR;
+use crate::mixture::air_density_at_mole_fraction;
+use crate::mixture::capped_vapor_mole_fraction;
+use crate::mixture::vapor_mole_fraction_of;
+use crate::saturation::enhanced_saturation_vapor_pressure;
+use antilog::sqrt::sqrt;
+use arithmetic::doubles::clamp;
 
 // the heat-capacity ratio of dry air
 const GAMMA: f64 = 1.4;

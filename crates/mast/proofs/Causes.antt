@@ -1,12 +1,10 @@
 -- Each number has exactly its cause, to the first judge and to the strict one. Assumes nothing.
-use mathlib.Core.Path.{refl}
-use mathlib.Core.Bool.{Bool}
-use mathlib.Core.List.{List}
-use Prim.Native.Nat.{ℕ}
+use Rattle.arithmetic.proofs.Kit.{refl, Bool, List, ℕ}
 use Rattle.refusal.proofs.Rows.{then-rows, exactly-by}
 use Rattle.record.specs.Readings.{readRows, readings}
 use Rattle.station.specs.Figures.{figuresOf}
-use Rattle.mast.specs.Judge.{readingRows, resolved, judged, recordRows, Caused}
+use Rattle.mast.specs.Judge.{readingRows, resolved, judged, recordRows}
+use Rattle.mast.proofs.Stated.{Caused}
 
 pub caused : (strict : Bool) (s : List ℕ) → Caused strict s
 unfolding judged

@@ -1,38 +1,31 @@
 -- Dry air has no vapour: humidity 0 times and over anything is 0 or NaN, which is not above 1. So 14 is never answered with 06. Assumes nothing.
-use mathlib.Core.Path.{_≡_, refl, sym, ap, _∙_}
-use mathlib.Core.Bool.{Bool, true, false, cond, true≢false, false≢true}
-use mathlib.Core.List.{List, [], _∷_, _++_}
-use Prim.Native.Nat.{ℕ, zero, suc, _*_, _<_}
-use native.Mathlib.Nat.{zero-mul}
-use native.Mathlib.Omega.{arith}
-use lib.IntN.{pos}
-use lib.Dec.{eqb}
-use lib.Ieee.{Float, nan, inf, fin, binary64, up, down, unlike, round, neg, mul, div, lt, eq, ofBits}
-use lib.Ieee.Fits.{up-pos, down-pos}
-use borrow.Author.Tests.{ne-eqb}
+use Rattle.arithmetic.proofs.Kit.{_≡_, refl, sym, ap, _∙_, Bool, true, false, cond, true≢false, false≢true, List, [], _∷_, _++_, ℕ, zero, suc, _*_, _<_, zero-mul, arith, pos, eqb, Float, nan, inf, fin, binary64, up, down, round, neg, mul, div, lt, eq, ofBits, up-pos, down-pos, ne-eqb}
+use lib.Ieee.{unlike}
 use Rattle.arithmetic.specs.Places.{places}
 use Rattle.arithmetic.specs.Decimals.{one}
 use Rattle.arithmetic.specs.Operators.{_⊗_, _⊘_}
 use Rattle.arithmetic.proofs.Rounding.{round-opposite}
 use Rattle.arithmetic.proofs.Scaled.{zero-bits}
-use Rattle.moist_air.specs.MoistAir.{moleFraction}
+use Rattle.humid_air.specs.MoistAir.{moleFraction}
 use Rattle.humid_air.specs.Humidity.{moleFractionCelsius}
 use Rattle.refusal.specs.Outcomes.{Outcome, accepted, refused, Row, row, _then_}
 use Rattle.refusal.proofs.Rows.{then-append, then-same}
 use Rattle.density_altitude.specs.Inverse.{stationRows}
-use Rattle.entries.specs.declared.Entry.{Entry}
-use Rattle.entries.specs.declared.Entry.the-variants.{Absent, Present}
-use Rattle.entries.specs.declared.Readings.{Readings}
+use Rattle.record.specs.declared.entries.Entry.{Entry}
+use Rattle.record.specs.declared.entries.Entry.the-variants.{Absent, Present}
+use Rattle.record.specs.declared.entries.Readings.{Readings}
 use Rattle.fields.specs.Fields.{temperature, humidity, densityAltitude}
-use Rattle.entries.specs.Entries.{isPresent, entryOf}
-use Rattle.answered.specs.declared.judge.Figures.{Figures}
-use Rattle.resolved.specs.declared.resolved.Resolved.{Resolved}
-use Rattle.limits.specs.Checks.{has, isClash, humidityRows, present}
-use Rattle.resolved.specs.Resolved.{givenTemperature}
-use Rattle.entries.specs.Entries.{valueOrZero}
+use Rattle.record.specs.Entries.{isPresent, entryOf}
+use Rattle.refusal.specs.declared.judge.Figures.{Figures}
+use Rattle.station.specs.declared.resolved.Resolved.{Resolved}
+use Rattle.mast.specs.Checks.{has, isClash, humidityRows, present}
+use Rattle.station.specs.Resolved.{givenTemperature}
+use Rattle.record.specs.Entries.{valueOrZero}
 use Rattle.station.specs.Figures.{shownTemperature, shownPressure, figuresOf}
 use Rattle.mast.specs.Judge.{airRows, wayRows, resolvedBy, judged}
-use Rattle.mast.specs.Laws.{Dry, without, NotWith06}
+use Rattle.mast.specs.Laws.{without}
+use Rattle.mast.proofs.Stated.{Dry}
+use Rattle.mast.proofs.Stated.{NotWith06}
 
 -- ---- zero or NaN
 data Null : Float → Type 0 where

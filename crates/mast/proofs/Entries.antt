@@ -1,28 +1,22 @@
 -- Readings are judged by their entries alone, and those that are accepted hold finite values. Assumes nothing.
-use mathlib.Core.Path.{_≡_, refl, sym, ap, ap₂, subst, _∙_}
-use mathlib.Core.Bool.{Bool, true, false, not, _&&_, _||_, true≢false}
-use mathlib.Core.List.{List, [], _∷_, _++_}
-use Prim.Native.Nat.{ℕ, zero, suc, _<_}
-use native.Mathlib.Omega.{arith}
-use borrow.Author.Tests.{not-false}
-use lib.Ieee.{Float}
+use Rattle.arithmetic.proofs.Kit.{_≡_, refl, sym, ap, ap₂, subst, _∙_, Bool, true, false, not, _&&_, _||_, true≢false, List, [], _∷_, _++_, ℕ, zero, suc, _<_, arith, not-false, Float}
 use Rattle.arithmetic.specs.Places.{places}
-use Rattle.doubles.specs.Doubles.{isFinite}
+use Rattle.arithmetic.specs.Doubles.{isFinite}
 use Rattle.refusal.specs.Outcomes.{accepted, Row, row, _then_}
 use Rattle.refusal.specs.Causes.{NoneHolds}
 use Rattle.refusal.proofs.Rows.{exactly, none-before, none-after}
 use Rattle.density_altitude.specs.Inverse.{temperatureRows, stationRows}
-use Rattle.entries.specs.declared.Entry.{Entry}
-use Rattle.entries.specs.declared.Entry.the-variants.{Absent, Present}
-use Rattle.entries.specs.declared.Readings.{Readings}
+use Rattle.record.specs.declared.entries.Entry.{Entry}
+use Rattle.record.specs.declared.entries.Entry.the-variants.{Absent, Present}
+use Rattle.record.specs.declared.entries.Readings.{Readings}
 use Rattle.fields.specs.Fields.{meanings, altitude, temperature, stationPressure, qnh, humidity, densityAltitude, measuredPressure}
-use Rattle.entries.specs.Entries.{entryOf, isPresent}
-use Rattle.resolved.specs.declared.resolved.Resolved.{Resolved}
-use Rattle.limits.specs.Checks.{has, isClash, finiteRows, pressureRows, humidityRows, present, valueRows}
-use Rattle.resolved.specs.Resolved.{ordinary, givenTemperature}
+use Rattle.record.specs.Entries.{entryOf, isPresent}
+use Rattle.station.specs.declared.resolved.Resolved.{Resolved}
+use Rattle.mast.specs.Checks.{has, isClash, finiteRows, pressureRows, humidityRows, present, valueRows}
+use Rattle.station.specs.Resolved.{ordinary, givenTemperature}
 use Rattle.station.specs.Figures.{figuresOf}
 use Rattle.mast.specs.Judge.{airRows, wayRows, resolvedBy, resolved, readingRows, judged}
-use Rattle.mast.specs.Entries.{SameEntries, JudgedByEntries, FiniteEntry, AcceptedIsFinite}
+use Rattle.mast.proofs.Stated.{SameEntries, JudgedByEntries, FiniteEntry, AcceptedIsFinite}
 
 -- ---- by their entries alone
 module _ (r q : Readings) (same : SameEntries r q) where

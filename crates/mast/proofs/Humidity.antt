@@ -1,24 +1,23 @@
 -- Readings that differ only in humidity are shown as one station: nothing before the air looks at the humidity. Assumes nothing.
-use mathlib.Core.Path.{_≡_, ap, ap₂, subst, subst₂}
-use native.Mathlib.Omega.{arith}
+use Rattle.arithmetic.proofs.Kit.{_≡_, ap, ap₂, subst, subst₂, arith}
 use Rattle.arithmetic.specs.Places.{places}
 use Rattle.refusal.specs.Outcomes.{accepted}
 use Rattle.refusal.proofs.Rows.{exactly}
-use Rattle.atmosphere.specs.declared.station.Reading.{Reading}
-use Rattle.atmosphere.specs.declared.station.Reading.the-variants.{Given}
+use Rattle.atmosphere.specs.declared.given.Reading.{Reading}
+use Rattle.atmosphere.specs.declared.given.Reading.the-variants.{Given}
 use Rattle.density_altitude.specs.Inverse.{resolve}
-use Rattle.entries.specs.declared.Entry.{Entry}
-use Rattle.entries.specs.declared.Entry.the-variants.{Absent, Present}
-use Rattle.entries.specs.declared.Readings.{Readings}
+use Rattle.record.specs.declared.entries.Entry.{Entry}
+use Rattle.record.specs.declared.entries.Entry.the-variants.{Absent, Present}
+use Rattle.record.specs.declared.entries.Readings.{Readings}
 use Rattle.fields.specs.Fields.{altitude, temperature, stationPressure, qnh, densityAltitude, measuredPressure}
-use Rattle.entries.specs.Entries.{entryOf}
-use Rattle.answered.specs.declared.judge.Figures.{Figures}
-use Rattle.resolved.specs.declared.resolved.Resolved.{Resolved}
-use Rattle.resolved.specs.Resolved.{unmeasuredPressure, measuredOr, pressureOf, resolvedTemperature, resolvedPressure, givenTemperature, ordinary}
-use Rattle.entries.specs.Entries.{valueOrZero}
+use Rattle.record.specs.Entries.{entryOf}
+use Rattle.refusal.specs.declared.judge.Figures.{Figures}
+use Rattle.station.specs.declared.resolved.Resolved.{Resolved}
+use Rattle.station.specs.Resolved.{unmeasuredPressure, measuredOr, pressureOf, resolvedTemperature, resolvedPressure, givenTemperature, ordinary}
+use Rattle.record.specs.Entries.{valueOrZero}
 use Rattle.station.specs.Figures.{shownCelsius, shownHectopascals, figuresWith, figuresOf}
 use Rattle.mast.specs.Judge.{readingRows, resolvedBy, resolved, judged}
-use Rattle.mast.specs.Humidity.{DifferOnlyInHumidity, SameStation, HumidityLeavesTheStation}
+use Rattle.mast.proofs.Stated.{DifferOnlyInHumidity, SameStation, HumidityLeavesTheStation}
 
 -- ---- what is resolved, but for the humidity
 record SameResolved (a b : Resolved) : Type 0 where

@@ -1,28 +1,24 @@
 -- What the judge's answer depends on, by the laws of the record: its first 256 bytes, nothing past a refusal 6 to 8, and no order of its fields. Assumes nothing.
-use mathlib.Core.Path.{_≡_, refl, sym, ap, subst, _∙_}
-use mathlib.Core.Bool.{false}
-use mathlib.Core.List.{List, [], _∷_, _++_}
-use Prim.Native.Nat.{ℕ, _≤_}
-use native.Mathlib.Omega.{arith}
-use lib.Ieee.{Float}
+use Rattle.arithmetic.proofs.Kit.{_≡_, refl, sym, ap, subst, _∙_, false, List, [], _∷_, _++_, ℕ, _≤_, arith, Float}
 use Rattle.arithmetic.specs.Places.{places}
 use Rattle.refusal.specs.Outcomes.{Outcome, accepted, refused, _⟫_, Row}
 use Rattle.refusal.proofs.Rows.{exactly}
 use Rattle.density_altitude.specs.Inverse.{temperatureRows, stationRows}
-use Rattle.entries.specs.declared.Entry.{Entry}
-use Rattle.entries.specs.declared.Entry.the-variants.{Absent, Present}
-use Rattle.entries.specs.declared.Readings.{Readings}
+use Rattle.record.specs.declared.entries.Entry.{Entry}
+use Rattle.record.specs.declared.entries.Entry.the-variants.{Absent, Present}
+use Rattle.record.specs.declared.entries.Readings.{Readings}
 use Rattle.fields.specs.Fields.{altitude, temperature, stationPressure, qnh, humidity, densityAltitude, measuredPressure}
 use Rattle.record.specs.Readings.{readRecord}
-use Rattle.entries.specs.Entries.{entryOf}
+use Rattle.record.specs.Entries.{entryOf}
 use Rattle.record.proofs.FirstBytes.{first-bytes}
 use Rattle.record.proofs.Following.{nothing-after}
 use Rattle.record.proofs.Exchange.{exchange}
-use Rattle.limits.specs.Checks.{finiteRows, pressureRows, humidityRows, present}
-use Rattle.resolved.specs.Resolved.{givenTemperature}
+use Rattle.mast.specs.Checks.{finiteRows, pressureRows, humidityRows, present}
+use Rattle.station.specs.Resolved.{givenTemperature}
 use Rattle.station.specs.Figures.{figuresOf}
 use Rattle.mast.specs.Judge.{airRows, wayRows, resolved, readingRows, judged, judge}
-use Rattle.mast.specs.Laws.{FirstBytes, NothingAfter, AnyOrder}
+use Rattle.mast.proofs.Stated.{AnyOrder}
+use Rattle.mast.proofs.Stated.{FirstBytes, NothingAfter}
 
 pub first-bytes-judged : FirstBytes
 unfolding judge

@@ -3,24 +3,22 @@
 use Prim.Native.Nat.{ℕ}
 use mathlib.Core.Bool.{Bool, true, false, not}
 use mathlib.Core.List.{List, [], _∷_, _++_}
-use lib.Ieee.{Float, lt}
+use lib.Ieee.{lt}
 use Rattle.arithmetic.specs.Places.{places}
 use Rattle.arithmetic.specs.Decimals.{one}
 use Rattle.humid_air.specs.Humidity.{moleFractionCelsius}
 use Rattle.refusal.specs.Outcomes.{Outcome, accepted, _⟫_, Row, row, _then_}
-use Rattle.refusal.specs.Causes.{ExactlyCaused}
-use Rattle.answered.specs.declared.inverse.Station.{Station}
 use Rattle.density_altitude.specs.Inverse.{resolve, stationRows}
-use Rattle.entries.specs.declared.Entry.{Entry}
-use Rattle.entries.specs.declared.Entry.the-variants.{Absent, Present}
-use Rattle.entries.specs.declared.Readings.{Readings}
+use Rattle.record.specs.declared.entries.Entry.{Entry}
+use Rattle.record.specs.declared.entries.Entry.the-variants.{Absent, Present}
+use Rattle.record.specs.declared.entries.Readings.{Readings}
 use Rattle.fields.specs.Fields.{temperature, humidity, densityAltitude}
 use Rattle.record.specs.Readings.{readRows, readings, readRecord}
-use Rattle.entries.specs.Entries.{entryOf}
-use Rattle.answered.specs.declared.judge.Figures.{Figures}
-use Rattle.resolved.specs.declared.resolved.Resolved.{Resolved}
-use Rattle.limits.specs.Checks.{isClash, humidityRows, present, ordinaryRows}
-use Rattle.resolved.specs.Resolved.{ordinary, givenTemperature, atStation}
+use Rattle.record.specs.Entries.{entryOf}
+use Rattle.refusal.specs.declared.judge.Figures.{Figures}
+use Rattle.station.specs.declared.resolved.Resolved.{Resolved}
+use Rattle.mast.specs.Checks.{isClash, humidityRows, present, ordinaryRows}
+use Rattle.station.specs.Resolved.{ordinary, givenTemperature, atStation}
 use Rattle.station.specs.Figures.{shownTemperature, shownPressure, figuresOf, isAir}
 
 -- ---- a station's air
@@ -53,16 +51,6 @@ readingRows r = row (isClash r) 9 [] ∷ (wayRows r (entryOf r densityAltitude) 
 unfoldable pub judged : Readings → Outcome Figures
 judged r = readingRows r then accepted (figuresOf (resolved r))
 
--- the two ways by themselves
-unfoldable pub ordinaryOutcome : Readings → Outcome Figures
-ordinaryOutcome r = ordinaryRows r then airOutcome (ordinary r)
-
-unfoldable pub humidOutcome : Station → Readings → Outcome Figures
-humidOutcome s r = present humidityRows (entryOf r humidity) then airOutcome (atStation s r)
-
-unfoldable pub stationOutcome : Float → Readings → Outcome Figures
-stationOutcome d r = wayRows r (Present d) then airOutcome (resolvedBy r (Present d))
-
 -- ---- a record
 abbrev pub judgeBy : Bool → List ℕ → Outcome Figures
 judgeBy strict s = readRecord strict s ⟫ judged
@@ -76,6 +64,3 @@ judgeStrictly s = judgeBy true s
 -- each number has exactly its cause: the rows of the record's fields, one after the other, and then those of its readings
 abbrev pub recordRows : Bool → List ℕ → List Row
 recordRows strict s = readRows strict s ++ readingRows (readings s)
-
-abbrev pub Caused : Bool → List ℕ → Type 0
-Caused strict s = ExactlyCaused (recordRows strict s) (figuresOf (resolved (readings s))) (judgeBy strict s)

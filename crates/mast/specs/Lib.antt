@@ -1,5 +1,4 @@
 -- What the contracts of `mast` cite: the judge, and the laws of its answers.
 pub mod Judge
 pub mod Laws
-pub mod Humidity
-pub mod Entries
+pub mod Checks

@@ -1,38 +1,43 @@
 // The judge: eight figures and their mark, or one refusal, by a fixed order of checks.
 ghost use mathlib.Core.Path.{_≡_};
-ghost use Rattle.refusal.specs.Outcomes.{_⟫_};
+ghost use Rattle.fields.specs.Fields.{humidity};
+ghost use Rattle.refusal.specs.Outcomes.{_⟫_, _then_};
+ghost use Rattle.record.specs.Entries.{entryOf};
+ghost use Rattle.record.specs.declared.entries.Entry.the-variants.{Absent, Present};
 ghost use Rattle.record.specs.Readings.{readOutcome};
-ghost use Rattle.mast.specs.Judge.{airOutcome, ordinaryOutcome, humidOutcome, stationOutcome, judged, judge, judgeStrictly};
-ghost use Rattle.answered.specs.Judged.{outcome};
-use answered::inverse;
-use answered::inverse::Station;
-use answered::judge::Answer;
-use answered::judge::Figures;
+ghost use Rattle.mast.specs.Judge.{airOutcome, wayRows, resolvedBy, judged, judge, judgeStrictly};
+ghost use Rattle.mast.specs.Checks.{humidityRows, present};
+ghost use Rattle.refusal.specs.Judged.{outcome};
+ghost use Rattle.station.specs.Resolved.{atStation};
+use crate::checks::check_humidity;
+use crate::checks::check_ordinary;
+use crate::checks::is_clash;
 use density_altitude::inverse::station_for_density_altitude;
-use entries::Entry;
-use entries::Readings;
-use entries::entry_of;
 use fields::fields::DENSITY_ALTITUDE;
 use fields::fields::HUMIDITY;
 use fields::fields::TEMPERATURE;
-use limits::checks::check_humidity;
-use limits::checks::check_ordinary;
-use limits::checks::is_clash;
+use record::entries::Entry;
+use record::entries::Readings;
+use record::entries::entry_of;
 use record::readings::Read;
 use record::readings::read_record;
 use record::readings::read_record_strictly;
 use refusal::Check;
 use refusal::Refusal;
-use resolved::resolved::Resolved;
-use resolved::resolved::at_station;
-use resolved::resolved::given_temperature;
-use resolved::resolved::ordinary;
+use refusal::inverse;
+use refusal::inverse::Station;
+use refusal::judge::Answer;
+use refusal::judge::Figures;
 use station::figures::figures_of;
 use station::figures::is_air;
+use station::resolved::Resolved;
+use station::resolved::at_station;
+use station::resolved::given_temperature;
+use station::resolved::ordinary;
 
 // The figures of a station and their mark, or the refusal 14 or 15: there is more vapour than air, or the
 // figures are not air's.
-pub fn air(resolved: Resolved) -> Answer
+pub fn answer_of(resolved: Resolved) -> Answer
     ensures { λ r. ⌜ outcome r ≡ airOutcome resolved ⌝ }
 {
     let found = figures_of(resolved);
@@ -47,33 +52,33 @@ pub fn air(resolved: Resolved) -> Answer
 }
 
 // Readings without 06.
-fn ordinary_air(readings: Readings) -> Answer
-    ensures { λ r. ⌜ outcome r ≡ ordinaryOutcome readings ⌝ }
+fn ordinary_answer(readings: Readings) -> Answer
+    ensures { λ r. ⌜ outcome r ≡ (wayRows readings Absent then airOutcome (resolvedBy readings Absent)) ⌝ }
 {
     match check_ordinary(readings) {
         Check::Refused(refusal) => Answer::Refused(refusal),
-        Check::Passed => air(ordinary(readings)),
+        Check::Passed => answer_of(ordinary(readings)),
     }
 }
 
 // The inverse's station, with the humidity of the readings.
-fn humid_air(station: Station, readings: Readings) -> Answer
-    ensures { λ r. ⌜ outcome r ≡ humidOutcome station readings ⌝ }
+fn humid_answer(station: Station, readings: Readings) -> Answer
+    ensures { λ r. ⌜ outcome r ≡ (present humidityRows (entryOf readings humidity) then airOutcome (atStation station readings)) ⌝ }
 {
     match check_humidity(entry_of(readings, HUMIDITY)) {
         Check::Refused(refusal) => Answer::Refused(refusal),
-        Check::Passed => air(at_station(station, readings)),
+        Check::Passed => answer_of(at_station(station, readings)),
     }
 }
 
 // Readings with 06.
-fn station_air(density_altitude_m: f64, readings: Readings) -> Answer
-    ensures { λ r. ⌜ outcome r ≡ stationOutcome «density_altitude_m» readings ⌝ }
+fn inverse_answer(density_altitude_m: f64, readings: Readings) -> Answer
+    ensures { λ r. ⌜ outcome r ≡ (wayRows readings (Present «density_altitude_m») then airOutcome (resolvedBy readings (Present «density_altitude_m»))) ⌝ }
 {
     let temperature = given_temperature(entry_of(readings, TEMPERATURE));
     match station_for_density_altitude(density_altitude_m, temperature) {
         inverse::Answer::Refused(refusal) => Answer::Refused(refusal),
-        inverse::Answer::Station(station) => humid_air(station, readings),
+        inverse::Answer::Station(station) => humid_answer(station, readings),
     }
 }
 
@@ -85,8 +90,8 @@ pub fn judge_readings(readings: Readings) -> Answer
         return Answer::Refused(Refusal::Clash);
     }
     match entry_of(readings, DENSITY_ALTITUDE) {
-        Entry::Present(density_altitude_m) => station_air(density_altitude_m, readings),
-        Entry::Absent => ordinary_air(readings),
+        Entry::Present(density_altitude_m) => inverse_answer(density_altitude_m, readings),
+        Entry::Absent => ordinary_answer(readings),
     }
 }
 

@@ -1,19 +1,14 @@
 -- The density of moist air, and the mole fraction of vapour that it uses, are near the exact ones. Assumes nothing.
-use mathlib.Core.Path.{_≡_}
-use mathlib.Core.Bool.{Bool}
-use mathlib.Core.List.{List, [], _∷_}
-use Prim.Native.Nat.{ℕ, _*_, _^_}
-use lib.Dec.{T, leb, leb→le, lit≤}
-use lib.Ieee.{Float, span, climb, size, odd, ofFields, ofBits, fits}
+use Rattle.arithmetic.proofs.Kit.{_≡_, Bool, List, [], _∷_, ℕ, _*_, _^_, T, leb, leb→le, lit≤, Float, span, climb, size, odd, ofFields, ofBits, fits}
 use Rattle.arithmetic.specs.Decimals.{decimal, nought, hundred}
 use Rattle.arithmetic.specs.Operators.{_⊕_, _⊖_, _⊗_, _⊘_}
 use Rattle.arithmetic.proofs.CommonDenominator.{above, beneath}
-use Rattle.wide.specs.Root.{root, rootIn}
-use Rattle.doubles.specs.Doubles.{clampDouble}
-use Rattle.moist_air.specs.MoistAir.{icePoint, airDensityAt, compressibilityFactor}
+use Rattle.roots.specs.Root.{root, rootIn}
+use Rattle.arithmetic.specs.Doubles.{clampDouble}
+use Rattle.humid_air.specs.MoistAir.{icePoint, airDensityAt, compressibilityFactor}
 use Rattle.humid_air.specs.Humidity.{densityMoleFraction}
 use Rattle.arithmetic.specs.Places.{places}
-use Rattle.atmosphere.specs.declared.station.Reading.{Reading}
+use Rattle.atmosphere.specs.declared.given.Reading.{Reading}
 use Rattle.air.specs.Station.{kelvins, pascals, celsius, hectopascals, atmosphere}
 use Rattle.air.specs.Moist.{densityOf}
 use Rattle.exact.specs.Exact.{Exact, the, number}
@@ -24,7 +19,7 @@ use Rattle.exact.proofs.Terms.{Term, given, num, _plus_, _minus_, _times_, _by_
 use Rattle.exact.proofs.Ranges.{ranged, near-of, ends, tracks-between, wider, widen}
 use Rattle.exact.proofs.Tests.{all, item, test}
 use Rattle.exact.proofs.Above.{positive-tested}
-use Rattle.near.specs.Density.{density}
+use Rattle.near.specs.Density.{exactDensity}
 use Rattle.near.specs.Saturation.{Saturation}
 use Rattle.near.specs.Near as Spec
 use Rattle.near.proofs.Temperatures.{Part, Below, Every, by-celsius}
@@ -107,8 +102,8 @@ module _ (q : Part) where
     fraction-of : IsNear 44 x″ X
     fraction-of = near-of 44 x″ X (leb→le (x-bounds .E * 2 ^ 44) N (passed 6)) tracks-x
 
-    density-of : Tracks densities (airDensityAt t″ p″ x″) (density (Spec.pascal p) (Spec.kelvin t) X)
-    unfolding density airDensityAt compressibilityFactor
+    density-of : Tracks densities (airDensityAt t″ p″ x″) (exactDensity (Spec.pascal p) (Spec.kelvin t) X)
+    unfolding exactDensity airDensityAt compressibilityFactor
     density-of = widen _ _ (passed 7) (tracks (tracks-t also tracks-p also tracks-x also none) (formula (given 2)) (passed 5))
 
 tested : Every (λ q. T (all (tests q)))
@@ -119,18 +114,20 @@ module _ (q : Part) (tested : T (all (tests q))) (altitude : Float) (r : Reading
   pub tracks-shown : let t = celsius places altitude r in Between (q .from) (q .to) t → Tracks (t-bounds q) (kelvins places altitude r ⊖ icePoint) (number t)
   tracks-shown range = celsius-again altitude (given-bounds q) r (test (tests q) 2 tested) (test (tests q) 8 tested) (tracks-between (q .from) (q .to) _ (test (tests q) 1 tested) range)
 
-pub fraction-near : Spec.FractionNear
+pub fraction-near : (altitude : Float) (t₀ p₀ : Reading) (h : Float) → let t = celsius places altitude t₀ in let p = hectopascals places altitude p₀ in Spec.InScope t p h → (s : Saturation (Spec.kelvin t))
+    → IsNear 44 (atmosphere places altitude t₀ p₀ h .«vapor_mole_fraction») (Spec.vapour t p h s)
 unfolding atmosphere densityOf
 fraction-near altitude T P h r s =
     by-celsius tests tested (celsius places altitude T) (λ q passed below range. fraction-of q passed below (kelvins places altitude T ⊖ icePoint) (pascals places altitude P ⊘ hundred) (celsius places altitude T) (hectopascals places altitude P) h (tracks-shown q passed altitude T range) (hectopascals-again altitude P (r .pressure)) (r .humidity) s) (r .temperature)
 
 module _ (altitude : Float) (T P : Reading) (h : Float) (r : Spec.InScope (celsius places altitude T) (hectopascals places altitude P) h) (s : Saturation (Spec.kelvin (celsius places altitude T))) where
-  pub density-tracks : let t = celsius places altitude T in let p = hectopascals places altitude P in Tracks densities (atmosphere places altitude T P h .«density_kg_m3») (density (Spec.pascal p) (Spec.kelvin t) (Spec.vapour t p h s))
+  pub density-tracks : let t = celsius places altitude T in let p = hectopascals places altitude P in Tracks densities (atmosphere places altitude T P h .«density_kg_m3») (exactDensity (Spec.pascal p) (Spec.kelvin t) (Spec.vapour t p h s))
   unfolding atmosphere densityOf
   density-tracks =
       by-celsius tests tested (celsius places altitude T) (λ q passed below range. density-of q passed below (kelvins places altitude T ⊖ icePoint) (pascals places altitude P ⊘ hundred) (celsius places altitude T) (hectopascals places altitude P) h (tracks-shown q passed altitude T range) (hectopascals-again altitude P (r .pressure)) (r .humidity) s) (r .temperature)
 
-pub density-near : Spec.DensityNear
+pub density-near : (altitude : Float) (t₀ p₀ : Reading) (h : Float) → let t = celsius places altitude t₀ in let p = hectopascals places altitude p₀ in Spec.InScope t p h → (s : Saturation (Spec.kelvin t))
+    → IsNear 45 (atmosphere places altitude t₀ p₀ h .«density_kg_m3») (exactDensity (Spec.pascal p) (Spec.kelvin t) (Spec.vapour t p h s))
 unfolding N
 density-near altitude T P h r s = near-of 45 _ _ (lit≤ tt) (density-tracks altitude T P h r s)
 
@@ -140,9 +137,6 @@ dry-t = analysed (ranged (decimal "-40") (decimal "50") 0 ∷ []) kelvin-and-bac
 
 abbrev dry-P : Bounds
 dry-P = analysed (hPa-bounds ∷ []) pascal
-
-abbrev dry-bounds : Bounds
-dry-bounds = analysed (dry-t ∷ hPa-bounds ∷ []) (formula (num "0"))
 
 module _ (altitude : Float) (T P : Reading) (range : Spec.InScope (celsius places altitude T) (hectopascals places altitude P) nought) where
   abbrev t″ : Float
@@ -166,10 +160,11 @@ module _ (altitude : Float) (T P : Reading) (range : Spec.InScope (celsius place
   unfolding N above beneath the span climb size odd ofFields ofBits
   no-vapour = dry _ _ _ (positive-tested _ _ (tracks (dry-tracks-t also dry-tracks-P also none) factor tt) tt) (positive-tested _ _ (tracks (dry-tracks-t also dry-tracks-P also none) by' tt) tt)
 
-  dry-near : IsNear 47 (airDensityAt t″ p″ nought) (density (Spec.pascal (hectopascals places altitude P)) (Spec.kelvin (celsius places altitude T)) (the "0"))
-  unfolding density airDensityAt compressibilityFactor N above beneath the span climb size odd ofFields ofBits
+  dry-near : IsNear 47 (airDensityAt t″ p″ nought) (exactDensity (Spec.pascal (hectopascals places altitude P)) (Spec.kelvin (celsius places altitude T)) (the "0"))
+  unfolding exactDensity airDensityAt compressibilityFactor N above beneath the span climb size odd ofFields ofBits
   dry-near = near-of 47 _ _ (lit≤ tt) (tracks (dry-tracks-t also dry-tracks-p also none) (formula (num "0")) tt)
 
-pub dry-density-near : Spec.DryDensityNear
+pub dry-density-near : (altitude : Float) (t₀ p₀ : Reading) → let t = celsius places altitude t₀ in let p = hectopascals places altitude p₀ in Spec.InScope t p nought
+    → IsNear 47 (atmosphere places altitude t₀ p₀ nought .«density_kg_m3») (exactDensity (Spec.pascal p) (Spec.kelvin t) (the "0"))
 unfolding atmosphere densityOf
 dry-density-near altitude T P r = rw (no-vapour altitude T P r) (dry-near altitude T P r)

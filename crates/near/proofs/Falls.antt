@@ -1,23 +1,13 @@
 -- The density of dry air at one pressure falls with every degree. Z moves less than T does in a degree, so that the divisor Z R T is greater by more than a rounding
 -- can hide. All numbers are counts of units of 2 ^ -1074. Assumes nothing.
-use mathlib.Core.Path.{_≡_, refl, sym, ap}
-use mathlib.Core.Bool.{Bool, _&&_}
-use mathlib.Core.List.{List, [], _∷_}
-use Prim.Native.Nat.{ℕ, _+_, _-_, _*_, _^_, _≤_, _<_}
-use native.Mathlib.Nat.{le-refl, le-trans, le-of-eq, lt-of-not-le, mul-pos, mul-le-mul-right, mul-le-mul-left, le-of-mul-le-mul-right}
-use native.Mathlib.Decide.{decLe}
-use native.Mathlib.Omega.{arith}
-use lib.Dec.{T, eqb, leb, ltb, eqb→eq, leb→le, ltb→lt}
-use lib.Ieee.{Float, binary64, span, climb, size, odd, units, round, sum, neg, add, sub, mul, div, ofFields, ofBits, fits, lt}
-use lib.Ieee.Fits.{and-l, and-r}
-use lib.Ieee.Scale.{finite}
+use Rattle.arithmetic.proofs.Kit.{_≡_, refl, sym, ap, Bool, _&&_, List, [], _∷_, ℕ, _+_, _-_, _*_, _^_, _≤_, _<_, le-refl, le-trans, le-of-eq, lt-of-not-le, mul-pos, mul-le-mul-right, mul-le-mul-left, le-of-mul-le-mul-right, decLe, arith, T, eqb, leb, ltb, eqb→eq, leb→le, ltb→lt, Float, binary64, span, climb, size, odd, units, round, sum, neg, add, sub, mul, div, ofFields, ofBits, fits, lt, and-l, and-r, finite}
 use Rattle.arithmetic.specs.Decimals.{decimal, nought, hundred}
 use Rattle.arithmetic.specs.Operators.{_⊕_, _⊖_, _⊗_, _⊘_}
 use Rattle.arithmetic.specs.Nearest.{unitsOf}
 use Rattle.arithmetic.proofs.CommonDenominator.{above, beneath}
 use Rattle.arithmetic.proofs.Counts.{over, under, Small, lt-of-sides}
-use Rattle.moist_air.specs.MoistAir.{icePoint, airDensityAt, compressibilityFactor}
-use Rattle.atmosphere.specs.declared.station.Reading.the-variants.{Given}
+use Rattle.humid_air.specs.MoistAir.{icePoint, airDensityAt, compressibilityFactor}
+use Rattle.atmosphere.specs.declared.given.Reading.the-variants.{Given}
 use Rattle.air.specs.Moist.{densityOf}
 use Rattle.air.specs.Station.{atmosphere}
 use Rattle.exact.specs.Exact.{_⊞_, the, number, isNotAbove}
@@ -28,9 +18,9 @@ use Rattle.exact.proofs.Ranges.{ranged, number-is, tracks-between}
 use Rattle.exact.proofs.Tests.{all, item, test}
 use Rattle.exact.proofs.Above.{positive-units, isAbove, positive-tested}
 use Rattle.near.specs.Near.{InScope}
-use Rattle.near.specs.Rises.{DryDensityFalls}
 use Rattle.near.proofs.Paths.{hPa-bounds}
 use Rattle.near.proofs.Density.{T-K, p-Pa, Z, dry-t, dry-tracks-t, dry-tracks-p, no-vapour}
+use Rattle.arithmetic.specs.Places.{places}
 
 -- ---- over natural numbers
 -- a divisor D of a temperature T, and D' of a T' that is greater by a degree but for 2 * E: D' is greater by G
@@ -267,6 +257,7 @@ module _ (t u p : Float) (t-range : InScope t p nought) (u-range : InScope u p n
       sides : (o o' v v' : ℕ) → v ≡ 0 → v' ≡ 0 → o' + 0 < o + 0 → o' + v < o + v'
       sides o o' v v' a b l = omega (arith, a, b, l)
 
-pub dry-density-falls : DryDensityFalls
+pub dry-density-falls : (altitude altitude' t u p : Float) → InScope t p nought → InScope u p nought → T (isNotAbove (number t ⊞ the "1") (number u))
+    → T (lt (atmosphere places altitude' (Given u) (Given p) nought .«density_kg_m3») (atmosphere places altitude (Given t) (Given p) nought .«density_kg_m3»))
 unfolding atmosphere densityOf airDensityAt compressibilityFactor
 dry-density-falls altitude altitude' t u p t-range u-range warmer = rw (no-vapour altitude (Given t) (Given p) t-range, no-vapour altitude' (Given u) (Given p) u-range) (below t u p t-range u-range warmer)

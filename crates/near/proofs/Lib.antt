@@ -13,3 +13,10 @@ pub mod Falls
 pub mod Records
 pub mod Paper
 pub mod Sheets
+pub mod StandardTerms
+pub mod StandardPart
+pub mod StandardNear
+pub mod QnhNear
+pub mod PressureAltitudeNear
+pub mod DensityAltitudeNear
+pub mod RecordNear

@@ -1,28 +1,24 @@
 -- The decimals that are printed of a figure are near the exact number, and the trim class is that of the exact density where no limit is near it. Assumes nothing.
-use mathlib.Core.Path.{_≡_, refl, ap, ap₂, _∙_}
-use mathlib.Core.Bool.{Bool, true, false, cond}
-use mathlib.Core.List.{List, [], _∷_}
-use Prim.Native.Nat.{ℕ, _+_, _*_, _/_, _^_, _≤_, _<_}
-use native.Mathlib.Nat.{le-trans, le-of-eq, mul-le-mul-right, le-of-mul-le-mul-right, div-mul-le-self, lt-div-mul-add}
-use native.Mathlib.Omega.{arith}
-use lib.Dec.{T}
-use lib.Pow.{pow-pos}
-use lib.Ieee.{Float, nan, inf, fin, binary64, fits, odd, ofFields, ofBits}
-use lib.Ieee.Scale.{finite}
+use Rattle.arithmetic.proofs.Kit.{_≡_, refl, ap, ap₂, _∙_, Bool, true, false, cond, List, [], _∷_, ℕ, _+_, _*_, _/_, _^_, _≤_, _<_, le-trans, le-of-eq, mul-le-mul-right, le-of-mul-le-mul-right, div-mul-le-self, lt-div-mul-add, arith, T, pow-pos, Float, nan, inf, fin, binary64, fits, odd, ofFields, ofBits, finite}
 use Rattle.arithmetic.specs.Nearest.{unitsOf}
 use Rattle.arithmetic.proofs.CommonDenominator.{above, beneath}
 use Rattle.arithmetic.proofs.Counts.{over, under}
 use Rattle.refusal.specs.Outcomes.{Outcome, accepted, _⟫_}
-use Rattle.answered.specs.declared.judge.Figures.{Figures}
+use Rattle.refusal.specs.declared.judge.Figures.{Figures}
 use Rattle.decimals.specs.Decimal.{nearestCount, decimalText}
-use Rattle.trim_class.specs.Classes.{classDensities, countAtOrBelow, trimClass, classOf}
+use Rattle.trim.specs.Classes.{classDensities, countAtOrBelow, trimClass, classOf}
 use Rattle.exact.specs.Exact.{Exact, _⊞_, opposite, number}
 use Rattle.exact.specs.Near.{IsNear}
 use Rattle.exact.proofs.Rounded.{N, N-pos}
 use Rattle.exact.proofs.Ranges.{number-is}
 use Rattle.exact.proofs.SameSide.{same-side}
-use Rattle.near.specs.Paper.{PrintedNear, exactCount, FarFromEach, ClassNear}
+use Rattle.near.specs.Paper.{exactCount, FarFromEach, IsPrinted}
 use Rattle.near.proofs.Records.{record-density-fits, record-density-near}
+use Rattle.near.specs.Near.{InScope, kelvin, pascal, vapour}
+use Rattle.record.specs.declared.entries.Readings.{Readings}
+use Rattle.near.specs.Saturation.{Saturation}
+use Rattle.near.specs.Density.{exactDensity}
+use Rattle.mast.specs.Judge.{judged, resolved}
 
 -- ---- over natural numbers: p - m units of 1 / S are printed of o - w units of 1 / N, which are near (P - Q) / K
 module _ (S K F : ℕ) where
@@ -48,7 +44,7 @@ nearest : (U S : ℕ) → let n = nearestCount U S in (n * (2 * N) + 2 * 0 * S �
 unfolding nearestCount N
 nearest U S = halves U S (2 ^ 1074) (pow-pos 1074)
 
-pub printed-near : PrintedNear
+pub printed-near : (j k : ℕ) (x : Float) (X : Exact) → T (fits binary64 x) → IsNear k x X → IsPrinted j k (decimalText j x) X
 unfolding decimalText _⊞_ opposite above beneath
 printed-near j k nan X f near = absurd (near .is-finite)
 printed-near j k (inf s) X f near = absurd (near .is-finite)
@@ -89,6 +85,7 @@ limits : Doubles classDensities
 unfolding classDensities odd ofFields ofBits fits
 limits = ((tt, tt), ((tt, tt), ((tt, tt), ((tt, tt), ((tt, tt), ((tt, tt), tt))))))
 
-pub class-near : ClassNear
+pub class-near : (r : Readings) (f : Figures) → judged r ≡ accepted f → let t = f .«temperature_c» in let p = f .«pressure_hpa» in let h = resolved r .«humidity_percent» in InScope t p h → (s : Saturation (kelvin t))
+    → let ρ = exactDensity (pascal p) (kelvin t) (vapour t p h s) in FarFromEach 45 ρ classDensities → classOf r ≡ accepted (exactCount classDensities ρ)
 unfolding classOf trimClass
 class-near r f e range s far = ap (λ (o : Outcome Figures). o ⟫ (λ g. accepted (trimClass (g .«density_kg_m3»)))) e ∙ ap accepted (counted 45 (f .«density_kg_m3») _ (record-density-near r f e range s) (record-density-fits r f e) classDensities limits far)

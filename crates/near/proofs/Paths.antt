@@ -1,19 +1,13 @@
 -- How a temperature and a pressure, given or of the standard atmosphere, come to the formulas: what is shown in °C and hPa is K and Pa before, and for the density
 -- °C and hPa once more. Assumes nothing.
-use mathlib.Core.Path.{_≡_}
-use mathlib.Core.Bool.{Bool}
-use mathlib.Core.List.{List, [], _∷_}
-use Prim.Native.Nat.{ℕ, _+_, _*_}
-use native.Mathlib.Omega.{arith}
-use lib.Dec.{T}
-use lib.Ieee.{Float, span, climb, size, odd, ofFields, ofBits, fits}
+use Rattle.arithmetic.proofs.Kit.{_≡_, Bool, List, [], _∷_, ℕ, _+_, _*_, arith, T, Float, span, climb, size, odd, ofFields, ofBits, fits}
 use Rattle.arithmetic.specs.Decimals.{decimal, hundred}
 use Rattle.arithmetic.specs.Operators.{_⊕_, _⊖_, _⊗_, _⊘_}
 use Rattle.arithmetic.proofs.CommonDenominator.{above, beneath}
-use Rattle.moist_air.specs.MoistAir.{icePoint}
+use Rattle.humid_air.specs.MoistAir.{icePoint}
 use Rattle.arithmetic.specs.Places.{places}
-use Rattle.atmosphere.specs.declared.station.Reading.{Reading}
-use Rattle.atmosphere.specs.declared.station.Reading.the-variants.{Given, FromLayer}
+use Rattle.atmosphere.specs.declared.given.Reading.{Reading}
+use Rattle.atmosphere.specs.declared.given.Reading.the-variants.{Given, FromLayer}
 use Rattle.air.specs.Station.{kelvins, pascals, celsius, hectopascals}
 use Rattle.exact.specs.Exact.{_⊞_, opposite, _⊠_, _÷_, the, number}
 use Rattle.exact.specs.Near.{Between}

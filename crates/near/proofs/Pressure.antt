@@ -1,22 +1,14 @@
 -- The saturation pressure is near the exact one, and nearly so as a part of itself. Assumes nothing.
-use mathlib.Core.Path.{_≡_, refl, sym, ap, subst}
-use mathlib.Core.Bool.{Bool, true, false}
-use mathlib.Core.List.{List, [], _∷_}
-use Prim.Native.Nat.{ℕ, _+_, _-_, _*_, _^_, _≤_}
-use native.Mathlib.Nat.{le-trans, le-of-eq, mul-pos, mul-le-mul-right, mul-le-mul-left, le-of-mul-le-mul-right}
-use native.Mathlib.Omega.{arith}
-use lib.Dec.{T, leb, ltb, eqb, leb→le, ltb→lt, eqb→eq, lit<}
-use lib.Ieee.{Float, nan, inf, fin, binary64, round, mul, span, climb, size, odd, ofFields, ofBits, fits}
-use lib.Ieee.Positive.{num, den, den-pos, positive}
+use Rattle.arithmetic.proofs.Kit.{_≡_, refl, sym, ap, subst, Bool, true, false, List, [], _∷_, ℕ, _+_, _-_, _*_, _^_, _≤_, le-trans, le-of-eq, mul-pos, mul-le-mul-right, mul-le-mul-left, le-of-mul-le-mul-right, arith, T, leb, ltb, eqb, leb→le, ltb→lt, eqb→eq, lit<, Float, nan, inf, fin, binary64, round, mul, span, climb, size, odd, ofFields, ofBits, fits, num, den, den-pos, positive}
 use Rattle.arithmetic.specs.Decimals.{decimal}
 use Rattle.arithmetic.specs.Operators.{_⊗_}
 use Rattle.arithmetic.proofs.CommonDenominator.{above, beneath}
 use Rattle.arithmetic.proofs.Counts.{over}
-use Rattle.wide.specs.Root.{root, rootIn}
+use Rattle.roots.specs.Root.{root, rootIn}
 use Rattle.elementary.specs.Exp.{exp}
-use Rattle.saturation.specs.Saturation.{saturationPressure}
-use Rattle.functions_near.specs.FunctionsNear.{Normal}
-use Rattle.functions_near.proofs.RoundedNear.{rounded-near}
+use Rattle.humid_air.specs.Saturation.{saturationPressure}
+use Rattle.exact.specs.FunctionsNear.{Normal}
+use Rattle.exact.proofs.RoundedNear.{rounded-near}
 use Rattle.exact.specs.Exact.{_⊠_, the, number}
 use Rattle.exact.specs.Near.{IsNear, IsNearly, Between}
 use Rattle.exact.specs.Powers.{of}
@@ -29,10 +21,10 @@ use Rattle.exact.proofs.Relative.{Apart, apart-of}
 use Rattle.exact.proofs.Above.{Positive, positive-units, positive-of, normal-of}
 use Rattle.exact.proofs.PositiveNear.{nearly-of}
 use Rattle.exact.proofs.ExpTracks.{parts, α, β, γ, δ, Sides}
-use Rattle.near.specs.Saturation.{Saturation, pressure}
-use Rattle.near.specs.Near.{SaturationNear, SaturationNearly}
+use Rattle.near.specs.Saturation.{Saturation, exactSaturation}
 use Rattle.near.proofs.Temperatures.{Part, Below, Every, by-kelvin}
 use Rattle.near.proofs.Saturated.{exponent-bounds, ratio-bounds, checks, y, sides-ratio, tracks-ratio, is-pressure}
+use Rattle.arithmetic.specs.Places.{places}
 
 -- ---- p, the product of p_c and r, is wrong by one part in 2^53: in units
 module _ (p r : Float) (p-is : Positive p) (r-is : Positive r) where
@@ -112,14 +104,14 @@ module _ (q : Part) where
     tracks-r : Tracks (ratio-bounds T-bounds q) r (of (s .ratio))
     tracks-r = tracks-ratio T-bounds q (passed 0) below x (number x) tracks-T s
 
-    tracks-p : Tracks bounds p (pressure s)
+    tracks-p : Tracks bounds p (exactSaturation s)
     tracks-p = tracks (tracks-r also none) product (passed 2)
 
-    pub near : IsNear 35 (saturationPressure 60 x) (pressure s)
-    near = subst (λ (z : Float). IsNear 35 z (pressure s)) is (near-of 35 p (pressure s) (leb→le (bounds .E * 2 ^ 35) N (passed 3)) tracks-p)
+    pub near : IsNear 35 (saturationPressure 60 x) (exactSaturation s)
+    near = subst (λ (z : Float). IsNear 35 z (exactSaturation s)) is (near-of 35 p (exactSaturation s) (leb→le (bounds .E * 2 ^ 35) N (passed 3)) tracks-p)
 
     normal : Normal p
-    normal = normal-of p (pressure s) tracks-p (eqb→eq (bounds .M) 0 (passed 4)) (leb→le (2 ^ 52) (bounds .L) (passed 5))
+    normal = normal-of p (exactSaturation s) tracks-p (eqb→eq (bounds .M) 0 (passed 4)) (leb→le (2 ^ 52) (bounds .L) (passed 5))
 
     r-positive : T (positive r)
     r-positive = positive-of r (of (s .ratio)) tracks-r (eqb→eq (ratio-bounds T-bounds q .M) 0 (passed 9)) (ltb→lt 0 (ratio-bounds T-bounds q .L) (passed 10))
@@ -139,11 +131,11 @@ module _ (q : Part) where
         less : (k P B : ℕ) → (k + 1) * P ≤ B + P → k * P ≤ B
         less k P B i = omega (arith, i)
 
-    pub nearly : IsNearly 41 (saturationPressure 60 x) (pressure s)
+    pub nearly : IsNearly 41 (saturationPressure 60 x) (exactSaturation s)
     unfolding _⊠_ the
     nearly =
-        subst (λ (z : Float). IsNearly 41 z (pressure s)) is
-        (nearly-of 41 p (pressure s) (normal .0) (tracks-p .double) (tracks-p .some) (omega arith) (as-exact (2 ^ 41) (over p) (s .ratio .over) (s .ratio .under) apart))
+        subst (λ (z : Float). IsNearly 41 z (exactSaturation s)) is
+        (nearly-of 41 p (exactSaturation s) (normal .0) (tracks-p .double) (tracks-p .some) (omega arith) (as-exact (2 ^ 41) (over p) (s .ratio .over) (s .ratio .under) apart))
       where
         as-exact : (F o G H : ℕ) → Apart F 1 (o * H) (220640 * (G * N)) → Apart F 1 (o * (1 * H)) ((220640 * G + 0 * 0) * N)
         as-exact F o G H a = subst (λ (B : ℕ). Apart F 1 (o * (1 * H)) B) (omega arith) (subst (λ (A : ℕ). Apart F 1 A (220640 * (G * N))) (omega arith) a)
@@ -152,8 +144,8 @@ tested : Every (λ q. T (all (tests q)))
 unfolding N above beneath the root rootIn span climb size odd ofFields ofBits fits
 tested = (tt, tt, tt, tt, tt, tt)
 
-pub saturation-near : SaturationNear
+pub saturation-near : (T : Float) → Between (decimal "233.15") (decimal "323.15") T → (s : Saturation (number T)) → IsNear 35 (saturationPressure places T) (exactSaturation s)
 saturation-near T range s = by-kelvin tests tested T (λ q passed below r. near q passed below T r s) range
 
-pub saturation-nearly : SaturationNearly
+pub saturation-nearly : (T : Float) → Between (decimal "233.15") (decimal "323.15") T → (s : Saturation (number T)) → IsNearly 41 (saturationPressure places T) (exactSaturation s)
 saturation-nearly T range s = by-kelvin tests tested T (λ q passed below r. nearly q passed below T r s) range

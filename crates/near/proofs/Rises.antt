@@ -1,16 +1,7 @@
 -- The speed of sound in dry air never falls where the temperature rises: the root that is nearest to a greater number is no less. Assumes nothing.
-use mathlib.Core.Path.{_≡_, refl, sym, subst₂}
-use mathlib.Core.Bool.{true, false}
-use mathlib.Core.List.{[], _∷_}
-use Prim.Native.Nat.{ℕ, zero, suc, _+_, _*_, _^_, _≤_, _<_}
-use native.Mathlib.Nat.{le-refl, lt-of-not-le, mul-le-mul-right, mul-le-mul-left}
-use native.Mathlib.Decide.{decLe}
-use native.Mathlib.Omega.{arith}
-use lib.Dec.{T}
-use lib.Ieee.{Float, nan, inf, fin, binary64, span, climb, size, odd, units, round, sum, neg, add, sub, mul, ofFields, ofBits, fits, le}
+use Rattle.arithmetic.proofs.Kit.{_≡_, refl, sym, subst₂, true, false, [], _∷_, ℕ, zero, suc, _+_, _*_, _^_, _≤_, _<_, le-refl, lt-of-not-le, mul-le-mul-right, mul-le-mul-left, decLe, arith, T, Float, nan, inf, fin, binary64, span, climb, size, odd, units, round, sum, neg, add, sub, mul, ofFields, ofBits, fits, le, positive, finite}
 use lib.Ieee.Fits.{add-fits}
-use lib.Ieee.Positive.{positive, positive-finite}
-use lib.Ieee.Scale.{finite}
+use lib.Ieee.Positive.{positive-finite}
 use Rattle.arithmetic.specs.Decimals.{decimal, nought, hundred}
 use Rattle.arithmetic.specs.Operators.{_⊕_, _⊗_}
 use Rattle.arithmetic.specs.Nearest.{unitsOf}
@@ -18,13 +9,13 @@ use Rattle.arithmetic.proofs.CommonDenominator.{above, beneath}
 use Rattle.arithmetic.proofs.Counts.{Small, le-of-sides}
 use Rattle.arithmetic.proofs.Products.{mul-by-rises}
 use Rattle.arithmetic.proofs.Sums.{add-rises}
-use Rattle.square_root.specs.Sqrt.{sqrt, NearestRoot}
-use Rattle.square_root.proofs.NearestRoot.{sqrt-nearest}
-use Rattle.doubles.specs.Doubles.{clampDouble}
-use Rattle.moist_air.specs.MoistAir.{icePoint, capped}
+use Rattle.antilog.specs.Sqrt.{sqrt}
+use Rattle.antilog.proofs.NearestRoot.{sqrt-nearest, NearestRoot}
+use Rattle.arithmetic.specs.Doubles.{clampDouble}
+use Rattle.humid_air.specs.MoistAir.{icePoint, capped}
 use Rattle.humid_air.specs.Humidity.{moleFractionKelvin}
 use Rattle.humid_air.specs.Sound.{soundSpeedAt, soundSpeed}
-use Rattle.atmosphere.specs.declared.station.Reading.the-variants.{Given}
+use Rattle.atmosphere.specs.declared.given.Reading.the-variants.{Given}
 use Rattle.air.specs.Station.{atmosphere}
 use Rattle.exact.specs.Exact.{the, number}
 use Rattle.exact.proofs.Rounded.{N}
@@ -33,9 +24,9 @@ use Rattle.exact.proofs.Terms.{Term, num, _times_, asExact, analysed, none, _al
 use Rattle.exact.proofs.Ranges.{ranged, tracks-between, sides-of-le}
 use Rattle.exact.proofs.Above.{Positive, positive-units, positive-tested}
 use Rattle.near.specs.Near.{InScope}
-use Rattle.near.specs.Rises.{SqrtRises, DrySoundRises}
 use Rattle.near.proofs.Vapour.{factor, by', dry}
 use Rattle.near.proofs.Paths.{kelvin, back-from-kelvin, pascals-behind}
+use Rattle.arithmetic.specs.Places.{places}
 
 -- ---- two nearest roots
 roots-ordered : (x y r q : Float) → NearestRoot x r → NearestRoot y q → unitsOf x ≤ unitsOf y → unitsOf r ≤ unitsOf q
@@ -73,7 +64,7 @@ module _ (x y : Float) (x-positive : T (positive x)) (y-positive : T (positive y
       itself : (z : Float) → T (fits binary64 z) → T (finite z) → Small (unitsOf z) z
       itself z f k = record { is-finite = k; double = f; size = le-refl (unitsOf z) }
 
-pub sqrt-rises : SqrtRises
+pub sqrt-rises : (x y : Float) → T (fits binary64 x) → T (fits binary64 y) → T (positive x) → T (positive y) → T (le x y) → T (le (sqrt x) (sqrt y))
 sqrt-rises x y fx fy px py h =
     let a = nearest-of x px fx in
     let b = nearest-of y py fy in
@@ -116,7 +107,8 @@ module _ (t p : Float) (range : InScope t p nought) where
   unfolding N above beneath the span climb size odd ofFields ofBits
   square-positive = positive-tested _ _ tracks-square tt
 
-pub dry-sound-rises : DrySoundRises
+pub dry-sound-rises : (altitude altitude' t u p q : Float) → InScope t p nought → InScope u q nought → T (le t u)
+    → T (le (atmosphere places altitude (Given t) (Given p) nought .«speed_of_sound_mps») (atmosphere places altitude' (Given u) (Given q) nought .«speed_of_sound_mps»))
 unfolding fits odd ofFields ofBits
 dry-sound-rises altitude altitude' t u p q t-range u-range h =
     subst₂ (λ (a b : Float). T (le a b)) (sym (dry-speed t p t-range altitude)) (sym (dry-speed u q u-range altitude'))

@@ -1,23 +1,15 @@
 -- The ratio of the saturation pressure to p_c tracks the exact one, for a T whose bounds pass the tests of a part of the temperatures. Assumes nothing.
-use mathlib.Core.Path.{_≡_, refl}
-use mathlib.Core.Bool.{Bool}
-use mathlib.Core.List.{List, [], _∷_}
-use Prim.Native.Nat.{ℕ, _+_, _*_, _^_, _≤_}
-use native.Mathlib.Nat.{le-refl}
-use native.Mathlib.Omega.{arith}
-use lib.Dec.{T, leb, eqb, leb→le, eqb→eq, lit≤}
-use lib.Ieee.{Float, binary64, odd, ofFields, ofBits, fits, le}
-use lib.Ieee.Scale.{finite}
+use Rattle.arithmetic.proofs.Kit.{_≡_, refl, Bool, List, [], _∷_, ℕ, _+_, _*_, _^_, _≤_, le-refl, arith, T, leb, eqb, leb→le, eqb→eq, lit≤, Float, binary64, odd, ofFields, ofBits, fits, le, finite}
 use Rattle.arithmetic.specs.Decimals.{decimal}
 use Rattle.arithmetic.specs.Operators.{_⊗_}
 use Rattle.arithmetic.specs.Nearest.{unitsOf}
 use Rattle.arithmetic.proofs.CommonDenominator.{above, beneath}
 use Rattle.arithmetic.proofs.Counts.{over, under, Small, le-of-sides}
-use Rattle.antilog.specs.HowNear.{_toThe_}
+use Rattle.arithmetic.specs.Fractions.{_toThe_}
 use Rattle.elementary.specs.Power.{power}
 use Rattle.elementary.specs.Exp.{exp}
-use Rattle.saturation.specs.Saturation.{saturationPressure}
-use Rattle.functions_near.specs.FunctionsNear.{Normal}
+use Rattle.humid_air.specs.Saturation.{saturationPressure}
+use Rattle.exact.specs.FunctionsNear.{Normal}
 use Rattle.exact.specs.Exact.{Exact, number}
 use Rattle.exact.specs.Powers.{of}
 use Rattle.exact.proofs.Tracks.{Bounds, Tracks}
@@ -27,8 +19,8 @@ use Rattle.exact.proofs.Tests.{all, item, test}
 use Rattle.exact.proofs.Above.{positive-units, normal-of}
 use Rattle.exact.proofs.HalfPower.{halves, halfPower, tracks-power}
 use Rattle.exact.proofs.ExpTracks.{parts, exponential, Sides, sides, tracks-exp}
-use Rattle.exact.proofs.Values.{Moderate, moderate-3, moderate-6, moderate-7, moderate-8, moderate-15, power-normal, exp-between, exp-fits}
-use Rattle.near.specs.Saturation.{reduced, logRatio, Saturation}
+use Rattle.exact.proofs.Values.{Moderate, moderate, power-normal, exp-between, exp-fits}
+use Rattle.near.specs.Saturation.{reduced, exactLogRatio, Saturation}
 use Rattle.near.proofs.Temperatures.{Part, Below}
 
 -- ---- the formula: of T in K, and of the five half powers
@@ -105,11 +97,11 @@ module _ (Tb : Bounds) (q : Part) where
     pub y : Float
     y = asDouble (x ∷ power-of 3 ∷ power-of 6 ∷ power-of 7 ∷ power-of 8 ∷ power-of 15 ∷ []) exponent
 
-    tracks-y : Tracks exponent-bounds y (logRatio X (s .root))
-    unfolding y logRatio reduced
+    tracks-y : Tracks exponent-bounds y (exactLogRatio X (s .root))
+    unfolding y exactLogRatio reduced
     tracks-y =
-        tracks (t also tracks-half 3 (lit≤ tt) moderate-3 (passed 12) also tracks-half 6 (lit≤ tt) moderate-6 (passed 13) also tracks-half 7 (lit≤ tt) moderate-7 (passed 14)
-        also tracks-half 8 (lit≤ tt) moderate-8 (passed 15) also tracks-half 15 (lit≤ tt) moderate-15 (passed 16) also none) exponent (passed 17)
+        tracks (t also tracks-half 3 (lit≤ tt) (moderate .0) (passed 12) also tracks-half 6 (lit≤ tt) (moderate .1) (passed 13) also tracks-half 7 (lit≤ tt) (moderate .2) (passed 14)
+        also tracks-half 8 (lit≤ tt) (moderate .3) (passed 15) also tracks-half 15 (lit≤ tt) (moderate .4) (passed 16) also none) exponent (passed 17)
 
     y-itself : Small (unitsOf y) y
     y-itself = itself y (tracks-y .double) (tracks-y .is-finite)
@@ -137,13 +129,13 @@ module _ (Tb : Bounds) (q : Part) where
     exp-normal = normal-of (exp 60 y) (number (exp 60 y)) exp-itself refl (lit≤ tt)
 
     pub sides-ratio : Sides (parts exponent-bounds) (exp 60 y) (s .ratio)
-    sides-ratio = sides (over (decimal "1e-11")) (over (q .ratio)) exponent-bounds (passed 18) (s .e) (s .e-proper) (s .e-least) (s .e-most) (logRatio X (s .root)) (s .ratio) (s .is-ratio) y tracks-y exp-normal (exp-fits 60 y)
+    sides-ratio = sides (over (decimal "1e-11")) (over (q .ratio)) exponent-bounds (passed 18) (s .e) (s .e-proper) (s .e-least) (s .e-most) (exactLogRatio X (s .root)) (s .ratio) (s .is-ratio) y tracks-y exp-normal (exp-fits 60 y)
 
     pub tracks-ratio : Tracks ratio-bounds (exp 60 y) (of (s .ratio))
     unfolding above beneath ofBits
     tracks-ratio =
         let none-under = positive-units (exp 60 y) (exp-normal .0) (exp-fits 60 y) .none-under in
-        tracks-exp (over (decimal "1e-11")) (over (q .ratio)) exponent-bounds (passed 18) (s .e) (s .e-proper) (s .e-least) (s .e-most) (logRatio X (s .root)) (s .ratio) (s .is-ratio) y tracks-y exp-normal (exp-fits 60 y)
+        tracks-exp (over (decimal "1e-11")) (over (q .ratio)) exponent-bounds (passed 18) (s .e) (s .e-proper) (s .e-least) (s .e-most) (exactLogRatio X (s .root)) (s .ratio) (s .is-ratio) y tracks-y exp-normal (exp-fits 60 y)
         (low (over (exp 60 y)) (under (exp 60 y)) (over (decimal "1e-11")) none-under (exp-itself .low))
         (high (over (exp 60 y)) (under (exp 60 y)) (over (q .ratio)) (under (q .ratio)) none-under (eqb→eq (under (q .ratio)) 0 (passed 10)) (exp-itself .high))
       where

@@ -1,42 +1,39 @@
 -- The densities of a dry sheet fall from row to row: its temperatures are whole degrees, each computed. Assumes nothing.
-use mathlib.Core.Bool.{Bool}
-use mathlib.Core.List.{List, [], _∷_}
-use Prim.Native.Nat.{ℕ, _<_}
-use native.Mathlib.Omega.{arith}
-use lib.Dec.{T}
-use lib.Ieee.{binary64, span, climb, size, odd, units, round, ofFields, ofBits, ofInt, fits, lt, eq, le}
+use Rattle.arithmetic.proofs.Kit.{Bool, List, [], _∷_, ℕ, _<_, arith, T, binary64, span, climb, size, odd, units, round, ofFields, ofBits, ofInt, fits, lt, eq, le, Float}
 use Rattle.arithmetic.specs.Decimals.{decimal, nought}
-use Rattle.station.specs.Figures.{figuresWith}
-use Rattle.sheet.specs.Sheet.{celsius}
-use Rattle.sheet.proofs.GoodSheet.{every, at-each}
+use Rattle.station.specs.Figures.{figuresWith, figuresOf}
+use Rattle.sheet.specs.Sheet.{celsiusOfRow}
+use Rattle.arithmetic.proofs.Every.{every, at}
 use Rattle.exact.specs.Exact.{_⊞_, the, number, isNotAbove}
 use Rattle.exact.proofs.Tests.{all, test}
 use Rattle.near.specs.Near.{InScope}
-use Rattle.near.specs.Sheets.{DrySheetFalls}
 use Rattle.near.proofs.Falls.{dry-density-falls}
+use Rattle.exact.specs.Near.{Between}
+use Rattle.sheet.specs.Row.{stationOfRow}
 
 abbrev warmer : ℕ → Bool
-warmer n = every (λ m. isNotAbove (number (celsius m) ⊞ the "1") (number (celsius n))) n
+warmer n = every n (λ m. isNotAbove (number (celsiusOfRow m) ⊞ the "1") (number (celsiusOfRow n)))
 
-all-warmer : T (every warmer 51)
-unfolding celsius ofInt number _⊞_ the round units span climb size odd
+all-warmer : T (every 51 warmer)
+unfolding celsiusOfRow ofInt number _⊞_ the round units span climb size odd
 all-warmer = tt
 
 abbrev scope : ℕ → List Bool
-scope n = fits binary64 (celsius n) ∷ le (decimal "-40") (celsius n) ∷ le (celsius n) (decimal "50") ∷ []
+scope n = fits binary64 (celsiusOfRow n) ∷ le (decimal "-40") (celsiusOfRow n) ∷ le (celsiusOfRow n) (decimal "50") ∷ []
 
-all-in-scope : T (every (λ n. all (scope n)) 51)
-unfolding celsius ofInt round units span climb size odd ofFields ofBits fits lt eq le
+all-in-scope : T (every 51 (λ n. all (scope n)))
+unfolding celsiusOfRow ofInt round units span climb size odd ofFields ofBits fits lt eq le
 all-in-scope = tt
 
-pub dry-sheet-falls : DrySheetFalls
+pub dry-sheet-falls : (altitude p : Float) → Between (decimal "500") (decimal "1100") p → (m n : ℕ) → m < n → n < 51
+    → T (lt (figuresOf (stationOfRow altitude p nought (celsiusOfRow n)) .«density_kg_m3») (figuresOf (stationOfRow altitude p nought (celsiusOfRow m)) .«density_kg_m3»))
 unfolding figuresWith ofBits fits le lt eq
 dry-sheet-falls altitude p range m n less most =
-    dry-density-falls altitude altitude (celsius m) (celsius n) p (in-scope m (omega arith)) (in-scope n most) (at-each (λ k. isNotAbove (number (celsius k) ⊞ the "1") (number (celsius n))) n m less (at-each warmer 51 n most all-warmer))
+    dry-density-falls altitude altitude (celsiusOfRow m) (celsiusOfRow n) p (in-scope m (omega arith)) (in-scope n most) (at n (λ k. isNotAbove (number (celsiusOfRow k) ⊞ the "1") (number (celsiusOfRow n))) (at 51 warmer all-warmer n most) m less)
   where
-    in-scope : (n : ℕ) → n < 51 → InScope (celsius n) p nought
+    in-scope : (n : ℕ) → n < 51 → InScope (celsiusOfRow n) p nought
     in-scope n most =
-        let h = at-each (λ n. all (scope n)) 51 n most all-in-scope in
+        let h = at 51 (λ n. all (scope n)) all-in-scope n most in
         record {
           temperature = record { double = test (scope n) 0 h; low = test (scope n) 1 h; high = test (scope n) 2 h };
           pressure = range;

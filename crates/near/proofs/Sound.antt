@@ -1,23 +1,18 @@
 -- The speed of sound is near every fraction that stands for the exact one, and there is such a fraction. Assumes nothing.
-use mathlib.Core.Path.{_≡_, ap₂, subst}
-use mathlib.Core.Bool.{Bool}
-use mathlib.Core.List.{List, [], _∷_}
-use Prim.Native.Nat.{ℕ, _+_, _*_, _^_}
-use lib.Dec.{T, leb, ltb, eqb, leb→le, ltb→lt, eqb→eq, lit<}
-use lib.Ieee.{Float, span, climb, size, odd, units, round, sum, neg, add, sub, ofFields, ofBits, fits, lt, eq}
+use Rattle.arithmetic.proofs.Kit.{_≡_, ap₂, subst, Bool, List, [], _∷_, ℕ, _+_, _*_, _^_, T, leb, ltb, eqb, leb→le, ltb→lt, eqb→eq, lit<, Float, span, climb, size, odd, units, round, sum, neg, add, sub, ofFields, ofBits, fits, lt, eq}
 use Rattle.arithmetic.specs.Decimals.{decimal, nought, hundred}
 use Rattle.arithmetic.specs.Operators.{_⊕_, _⊖_}
 use Rattle.arithmetic.specs.Places.{places}
 use Rattle.arithmetic.proofs.CommonDenominator.{above, beneath}
-use Rattle.wide.specs.Root.{root, rootIn}
-use Rattle.estimate.proofs.Powers.{pow-one}
-use Rattle.antilog.specs.HowNear.{Fraction, _toThe_}
-use Rattle.doubles.specs.Doubles.{clampDouble}
-use Rattle.moist_air.specs.MoistAir.{icePoint, capped}
+use Rattle.roots.specs.Root.{root, rootIn}
+use Rattle.arithmetic.proofs.Powers.{pow-one}
+use Rattle.arithmetic.specs.Fractions.{Fraction, _toThe_}
+use Rattle.arithmetic.specs.Doubles.{clampDouble}
+use Rattle.humid_air.specs.MoistAir.{icePoint, capped}
 use Rattle.humid_air.specs.Humidity.{moleFractionKelvin}
 use Rattle.humid_air.specs.Sound.{soundSpeedAt, soundSpeed}
-use Rattle.atmosphere.specs.declared.station.Reading.{Reading}
-use Rattle.atmosphere.specs.declared.station.Reading.the-variants.{Given}
+use Rattle.atmosphere.specs.declared.given.Reading.{Reading}
+use Rattle.atmosphere.specs.declared.given.Reading.the-variants.{Given}
 use Rattle.air.specs.Station.{kelvins, pascals, celsius, hectopascals, atmosphere}
 use Rattle.exact.specs.Exact.{Exact, the, number}
 use Rattle.exact.specs.Near.{IsNear, Between}
@@ -135,9 +130,10 @@ tested : Every (λ q. T (all (tests q)))
 unfolding N above beneath the root rootIn add sub sum neg round units span climb size odd ofFields ofBits fits lt eq
 tested = (tt, tt, tt, tt, tt, tt)
 
-pub sound-near : Spec.SoundNear
+pub sound-near : (altitude : Float) (t₀ p₀ : Reading) (h : Float) → let t = celsius places altitude t₀ in let p = hectopascals places altitude p₀ in Spec.InScope t p h → (s : Saturation (Spec.kelvin t)) (c : Fraction) → IsRoot c (squaredSpeed (Spec.kelvin t) (Spec.vapour t p h s))
+    → IsNear 37 (atmosphere places altitude t₀ p₀ h .«speed_of_sound_mps») (of c)
 unfolding atmosphere soundSpeed
 sound-near altitude T P h r s c is-root = by-celsius tests tested (celsius places altitude T) (λ q passed below range. speed-of q passed below altitude T P h range (r .pressure) (r .humidity) s c is-root) (r .temperature)
 
-pub speed-exists : Spec.SpeedExists
+pub speed-exists : (t p h : Float) → Spec.InScope t p h → (s : Saturation (Spec.kelvin t)) → (c : Fraction) × IsRoot c (squaredSpeed (Spec.kelvin t) (Spec.vapour t p h s))
 speed-exists t p h r s = by-celsius tests tested t (λ q passed below range. exists q passed below nought (Given t) (Given p) h range (r .pressure) (r .humidity) s) (r .temperature)

@@ -1,15 +1,7 @@
 -- The standard atmosphere's temperature and pressure, of which °C and hPa are shown: the K behind them track the °C and 273.15, and the Pa the hPa times 100.
 -- Assumes nothing.
-use mathlib.Core.Path.{_≡_, refl, sym, ap, subst}
-use mathlib.Core.Bool.{Bool, true, false}
-use mathlib.Core.List.{List, [], _∷_}
-use Prim.Native.Nat.{ℕ, _+_, _*_, _≤_, _<_}
-use native.Mathlib.Nat.{mul-le-mul-right, le-of-mul-le-mul-right}
-use native.Mathlib.Omega.{arith}
-use lib.Dec.{T}
-use lib.Ieee.{Float, nan, inf, fin, binary64, span, climb, size, odd, units, round, sub, div, ofFields, ofBits, fits, lt, eq, le}
-use lib.Ieee.Fits.{cond-fits, add-fits, sub-fits, mul-fits, div-fits}
-use lib.Ieee.Scale.{finite}
+use Rattle.arithmetic.proofs.Kit.{_≡_, refl, sym, ap, subst, Bool, true, false, List, [], _∷_, ℕ, _+_, _*_, _≤_, _<_, mul-le-mul-right, le-of-mul-le-mul-right, arith, T, Float, nan, inf, fin, binary64, span, climb, size, odd, units, round, sub, div, ofFields, ofBits, fits, lt, eq, le, cond-fits, sub-fits, mul-fits, div-fits, finite}
+use lib.Ieee.Fits.{add-fits}
 use Rattle.arithmetic.specs.Decimals.{decimal, hundred}
 use Rattle.arithmetic.specs.Operators.{_⊖_, _⊘_}
 use Rattle.arithmetic.specs.Places.{places}
@@ -19,7 +11,7 @@ use Rattle.arithmetic.proofs.Order.{number as isNumber, numbers-of-le, or-left,
 use Rattle.arithmetic.proofs.Strict.{less-of-not-le, not-le-of-less}
 use Rattle.arithmetic.proofs.Sums.{sub-rises}
 use Rattle.arithmetic.proofs.Products.{div-rises}
-use Rattle.moist_air.specs.MoistAir.{icePoint}
+use Rattle.humid_air.specs.MoistAir.{icePoint}
 use Rattle.atmosphere.specs.Layers.{baseHeight, layerTemperature, isothermal, isothermalPressure, gradientPressure, layerAt, layerPressure, standardHeight, standardAir}
 use Rattle.exact.specs.Exact.{_⊞_, opposite, _⊠_, _÷_, the, number}
 use Rattle.exact.specs.Near.{Between}

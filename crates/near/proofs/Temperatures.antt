@@ -1,10 +1,7 @@
 -- The temperatures from -40 to 50 °C, and from 233.15 to 323.15 K, in six parts: narrow ones, for an analysis takes the worst of a whole part. Assumes nothing.
-use mathlib.Core.Bool.{Bool}
-use mathlib.Core.List.{List}
-use lib.Dec.{T}
-use lib.Ieee.{Float, span, climb, size, odd, units, round, ofFields, ofBits, lt, eq, le, neg, isNan}
+use Rattle.arithmetic.proofs.Kit.{Bool, List, T, Float, span, climb, size, odd, units, round, ofFields, ofBits, lt, eq, le, neg, isNan}
 use Rattle.arithmetic.specs.Decimals.{decimal}
-use Rattle.wide.specs.Root.{root, rootIn}
+use Rattle.roots.specs.Root.{root, rootIn}
 use Rattle.antilog.specs.Antilog.{antilogRoot, antilog}
 use Rattle.elementary.specs.Exp.{exp}
 use Rattle.exact.specs.Near.{Between}

@@ -1,17 +1,6 @@
 -- The mole fraction of water vapour tracks the exact one: once for both paths by which a temperature and a pressure come to it, that of the density and that of
 -- the speed of sound. Assumes nothing.
-use mathlib.Core.Path.{_≡_, refl, sym, ap, _∙_, subst}
-use mathlib.Core.Bool.{Bool, true, false, cond}
-use mathlib.Core.List.{List, [], _∷_}
-use Prim.Native.Nat.{ℕ, zero, suc, _+_, _*_, _≤_, _<_}
-use native.Mathlib.Nat.{le-refl, mul-pos}
-use native.Mathlib.Omega.{arith}
-use lib.IntN.{ℤ, pos}
-use lib.Dec.{T, leb, eqb, leb→le, eqb→eq, eqb·suc-zero}
-use lib.Ieee.{Float, nan, inf, fin, binary64, up, down, span, climb, size, odd, round, mul, div, ofFields, ofBits, fits, lt, eq}
-use lib.Ieee.Fits.{and-l, up-pos, down-pos}
-use lib.Ieee.Positive.{positive}
-use lib.Ieee.Scale.{finite, round-same}
+use Rattle.arithmetic.proofs.Kit.{_≡_, refl, sym, ap, _∙_, subst, Bool, true, false, cond, List, [], _∷_, ℕ, zero, suc, _+_, _*_, _≤_, _<_, le-refl, mul-pos, arith, ℤ, pos, T, leb, eqb, leb→le, eqb→eq, eqb·suc-zero, Float, nan, inf, fin, binary64, up, down, span, climb, size, odd, round, mul, div, ofFields, ofBits, fits, lt, eq, and-l, up-pos, down-pos, positive, finite, round-same}
 use Rattle.arithmetic.specs.Decimals.{decimal, nought, one, hundred}
 use Rattle.arithmetic.specs.Operators.{_⊗_, _⊘_}
 use Rattle.arithmetic.specs.Nearest.{unitsOf}
@@ -20,9 +9,9 @@ use Rattle.arithmetic.proofs.Counts.{over, under, Small, le-of-sides}
 use Rattle.arithmetic.proofs.Products.{unlike-plus}
 use Rattle.arithmetic.proofs.Strict.{not-le-of-less}
 use Rattle.elementary.specs.Exp.{exp}
-use Rattle.saturation.specs.Saturation.{saturationPressure}
-use Rattle.doubles.specs.Doubles.{clampDouble}
-use Rattle.moist_air.specs.MoistAir.{enhancementFactor, divisor, moleFraction, moleFractionOf, capped}
+use Rattle.humid_air.specs.Saturation.{saturationPressure}
+use Rattle.arithmetic.specs.Doubles.{clampDouble}
+use Rattle.humid_air.specs.MoistAir.{enhancementFactor, divisor, moleFraction, moleFractionOf, capped}
 use Rattle.exact.specs.Exact.{Exact, _⊠_, _÷_, the, number}
 use Rattle.exact.specs.Near.{Between}
 use Rattle.exact.specs.Powers.{of}
@@ -33,7 +22,7 @@ use Rattle.exact.proofs.Tests.{all, item, test}
 use Rattle.exact.proofs.Kept.{not-taken, clamp-kept}
 use Rattle.exact.proofs.Above.{isAbove, positive-tested}
 use Rattle.near.specs.Density as Spec
-use Rattle.near.specs.Saturation.{Saturation, pressure}
+use Rattle.near.specs.Saturation.{Saturation, exactSaturation}
 use Rattle.near.proofs.Temperatures.{Part, Below}
 use Rattle.near.proofs.Saturated.{checks, ratio-bounds, y, tracks-ratio, is-pressure}
 
@@ -55,7 +44,7 @@ round-nought : (s : Bool) (a d : ℕ) → a ≡ 0 → 0 < d → round binary64 s
 unfolding round span climb size odd
 round-nought s a d A D = round-same binary64 s a d 0 1 D (omega arith) (omega arith)
 
-pub nought-times : (s : Bool) (e : ℤ) (x : Float) → T (positive x) → fin s 0 e ⊗ x ≡ fin s 0 (pos 0)
+nought-times : (s : Bool) (e : ℤ) (x : Float) → T (positive x) → fin s 0 e ⊗ x ≡ fin s 0 (pos 0)
 unfolding mul
 nought-times s e nan p = absurd p
 nought-times s e (inf t) p = absurd p
@@ -63,7 +52,7 @@ nought-times s e (fin true n d) p = absurd p
 nought-times s e (fin false n d) p =
     rw (unlike-plus s) (round-nought s (0 * up e * (n * up d)) (down e * down d) (omega arith) (mul-pos (down-pos e) (down-pos d)))
 
-pub nought-by : (s : Bool) (e : ℤ) (x : Float) → T (positive x) → fin s 0 e ⊘ x ≡ fin s 0 (pos 0)
+nought-by : (s : Bool) (e : ℤ) (x : Float) → T (positive x) → fin s 0 e ⊘ x ≡ fin s 0 (pos 0)
 unfolding div
 nought-by s e nan p = absurd p
 nought-by s e (inf t) p = absurd p
@@ -146,8 +135,8 @@ module _ (Tb tb pb : Bounds) (q : Part) where
     abbrev x : Float
     x = asDouble (t″ ∷ p″ ∷ r ∷ h ∷ []) fraction
 
-    tracks-x : Tracks vapour-bounds x (Spec.moleFraction (number h ÷ the "100") pX tX (pressure s ⊠ the "100"))
-    unfolding Spec.moleFraction
+    tracks-x : Tracks vapour-bounds x (Spec.exactMoleFraction (number h ÷ the "100") pX tX (exactSaturation s ⊠ the "100"))
+    unfolding Spec.exactMoleFraction
     tracks-x = subst (λ (X : Exact). Tracks vapour-bounds x (X ÷ pX)) (times-assoc _ (the "220640" ⊠ of (s .ratio)) (the "100")) (tracked fraction (passed 1))
 
     is-fraction : capped (moleFractionOf (saturationPressure 60 T″) t″ p″ (clampDouble h nought hundred)) ≡ x
@@ -157,5 +146,5 @@ module _ (Tb tb pb : Bounds) (q : Part) where
         ∙ moist (decimal "220640" ⊗ r) (enhancementFactor p″ t″) (divisor p″) (positive-tested _ _ (tracked saturation (passed 5)) (passed 6)) (positive-tested _ _ (tracked factor (passed 3)) (passed 4)) (positive-tested _ _ (tracked by' (passed 7)) (passed 8)) h (tracks-h .is-finite) h-range)
         ∙ below-one x _ tracks-x (leb→le (vapour-bounds .H) (over one) (passed 2))
 
-    pub tracks-vapour : Tracks vapour-bounds (capped (moleFractionOf (saturationPressure 60 T″) t″ p″ (clampDouble h nought hundred))) (Spec.moleFraction (number h ÷ the "100") pX tX (pressure s ⊠ the "100"))
+    pub tracks-vapour : Tracks vapour-bounds (capped (moleFractionOf (saturationPressure 60 T″) t″ p″ (clampDouble h nought hundred))) (Spec.exactMoleFraction (number h ÷ the "100") pX tX (exactSaturation s ⊠ the "100"))
     tracks-vapour = rw is-fraction tracks-x

@@ -4,16 +4,16 @@
 use Rattle.exact.specs.Exact.{Exact, _⊞_, _⊟_, _⊠_, _÷_, the}
 
 -- the enhancement factor: f = α + β p + γ t^2
-abbrev pub enhancementFactor : Exact → Exact → Exact
-enhancementFactor p t = the "1.00062" ⊞ the "3.14e-8" ⊠ p ⊞ the "5.6e-7" ⊠ t ⊠ t
+abbrev pub exactEnhancement : Exact → Exact → Exact
+exactEnhancement p t = the "1.00062" ⊞ the "3.14e-8" ⊠ p ⊞ the "5.6e-7" ⊠ t ⊠ t
 
 -- the mole fraction of water vapour: x_v = h f p_sv / p
-unfoldable pub moleFraction : Exact → Exact → Exact → Exact → Exact
-moleFraction h p t psv = h ⊠ enhancementFactor p t ⊠ psv ÷ p
+unfoldable pub exactMoleFraction : Exact → Exact → Exact → Exact → Exact
+exactMoleFraction h p t psv = h ⊠ exactEnhancement p t ⊠ psv ÷ p
 
 -- the compressibility factor: Z = 1 - p/T (a0 + a1 t + a2 t^2 + (b0 + b1 t) x_v + (c0 + c1 t) x_v^2) + p^2/T^2 (d + e x_v^2)
-abbrev pub compressibilityFactor : Exact → Exact → Exact → Exact
-compressibilityFactor p T x =
+abbrev pub exactCompressibility : Exact → Exact → Exact → Exact
+exactCompressibility p T x =
     let t = T ⊟ the "273.15" in
     let pT = p ÷ T in
     the "1"
@@ -21,5 +21,5 @@ compressibilityFactor p T x =
     ⊞ pT ⊠ pT ⊠ (the "1.83e-11" ⊞ the "-0.765e-8" ⊠ x ⊠ x)
 
 -- equation (1): ρ = p M_a / (Z R T) (1 - x_v (1 - M_v / M_a)), in kg m^-3
-unfoldable pub density : Exact → Exact → Exact → Exact
-density p T x = p ⊠ the "28.96546e-3" ÷ (compressibilityFactor p T x ⊠ the "8.314472" ⊠ T) ⊠ (the "1" ⊟ x ⊠ (the "1" ⊟ the "18.01528e-3" ÷ the "28.96546e-3"))
+unfoldable pub exactDensity : Exact → Exact → Exact → Exact
+exactDensity p T x = p ⊠ the "28.96546e-3" ÷ (exactCompressibility p T x ⊠ the "8.314472" ⊠ T) ⊠ (the "1" ⊟ x ⊠ (the "1" ⊟ the "18.01528e-3" ÷ the "28.96546e-3"))

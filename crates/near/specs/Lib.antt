@@ -1,9 +1,10 @@
--- The documents' formulas in exact numbers, and how near the figures are to them.
+-- The documents' formulas in exact numbers, of readings in their ranges, and what is printed of a figure.
 pub mod Density
 pub mod Saturation
 pub mod Sound
 pub mod Near
-pub mod Rises
-pub mod Records
 pub mod Paper
-pub mod Sheets
+pub mod Troposphere
+pub mod Qnh
+pub mod PressureAltitude
+pub mod DensityAltitude

@@ -3,19 +3,10 @@ use Prim.Native.Nat.{ℕ, _+_, _*_, _^_, _≤_}
 use mathlib.Core.Path.{_≡_}
 use mathlib.Core.Bool.{Bool, cond}
 use mathlib.Core.List.{List, [], _∷_}
-use lib.Dec.{T}
-use lib.Ieee.{Float, binary64, fits}
-use Rattle.refusal.specs.Outcomes.{accepted}
-use Rattle.entries.specs.declared.Readings.{Readings}
-use Rattle.answered.specs.declared.judge.Figures.{Figures}
-use Rattle.decimals.specs.Decimal.{countText, decimalText}
-use Rattle.mast.specs.Judge.{resolved, judged}
-use Rattle.trim_class.specs.Classes.{classDensities, classOf}
+use lib.Ieee.{Float}
+use Rattle.decimals.specs.Decimal.{countText}
 use Rattle.exact.specs.Exact.{Exact, _⊟_, number, isNotAbove}
-use Rattle.exact.specs.Near.{IsNear, IsFar}
-use Rattle.near.specs.Density.{density}
-use Rattle.near.specs.Saturation.{Saturation}
-use Rattle.near.specs.Near.{kelvin, pascal, vapour, InScope}
+use Rattle.exact.specs.Near.{IsFar}
 
 -- ---- paper
 -- n units of the j-th decimal, with a sign
@@ -30,10 +21,6 @@ pub record IsPrinted (j k : ℕ) (text : List ℕ) (X : Exact) : Type 0 where
   pub not-above : let d = units j negative n ⊟ X in d .plus * (2 * 10 ^ j * 2 ^ k) ≤ d .minus * (2 * 10 ^ j * 2 ^ k) + d .under * (2 ^ k + 2 * 10 ^ j)
   pub not-below : let d = units j negative n ⊟ X in d .minus * (2 * 10 ^ j * 2 ^ k) ≤ d .plus * (2 * 10 ^ j * 2 ^ k) + d .under * (2 ^ k + 2 * 10 ^ j)
 
--- of every figure, with as many decimals as one likes: the sheet and the report print the density with four and the speed of sound with one
-abbrev pub PrintedNear : Type 0
-PrintedNear = (j k : ℕ) (x : Float) (X : Exact) → T (fits binary64 x) → IsNear k x X → IsPrinted j k (decimalText j x) X
-
 -- ---- the trim class: the count of the limits, each as its double, that are at or below the exact density
 abbrev pub exactCount : List Float → Exact → ℕ
 exactCount [] X = 0
@@ -42,9 +29,3 @@ exactCount (c ∷ l) X = cond (isNotAbove (number c) X) 1 0 + exactCount l X
 abbrev pub FarFromEach : ℕ → Exact → List Float → Type 0
 FarFromEach k X [] = Unit {0}
 FarFromEach k X (c ∷ l) = IsFar k X c × FarFromEach k X l
-
--- unless that lies within 2 ^ -45 kg/m³ of a limit
-abbrev pub ClassNear : Type 0
-ClassNear =
-    (r : Readings) (f : Figures) → judged r ≡ accepted f → let t = f .«temperature_c» in let p = f .«pressure_hpa» in let h = resolved r .«humidity_percent» in InScope t p h → (s : Saturation (kelvin t))
-    → let ρ = density (pascal p) (kelvin t) (vapour t p h s) in FarFromEach 45 ρ classDensities → classOf r ≡ accepted (exactCount classDensities ρ)

@@ -1,11 +1,19 @@
 // What the program `park` does, for it and for the programs that try it on other words. No contract can
 // say what is read or written, so this is all that stands outside of one.
+ghost use mathlib.Core.Path.{_≡_};
+ghost use lib.ListN.{length};
 ghost use Rattle.io.specs.Counts.{Counts};
+ghost use Rattle.pages.specs.Pages.{Holds};
+ghost use Rattle.park_text.specs.Words.{arguments};
+ghost use Rattle.park_text.specs.ParkText.{parkText};
 use libc::STDOUT_FILENO;
-use park_text::park_text;
+use park_text::put_park_text;
 
 // The bytes of all words together, each with a newline after it.
 const ROOM: usize = 4096;
+
+// No text that is printed has more bytes.
+const PAGE: usize = 2048;
 
 // A command line that is too long is read as the one word `?`, which is unknown: what would be left of it
 // might be other readings.
@@ -45,12 +53,19 @@ fn gather(words: &mut [u8]) -> usize
     at
 }
 
+// All that is printed for the words, at the start of the page; how many bytes it has.
+fn put_text(page: &mut [u8], text: &[u8]) -> usize
+    requires { ⌜ length (now page) ≡ 2048 ⌝ }
+    ensures { λ r. ⌜ Holds (parkText (arguments (now (text .entry)))) (now (page .exit)) r ⌝ }
+{
+    put_park_text(page, 0, text)
+}
+
 // Writes what is printed for the words.
 pub fn reply() {
     let mut words = [0u8; ROOM];
     let n = gather(&mut words);
-    let text = park_text(&words[..n]);
-    let bytes = text.bytes;
-    let len = text.len;
-    io::write_all(STDOUT_FILENO, &bytes[..len]);
+    let mut page = [0u8; PAGE];
+    let len = put_text(&mut page, &words[..n]);
+    io::write_all(STDOUT_FILENO, &page[..len]);
 }

@@ -1,4 +1,4 @@
--- What the program `park` prints for its words, as bytes in ASCII: the report of the readings; or the setting sheet under a heading, where the first word is
+-- What the program `park` prints for its words: the report of the readings; or the setting sheet under a heading, where the first word is
 -- `sheet`; or one line on the first word that is not understood; or how it is used, where there is no word. Definitions only.
 use Prim.Native.Nat.{ℕ}
 use mathlib.Core.Bool.{Bool, _||_, cond}
@@ -6,25 +6,24 @@ use mathlib.Core.List.{List, [], _∷_, _++_}
 use lib.Ieee.{Float}
 use lib.ListN.{getD, take}
 use Rattle.refusal.specs.Outcomes.{Outcome, accepted, refused}
-use Rattle.entries.specs.declared.Entry.{Entry}
-use Rattle.entries.specs.declared.Entry.the-variants.{Absent, Present}
-use Rattle.entries.specs.declared.Readings.{Readings}
+use Rattle.record.specs.declared.entries.Entry.{Entry}
+use Rattle.record.specs.declared.entries.Entry.the-variants.{Absent, Present}
+use Rattle.record.specs.declared.entries.Readings.{Readings}
 use Rattle.fields.specs.Fields.{altitude, temperature, stationPressure, qnh, humidity, densityAltitude, measuredPressure}
-use Rattle.entries.specs.Entries.{entryOf}
-use Rattle.entries.specs.Entries.{valueOrZero}
-use Rattle.limits.specs.Checks.{has}
-use Rattle.pieces.specs.Characters.{same}
-use Rattle.pieces.specs.Ascii.{ascii}
+use Rattle.record.specs.Entries.{entryOf, valueOrZero}
+use Rattle.mast.specs.Checks.{has}
+use Rattle.pages.specs.Characters.{same}
+use Rattle.arithmetic.specs.Ascii.{ascii}
 use Rattle.sheet.specs.Sheet.{settingSheet}
-use Rattle.sheet_refusal.specs.SheetRefusal.{refusedText}
+use Rattle.report.specs.SheetRefusal.{refusedText}
 use Rattle.report.specs.Report.{reportText}
-use Rattle.park_lines.specs.ParkLines.{messageOf, heading}
-use Rattle.typed_word.specs.declared.Problem.{Problem}
-use Rattle.typed_readings.specs.Understood.{Understood, given, problem, understand}
+use Rattle.park_text.specs.ParkLines.{messageOf, heading}
+use Rattle.park_text.specs.declared.typed_word.Problem.{Problem}
+use Rattle.park_text.specs.Understood.{Understood, given, problem, understand}
 
--- ---- a word that is not understood: its first 64 bytes in quotes (34), what is wrong and what is expected
+-- ---- a word that is not understood: its first 64 bytes in quotes, what is wrong and what is expected
 unfoldable pub problemLine : List ℕ → Problem → List ℕ
-problemLine w p = (34 ∷ []) ++ take 64 w ++ (34 ∷ []) ++ messageOf p
+problemLine w p = ascii "\"" ++ take 64 w ++ ascii "\"" ++ messageOf p
 
 -- ---- no word
 unfoldable pub usageText : List ℕ

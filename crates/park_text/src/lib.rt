@@ -1,17 +1,21 @@
-// What the program `park` prints for its words.
+// What the program `park` prints for its words. Each function that puts a text puts it on the page from
+// `at` on, as far as the page reaches, and answers the position after it.
+mod park_lines;
+mod typed_readings;
+mod typed_word;
+
 ghost use mathlib.Core.Path.{_≡_};
-ghost use Prim.Native.Nat.{_≤_};
-ghost use lib.ListN.{length, take};
-ghost use Rattle.refusal.specs.Refusals.{numberOf};
-ghost use Rattle.sheet_refusal.specs.SheetRefusal.{refusedText};
-ghost use Rattle.report.specs.Report.{Holds};
-ghost use Rattle.typed_readings.specs.Words.{words};
-ghost use Rattle.park_text.specs.ParkText.{problemLine, usageText, sheetPage, sheetNeeds, hasOther, sheetFor, sheetOf, sheetWords, readingsWords, parkText};
-use entries::Entry;
-use entries::Readings;
-use entries::entry_of;
-use entries::is_present;
-use entries::value_or_zero;
+ghost use lib.ListN.{take};
+ghost use Rattle.pages.specs.Pages.{Appended};
+ghost use Rattle.park_text.specs.Words.{arguments};
+ghost use Rattle.park_text.specs.ParkText.{problemLine, sheetPage, sheetNeeds, hasOther, sheetFor, sheetOf, sheetWords, readingsWords, parkText};
+use crate::park_lines::put_heading;
+use crate::park_lines::put_message;
+use crate::typed_readings::WordCheck;
+use crate::typed_readings::nth_word;
+use crate::typed_readings::read_words;
+use crate::typed_readings::word_start;
+use crate::typed_word::Problem;
 use fields::fields::ALTITUDE;
 use fields::fields::DENSITY_ALTITUDE;
 use fields::fields::HUMIDITY;
@@ -19,30 +23,16 @@ use fields::fields::MEASURED_PRESSURE;
 use fields::fields::QNH;
 use fields::fields::STATION_PRESSURE;
 use fields::fields::TEMPERATURE;
-use park_lines::put_heading;
-use park_lines::put_message;
-use pieces::put;
-use refusal::Refusal;
-use report::ReportText;
-use report::report_text;
+use pages::put;
+use record::entries::Entry;
+use record::entries::Readings;
+use record::entries::entry_of;
+use record::entries::is_present;
+use record::entries::value_or_zero;
+use report::put_report;
+use report::sheet_refusal::put_refused_sheet;
 use sheet::page::Sheet;
 use sheet::page::setting_sheet;
-use sheet_refusal::refused_text;
-use typed_readings::WordCheck;
-use typed_readings::nth_word;
-use typed_readings::read_words;
-use typed_readings::word_start;
-use typed_word::Problem;
-
-// A text of one piece.
-fn whole_text(text: &[u8]) -> ReportText
-    requires { ⌜ length (now text) ≤ 2048 ⌝ }
-    ensures { λ r. ⌜ Holds r (now (text .entry)) ⌝ }
-{
-    let mut page = [0u8; 2048];
-    let len = put(&mut page, 0, text);
-    ReportText { bytes: page, len }
-}
 
 // The bytes of a word that are quoted.
 fn quoted_part(word: &[u8]) -> &[u8]
@@ -54,67 +44,60 @@ fn quoted_part(word: &[u8]) -> &[u8]
     &word[..64]
 }
 
-fn problem_text(word: &[u8], problem: Problem) -> ReportText
-    ensures { λ r. ⌜ Holds r (problemLine (now (word .entry)) problem) ⌝ }
+fn put_problem(page: &mut [u8], at: usize, word: &[u8], problem: Problem) -> usize
+    ensures { λ r. ⌜ Appended (now (page .entry)) at (problemLine (now (word .entry)) problem) (now (page .exit)) r ⌝ }
 {
-    let mut page = [0u8; 2048];
-    let quote = put(&mut page, 0, b"\"");
-    let name = put(&mut page, quote, quoted_part(word));
-    let end = put(&mut page, name, b"\"");
-    let len = put_message(&mut page, end, problem);
-    ReportText { bytes: page, len }
+    let quote = put(page, at, b"\"");
+    let name = put(page, quote, quoted_part(word));
+    let end = put(page, name, b"\"");
+    put_message(page, end, problem)
 }
 
-fn usage_text() -> ReportText
-    ensures { λ r. ⌜ Holds r usageText ⌝ }
-{
-    whole_text(
-        b"usage: park altitude=1586 temperature=24 qnh=1019.3 humidity=32\n       park sheet altitude=1586 pressure=841.9 humidity=32\nwords in any order, each a number with up to three decimals:\n  altitude=          m\n  temperature=       C\n  pressure=          hPa, measured at the station\n  station-pressure=  hPa, of a mast that sends 1013.25 until it is set up\n  qnh=               hPa\n  humidity=          percent\n  density-altitude=  m, in place of altitude and pressure\n",
-    )
-}
-
-fn refusal_text(refusal: Refusal) -> ReportText
-    ensures { λ r. ⌜ Holds r (refusedText (numberOf refusal)) ⌝ }
-{
-    let refused = refused_text(refusal);
-    let bytes = refused.bytes;
-    let len = refused.len;
-    whole_text(&bytes[..len])
-}
-
-fn sheet_page(altitude_m: f64, pressure_hpa: f64, humidity_percent: f64) -> ReportText
-    ensures { λ r. ⌜ Holds r (sheetPage «altitude_m» «pressure_hpa» «humidity_percent») ⌝ }
+fn put_sheet_page(
+    page: &mut [u8],
+    at: usize,
+    altitude_m: f64,
+    pressure_hpa: f64,
+    humidity_percent: f64,
+) -> usize
+    ensures { λ r. ⌜ Appended (now (page .entry)) at (sheetPage «altitude_m» «pressure_hpa» «humidity_percent») (now (page .exit)) r ⌝ }
 {
     let mut sheet = [0u8; 1530];
     match setting_sheet(altitude_m, pressure_hpa, humidity_percent, &mut sheet) {
         Sheet::Written => {
-            let mut page = [0u8; 2048];
-            let rows = put_heading(&mut page, altitude_m, pressure_hpa, humidity_percent);
-            let len = put(&mut page, rows, &sheet);
-            ReportText { bytes: page, len }
+            let rows = put_heading(page, at, altitude_m, pressure_hpa, humidity_percent);
+            put(page, rows, &sheet)
         }
-        Sheet::Refused(refusal) => refusal_text(refusal),
+        Sheet::Refused(refusal) => put_refused_sheet(page, at, refusal),
     }
 }
 
-fn needs_text() -> ReportText
-    ensures { λ r. ⌜ Holds r sheetNeeds ⌝ }
+fn put_needs(page: &mut [u8], at: usize) -> usize
+    ensures { λ r. ⌜ Appended (now (page .entry)) at (sheetNeeds) (now (page .exit)) r ⌝ }
 {
-    whole_text(
+    put(
+        page,
+        at,
         b"a sheet needs altitude= and pressure=, as park sheet altitude=1586 pressure=841.9 humidity=32\n",
     )
 }
 
-fn sheet_for(altitude_m: Entry, pressure_hpa: Entry, humidity_percent: Entry) -> ReportText
-    ensures { λ r. ⌜ Holds r (sheetFor «altitude_m» «pressure_hpa» «humidity_percent») ⌝ }
+fn put_sheet_for(
+    page: &mut [u8],
+    at: usize,
+    altitude_m: Entry,
+    pressure_hpa: Entry,
+    humidity_percent: Entry,
+) -> usize
+    ensures { λ r. ⌜ Appended (now (page .entry)) at (sheetFor «altitude_m» «pressure_hpa» «humidity_percent») (now (page .exit)) r ⌝ }
 {
     let Entry::Present(h) = altitude_m else {
-        return needs_text();
+        return put_needs(page, at);
     };
     let Entry::Present(p) = pressure_hpa else {
-        return needs_text();
+        return put_needs(page, at);
     };
-    sheet_page(h, p, value_or_zero(humidity_percent))
+    put_sheet_page(page, at, h, p, value_or_zero(humidity_percent))
 }
 
 // Whether there is a reading that a sheet does not take.
@@ -127,13 +110,19 @@ fn has_other(readings: Readings) -> bool
         | is_present(entry_of(readings, DENSITY_ALTITUDE))
 }
 
-fn sheet_of(readings: Readings) -> ReportText
-    ensures { λ r. ⌜ Holds r (sheetOf readings) ⌝ }
+fn put_sheet_of(page: &mut [u8], at: usize, readings: Readings) -> usize
+    ensures { λ r. ⌜ Appended (now (page .entry)) at (sheetOf readings) (now (page .exit)) r ⌝ }
 {
     if has_other(readings) {
-        return whole_text(b"a sheet takes altitude=, pressure= and humidity= and no other word\n");
+        return put(
+            page,
+            at,
+            b"a sheet takes altitude=, pressure= and humidity= and no other word\n",
+        );
     }
-    sheet_for(
+    put_sheet_for(
+        page,
+        at,
         entry_of(readings, ALTITUDE),
         entry_of(readings, MEASURED_PRESSURE),
         entry_of(readings, HUMIDITY),
@@ -141,41 +130,45 @@ fn sheet_of(readings: Readings) -> ReportText
 }
 
 // The sheet of the words after `sheet`.
-fn sheet_words(text: &[u8]) -> ReportText
-    ensures { λ r. ⌜ Holds r (sheetWords (words (now (text .entry)))) ⌝ }
+fn put_sheet_words(page: &mut [u8], at: usize, text: &[u8]) -> usize
+    ensures { λ r. ⌜ Appended (now (page .entry)) at (sheetWords (arguments (now (text .entry)))) (now (page .exit)) r ⌝ }
 {
     let read = read_words(text);
     let check = read.check;
     match check {
-        WordCheck::Passed => sheet_of(read.readings),
-        WordCheck::Wrong(problem, number) => problem_text(nth_word(text, number), problem),
+        WordCheck::Passed => put_sheet_of(page, at, read.readings),
+        WordCheck::Wrong(problem, number) => put_problem(page, at, nth_word(text, number), problem),
     }
 }
 
-fn readings_words(text: &[u8]) -> ReportText
-    ensures { λ r. ⌜ Holds r (readingsWords (words (now (text .entry)))) ⌝ }
+fn put_readings_words(page: &mut [u8], at: usize, text: &[u8]) -> usize
+    ensures { λ r. ⌜ Appended (now (page .entry)) at (readingsWords (arguments (now (text .entry)))) (now (page .exit)) r ⌝ }
 {
     let read = read_words(text);
     let check = read.check;
     match check {
-        WordCheck::Passed => report_text(read.readings),
-        WordCheck::Wrong(problem, number) => problem_text(nth_word(text, number), problem),
+        WordCheck::Passed => put_report(page, at, read.readings),
+        WordCheck::Wrong(problem, number) => put_problem(page, at, nth_word(text, number), problem),
     }
 }
 
 // What is printed for the words of a text, each ended by a newline: the report of the readings, or the
 // sheet where the first word is `sheet`, or what is wrong with the first word that is not understood, or
 // how to use the program where there is no word. The text is left as it was.
-pub fn park_text(text: &[u8]) -> ReportText
-    ensures answered { λ r. ⌜ Holds r (parkText (words (now (text .entry)))) ⌝ }
+pub fn put_park_text(page: &mut [u8], at: usize, text: &[u8]) -> usize
+    ensures appended { λ r. ⌜ Appended (now (page .entry)) at (parkText (arguments (now (text .entry)))) (now (page .exit)) r ⌝ }
     ensures kept { λ _. ⌜ now (text .exit) ≡ now (text .entry) ⌝ }
 {
     if text.len() == 0 {
-        return usage_text();
+        return put(
+            page,
+            at,
+            b"usage: park altitude=1586 temperature=24 qnh=1019.3 humidity=32\n       park sheet altitude=1586 pressure=841.9 humidity=32\nwords in any order, each a number with up to three decimals:\n  altitude=          m\n  temperature=       C\n  pressure=          hPa, measured at the station\n  station-pressure=  hPa, of a mast that sends 1013.25 until it is set up\n  qnh=               hPa\n  humidity=          percent\n  density-altitude=  m, in place of altitude and pressure\n",
+        );
     }
     if check::same(nth_word(text, 0), b"sheet") {
         let rest = word_start(text, 1);
-        return sheet_words(&text[rest..]);
+        return put_sheet_words(page, at, &text[rest..]);
     }
-    readings_words(text)
+    put_readings_words(page, at, text)
 }

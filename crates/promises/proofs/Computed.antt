@@ -1,20 +1,13 @@
 -- The promises that are cases: each computes. Assumes nothing.
-use mathlib.Core.Path.{_≡_, refl}
-use mathlib.Core.Bool.{Bool}
-use Prim.Native.Nat.{ℕ, _*_, _^_, _<_}
-use lib.Dec.{T, eqb, eqb→eq}
-use lib.IntN.{pos, negsuc}
-use lib.ListN.{getD}
-use lib.Ieee.{nan, round, ofBits, toBits}
-use lib.Ieee.Positive.{num, den}
+use Rattle.arithmetic.proofs.Kit.{_≡_, refl, Bool, ℕ, _*_, _^_, _<_, T, eqb, eqb→eq, pos, negsuc, getD, nan, round, ofBits, toBits, num, den}
 use Rattle.arithmetic.specs.Decimals.{decimal}
 use Rattle.elementary.specs.Exponents.{exponents, exponentAt}
-use Rattle.elementary.proofs.Exponents.{every, at}
+use Rattle.arithmetic.proofs.Every.{at}
 use Rattle.thousandths.specs.declared.Counted.the-variants as counted-as
-use Rattle.thousandths.specs.Thousandths.{countOf, thousandths, nearestCount, counted, tried, countFor}
-use Rattle.pieces.specs.Ascii.{ascii}
-use Rattle.typed.specs.declared.Typed.the-variants as typed-as
-use Rattle.typed.specs.Typed.{digitsIn, numberFrom, inCounts, withDecimals, afterWhole, afterSign, typed}
+use Rattle.thousandths.specs.Thousandths.{countOf, thousandths, nearestThousandth, counted, ifExact, countFor}
+use Rattle.arithmetic.specs.Ascii.{ascii}
+use Rattle.decimals.specs.declared.typed.Typed.the-variants as typed-as
+use Rattle.decimals.specs.Typed.{digitsIn, numberFrom, inCounts, withDecimals, afterWhole, afterSign, typed}
 
 -- ---- document 01
 isScaled : ℕ → Bool
@@ -34,7 +27,7 @@ unfolding countOf thousandths round ofBits
 least-count = (refl, refl)
 
 pub minus-zero : countFor (decimal "-0") ≡ counted-as.Missing
-unfolding countFor tried counted nearestCount thousandths round ofBits toBits
+unfolding countFor ifExact counted nearestThousandth thousandths round ofBits toBits
 minus-zero = refl
 
 -- ---- typed decimals

@@ -1,15 +1,9 @@
 -- The proof of the page: each promise by its proof below. Assumes nothing.
-use mathlib.Core.Path.{_≡_, refl, ap, _∙_}
-use lib.Dec.{T, lit≤}
-use mathlib.Core.Bool.{true, false}
-use Prim.Native.Nat.{zero, suc}
-use lib.Signed.{_≤ℤ_}
-use lib.Ieee.{Float, nan, inf, fin, ofBits, fits, isNan, le, lt}
-use lib.Ieee.Positive.{positive}
+use Rattle.arithmetic.proofs.Kit.{_≡_, refl, ap, _∙_, T, lit≤, true, false, zero, suc, _≤ℤ_, Float, nan, inf, fin, ofBits, fits, isNan, le, lt, positive}
 use Rattle.antilog.specs.Log.{logWord}
 use Rattle.arithmetic.specs.Places.{places}
-use Rattle.atmosphere.specs.declared.station.Reading.{Reading}
-use Rattle.atmosphere.specs.declared.station.Reading.the-variants.{Given, FromLayer}
+use Rattle.atmosphere.specs.declared.given.Reading.{Reading}
+use Rattle.atmosphere.specs.declared.given.Reading.the-variants.{Given, FromLayer}
 use Rattle.promises.specs.Promises.{IsDouble, IsRead, Asked, Warmed, Document01, Demand3, K1, K2, K4, K5, K6, K7, K8, K9, K10, K13, K14, Near, AltitudesNear, AtThePark, Promises, K3, K11, Reports, Decimals}
 use Rattle.density_altitude.specs.Inverse.{station}
 use Rattle.density_order.specs.Order.{Demand₃}
@@ -34,18 +28,18 @@ use Rattle.atmosphere.specs.Layers.{layerAt}
 use Rattle.record_laws.proofs.Strict as strict
 use Rattle.record_laws.proofs.Converted as converted
 use Rattle.writer.proofs.ReadBack as writer
-use Rattle.conversion.proofs.ComesBack as back
-use Rattle.conversion.proofs.OnlyToCounts as counts
+use Rattle.writer.proofs.ComesBack as back
+use Rattle.writer.proofs.OnlyToCounts as counts
 use Rattle.thousandths.proofs.Laws as thousandths
 use Rattle.thousandths.proofs.Words as words
-use Rattle.load_records.proofs.Outputs as outputs
-use Rattle.load_records.proofs.Stepping as stepping
-use Rattle.bench_load.proofs.Every as load
+use Rattle.load_text.proofs.Outputs as outputs
+use Rattle.load_text.proofs.Stepping as stepping
+use Rattle.load_text.proofs.Every as load
 use Rattle.vote.proofs.Laws as vote
 use Rattle.vote.specs.Vote.{byNoMast, afterMast}
 use Rattle.refusal.specs.Outcomes.{Outcome, accepted}
-use Rattle.answered.specs.declared.judge.Figures.{Figures}
-use Rattle.square_root.specs.Sqrt.{sqrt, NearestRoot}
+use Rattle.refusal.specs.declared.judge.Figures.{Figures}
+use Rattle.antilog.specs.Sqrt.{sqrt}
 use Rattle.vote.proofs.ByMeaning as middle
 use Rattle.trim.proofs.Answer as trim
 use Rattle.trim.proofs.Places as places
@@ -54,9 +48,9 @@ use Rattle.elementary.proofs.Rises as rises
 use Rattle.elementary.proofs.ExpRises as exps
 use Rattle.roots.proofs.Entry as entry
 use Rattle.antilog.proofs.HowNear as near
-use Rattle.functions_near.proofs.FunctionsNear as functions
-use Rattle.typed_readings.proofs.Tied as tied
-use Rattle.square_root.proofs.NearestRoot as root
+use Rattle.exact.proofs.FunctionsNear as functions
+use Rattle.park_text.proofs.Tied as tied
+use Rattle.antilog.proofs.NearestRoot as root
 use Rattle.text.proofs.Samples as text
 use Rattle.decimals.proofs.Samples as rounded
 use Rattle.report.proofs.Samples as report
@@ -66,15 +60,15 @@ use Rattle.sheet.proofs.OfRecord as of-record
 use Rattle.record_laws.proofs.Pressures as pressures
 use Rattle.record_laws.proofs.Moisture as moisture
 use Rattle.record_laws.proofs.Named as named
-use Rattle.entries.specs.declared.Entry.the-variants.{Present}
-use Rattle.entries.specs.Entries.{entryOf}
+use Rattle.record.specs.declared.entries.Entry.the-variants.{Present}
+use Rattle.record.specs.Entries.{entryOf}
 use Rattle.fields.specs.Fields.{altitude}
 use Rattle.writer.specs.Records.{recordOf}
 use Rattle.mast.proofs.Order as checks
 use Rattle.sheet.proofs.Causes as sheets
 use Rattle.writer.proofs.Causes as written
-use Rattle.conversion.proofs.Causes as conversions
-use Rattle.middle.proofs.OfThree as three
+use Rattle.writer.proofs.ConversionCauses as conversions
+use Rattle.arithmetic.proofs.OfThree as three
 use Rattle.vote.proofs.Causes as votes
 use Rattle.trim.proofs.Causes as classes
 use Rattle.near.proofs.Density as densities
@@ -84,13 +78,14 @@ use Rattle.near.proofs.Exists as exists
 use Rattle.near.proofs.Records as near-records
 use Rattle.near.proofs.Paper as paper
 use Rattle.near.proofs.Rises as sound-rises
-use Rattle.altitudes_near.proofs.StandardNear as standard
-use Rattle.altitudes_near.proofs.QnhNear as reduced
-use Rattle.altitudes_near.proofs.PressureAltitudeNear as of-pressure
-use Rattle.altitudes_near.proofs.DensityAltitudeNear as of-density
-use Rattle.altitudes_near.proofs.RecordNear as altitudes-of-records
+use Rattle.near.proofs.StandardNear as standard
+use Rattle.near.proofs.QnhNear as reduced
+use Rattle.near.proofs.PressureAltitudeNear as of-pressure
+use Rattle.near.proofs.DensityAltitudeNear as of-density
+use Rattle.near.proofs.RecordNear as altitudes-of-records
 use Rattle.near.proofs.Falls as falls
 use Rattle.near.proofs.Sheets as near-sheets
+use Rattle.antilog.proofs.NearestRoot.{NearestRoot}
 
 nearest-root : (x : Float) → IsDouble x → T (positive x) → NearestRoot x (sqrt x)
 nearest-root (fin false (suc m) e) f g = root.sqrt-nearest m e f

@@ -20,106 +20,105 @@ use lib.Ieee.Scale.{finite}
 use lib.ListN.{length, take, drop, getD, replicate}
 use Prim.Native.String.{String}
 use Rattle.arithmetic.specs.Places.{places}
-use Rattle.wide.specs.Root.{root}
-use Rattle.root_tables.specs.Tables.{rootTable}
+use Rattle.roots.specs.Root.{root}
+use Rattle.roots.specs.Tables.{rootTable}
 use Rattle.roots.specs.Quick.{tableRoot, bothRoots}
 use Rattle.roots.specs.declared.quick.TableRoot.the-variants.{Root}
 use Rattle.antilog.specs.Log.{logWord}
 use Rattle.antilog.specs.Antilog.{antilogRoot, antilog}
-use Rattle.antilog.specs.HowNear.{Fraction, _isAtMost_, _isBelow_, _toThe_, twoToThe, value}
+use Rattle.arithmetic.specs.Fractions.{Fraction, _isAtMost_, _isBelow_, _toThe_, twoToThe, exactValue}
 use Rattle.elementary.specs.Exp.{exp}
-use Rattle.thousandths.specs.Thousandths.{inRange, countOf, wordOf, thousandths, countFor}
+use Rattle.thousandths.specs.Thousandths.{inRange, countOf, twosComplement, thousandths, countFor}
 use Rattle.thousandths.specs.declared.Counted.the-variants as counted
-use Rattle.atmosphere.specs.declared.station.Reading.{Reading}
-use Rattle.atmosphere.specs.declared.station.Reading.the-variants.{Given, FromLayer}
+use Rattle.atmosphere.specs.declared.given.Reading.{Reading}
+use Rattle.atmosphere.specs.declared.given.Reading.the-variants.{Given, FromLayer}
 use Rattle.atmosphere.specs.Layers.{layerAt, OnlyRange, highestUpTo, standardAir}
 use Rattle.atmosphere.specs.Station.{reducedQnh}
 use Rattle.air.specs.Matched.{densityMatchedAltitude}
-use Rattle.altitudes.specs.Altitudes.{faaDensityAltitude, pressureAltitude}
+use Rattle.atmosphere.specs.Altitudes.{faaDensityAltitude, pressureAltitude}
 use Rattle.refusal.specs.Outcomes.{Outcome, accepted, refused, _then_, _⟫_, row, numbers}
 use Rattle.refusal.specs.Causes.{ExactlyCaused, NoneHolds}
 use Rattle.density_altitude.specs.Inverse.{resolve, stationRows, station}
-use Rattle.density_order.specs.Order.{Accepted, altitude, pressure, temperature, InRange, OneMetreApart, Temperate}
+use Rattle.density_order.specs.Order.{Accepted, altitudeFound, pressureFound, temperatureFound, InRange, OneMetreApart, Temperate}
 use Rattle.density_order.specs.Rejected.{Rejected, RejectedByWarmth}
 use Rattle.proved_cases.specs.Cases.{Hold, tableOf, RefusesAlways}
-use Rattle.entries.specs.declared.Readings.{Readings}
-use Rattle.entries.specs.Entries.{entryOf, noReadings, withEntry, valueOrZero}
+use Rattle.record.specs.declared.entries.Readings.{Readings}
+use Rattle.record.specs.Entries.{entryOf, noReadings, withEntry, valueOrZero}
 use Rattle.fields.specs.Fields.{sizeOf, meanings, humidity, densityAltitude}
 use Rattle.fields.specs.Tags.{tags, Rising}
 use Rattle.record.specs.Readings.{readings, readRecord, readRows}
-use Rattle.answered.specs.declared.inverse.Station.{Station}
-use Rattle.answered.specs.declared.judge.Figures.{Figures}
+use Rattle.refusal.specs.declared.inverse.Station.{Station}
+use Rattle.refusal.specs.declared.judge.Figures.{Figures}
 use Rattle.station.specs.Figures.{shownCelsius, shownHectopascals, figuresOf}
 use Rattle.mast.specs.Judge.{resolved, readingRows, recordRows, judged, judgeBy, judge, judgeStrictly, airOutcome}
 use Rattle.mast.specs.Laws.{without}
-use Rattle.limits.specs.Checks.{has}
-use Rattle.sheet.specs.Row.{station as rowStation, rowOutcome, figuresOutcome}
-use Rattle.sheet.specs.Sheet.{celsius, rows, settingSheet, inputRows}
+use Rattle.mast.specs.Checks.{has}
+use Rattle.sheet.specs.Row.{stationOfRow as rowStation, rowOutcome, figuresOutcome}
+use Rattle.sheet.specs.Sheet.{celsiusOfRow, rows, settingSheet, sheetInputRows}
 use Rattle.sheet.specs.Laws.{HandedOut, linesRows, linesText, repeated}
 use Rattle.writer.specs.Records.{recordOf}
 use Rattle.writer.specs.Laws.{AreBytes, AreHeld}
-use Rattle.conversion.specs.Conversion.{fieldsOf, converted, lengthConverted, countRows, recordIn}
-use Rattle.conversion.specs.Laws.{AllIn}
-use Rattle.load_records.specs.SplitMix.{stateAfter, output}
-use Rattle.load_records.specs.Counts.{loadCounts, drawn}
-use Rattle.load_writer.specs.Records.{loadReadings, loadRecord}
-use Rattle.bench_load.specs.Laws.{IsOfTheLoad}
-use Rattle.resolved.specs.Resolved.{ordinary, resolvedTemperature}
+use Rattle.writer.specs.Conversion.{fieldsOf, converted, lengthConverted, countRows, recordIn, AllIn}
+use Rattle.load_text.specs.SplitMix.{stateAfter, output}
+use Rattle.load_text.specs.Counts.{loadCounts, drawn}
+use Rattle.load_text.specs.Records.{loadReadings, loadRecord}
+use Rattle.load_text.specs.Laws.{IsOfTheLoad}
+use Rattle.station.specs.Resolved.{ordinary, resolvedTemperature}
 use Rattle.vote.specs.Vote.{byMast, byNoMast, acceptedReadings, vote}
 use Rattle.vote.specs.Laws.{Accepts, SameFields, middleEntry, inHowMany}
-use Rattle.voted.specs.Fields.{voted, sharedRows}
-use Rattle.trim_change.specs.declared.changes.Start.{Start}
-use Rattle.trim.specs.Laws.{Asks, FirstToGive, NoneGives, place, nextAt}
+use Rattle.vote.specs.Fields.{voted, sharedRows}
+use Rattle.trim.specs.declared.changes.Start.{Start}
+use Rattle.trim.specs.Laws.{Asks, FirstToGive, NoneGives, place, nextFor}
 use Rattle.trim.specs.Search.{nextTrimClass, Next}
-use Rattle.trim_change.specs.declared.changes.Turn.{Turn}
-use Rattle.trim_change.specs.declared.changes.Quantity.{Quantity}
-use Rattle.trim_change.specs.declared.changes.Quantity.the-variants.{Temperature, MeasuredPressure}
-use Rattle.trim_change.specs.declared.changes.Direction.the-variants.{Up, Down}
-use Rattle.trim_change.specs.Changes.{change}
-use Rattle.trim_change.specs.declared.changes.Found.the-variants as found
+use Rattle.trim.specs.declared.changes.Turn.{Turn}
+use Rattle.trim.specs.declared.changes.Quantity.{Quantity}
+use Rattle.trim.specs.declared.changes.Quantity.the-variants.{Temperature, MeasuredPressure}
+use Rattle.trim.specs.declared.changes.Direction.the-variants.{Up, Down}
+use Rattle.trim.specs.Changes.{change}
+use Rattle.trim.specs.declared.changes.Found.the-variants as found
 use Rattle.fields.specs.Fields as meaning
-use Rattle.entries.specs.declared.Entry.the-variants.{Absent, Present}
-use Rattle.doubles.specs.Doubles.{isFinite, clampDouble}
+use Rattle.record.specs.declared.entries.Entry.the-variants.{Absent, Present}
+use Rattle.arithmetic.specs.Doubles.{isFinite, clampDouble}
 use Rattle.arithmetic.specs.Nearest.{unitsOf}
-use Rattle.square_root.specs.Sqrt.{sqrt, twiceRootSquared, twiceMidpointSquared}
+use Rattle.antilog.specs.Sqrt.{sqrt, twiceRootSquared, twiceMidpointSquared}
 use Rattle.elementary.specs.Exponents.{exponents, exponentAt, Exponent, isThree}
 use Rattle.elementary.specs.Power.{powerAt, power}
-use Rattle.functions_near.specs.FunctionsNear.{Normal, Within, raised, raisedBy, eBelow, eAbove, LnWithin}
+use Rattle.exact.specs.FunctionsNear.{Normal, InBounds, raised, raisedBy, eBelow, eAbove, LnWithin}
 use Rattle.elementary.specs.Ln.{ln2, ln}
 use Rattle.arithmetic.specs.Whole.{floorDiv}
-use Rattle.pieces.specs.Ascii.{ascii}
+use Rattle.arithmetic.specs.Ascii.{ascii}
 use Rattle.text.specs.Text.{answerText}
-use Rattle.text.specs.Samples.{bytes, fieldWith}
+use Rattle.text.specs.Samples.{bigEndian, doubleField}
 use Rattle.decimals.specs.Decimal.{decimalText}
 use Rattle.report.specs.Report.{reportText}
-use Rattle.typed.specs.Typed.{typed}
-use Rattle.typed.specs.declared.Typed.the-variants as typed-as
+use Rattle.decimals.specs.Typed.{typed}
+use Rattle.decimals.specs.declared.typed.Typed.the-variants as typed-as
 use Rattle.arithmetic.specs.Decimals.{decimal, nought, hundred, fraction}
-use Rattle.typed_readings.specs.Understood.{given, understand}
-use Rattle.typed_readings.specs.Laws.{Nearest, Typed}
-use Rattle.typed_word.specs.Word.{Says}
+use Rattle.park_text.specs.Understood.{given, understand}
+use Rattle.park_text.specs.Laws.{Nearest, Typed}
+use Rattle.park_text.specs.Word.{Says}
 use Rattle.arithmetic.specs.Operators.{_⊖_, _⊘_}
-use Rattle.moist_air.specs.MoistAir.{icePoint, capped, airDensityAt}
+use Rattle.humid_air.specs.MoistAir.{icePoint, capped, airDensityAt}
 use Rattle.humid_air.specs.Humidity.{moleFractionCelsius}
-use Rattle.atmosphere.specs.Station.{stationPressure}
+use Rattle.atmosphere.specs.Station.{resolvedStationPressure}
 use Rattle.air.specs.Station.{kelvins, pascals, atmosphere}
-use Rattle.fault.specs.Fault.{readingOf}
+use Rattle.report.specs.Fault.{readingAbout}
 use Rattle.writer.specs.Written.{lengthWritten}
-use Rattle.middle.specs.Middle as three
-use Rattle.trim_class.specs.Classes.{classDensities, classOf}
-use Rattle.saturation.specs.Saturation.{saturationPressure}
+use Rattle.arithmetic.specs.Middle as three
+use Rattle.trim.specs.Classes.{classDensities, classOf}
+use Rattle.humid_air.specs.Saturation.{saturationPressure}
 use Rattle.exact.specs.Exact.{Exact, _⊟_, _÷_, _⊞_, the, number, isNotAbove}
 use Rattle.exact.specs.Near.{IsNear, IsNearly, Between}
 use Rattle.exact.specs.Powers.{of, IsRoot}
-use Rattle.near.specs.Density.{density}
-use Rattle.near.specs.Saturation.{Saturation, pressure as pressureOf}
+use Rattle.near.specs.Density.{exactDensity}
+use Rattle.near.specs.Saturation.{Saturation, exactSaturation as pressureOf}
 use Rattle.near.specs.Sound.{squaredSpeed}
 use Rattle.near.specs.Near.{kelvin, pascal, vapour, InScope}
 use Rattle.near.specs.Paper.{IsPrinted, exactCount, FarFromEach}
-use Rattle.altitudes_near.specs.Troposphere as troposphere
-use Rattle.altitudes_near.specs.QnhNear as reduction
-use Rattle.altitudes_near.specs.PressureAltitudeNear as nws
-use Rattle.altitudes_near.specs.DensityAltitudeNear as matched
+use Rattle.near.specs.Troposphere as troposphere
+use Rattle.near.specs.Qnh as reduction
+use Rattle.near.specs.PressureAltitude as nws
+use Rattle.near.specs.DensityAltitude as matched
 
 -- a double, and a reading that is one if it is given
 abbrev pub IsDouble : Float → Type 0
@@ -155,10 +154,10 @@ pub record Document01 : Type 0 where
   -- "order per field": a refusal 6, 7 or 8 stays whatever follows
   pub nothing-after : (number : ℕ) (values : List Float) → 6 ≤ number → number ≤ 8 → (s t : List ℕ) → judge s ≡ refused number values → judge (s ++ t) ≡ refused number values
   -- what the program prints: a cut record, "an empty record is 10", the first line of 01 with 0 m, and "at 1,000 °C and 50 percent, 1013.5 hPa, 0 m: 15"
-  pub cut-record : answerText (judge (bytes 3 0x070008)) ≡ ascii "refused 5\n"
+  pub cut-record : answerText (judge (bigEndian 3 0x070008)) ≡ ascii "refused 5\n"
   pub empty-record : answerText (judge []) ≡ ascii "refused 10\n"
-  pub sea-level : take 59 (answerText (judge (bytes 11 0x0100080000000000000000))) ≡ ascii "station 0000000000000000 402E000000000000 408FAA0000000000\n"
-  pub too-hot : answerText (judge (fieldWith 1 (decimal "0") ++ fieldWith 2 (decimal "1000") ++ fieldWith 3 (decimal "1013.5") ++ fieldWith 5 (decimal "50"))) ≡ ascii "refused 15\n"
+  pub sea-level : take 59 (answerText (judge (bigEndian 11 0x0100080000000000000000))) ≡ ascii "station 0000000000000000 402E000000000000 408FAA0000000000\n"
+  pub too-hot : answerText (judge (doubleField 1 (decimal "0") ++ doubleField 2 (decimal "1000") ++ doubleField 3 (decimal "1013.5") ++ doubleField 5 (decimal "50"))) ≡ ascii "refused 15\n"
   -- "`sqrt` is correctly rounded, here too": of every other double, the point half way to it lies on its own side of the root
   pub sqrt-nearest-below : (x : Float) → IsDouble x → T (positive x) → (n : ℕ) (e : ℤ) → IsDouble (fin false n e) → unitsOf (fin false n e) < unitsOf (sqrt x)
       → twiceMidpointSquared (fin false n e) (sqrt x) < twiceRootSquared x
@@ -188,18 +187,18 @@ pub record Demand3 : Type 0 where
   -- "if d1 and d2 are accepted, then d is accepted"
   pub accepted : (t : Reading) (d₁ d d₂ : Float) → Asked t d₁ d d₂ → Accepted (station places d t)
   -- "altitude never falls and pressure never rises, from d1 to d and from d to d2"
-  pub altitude-to-d : (t : Reading) (d₁ d d₂ : Float) → Asked t d₁ d d₂ → T (le (altitude (station places d₁ t)) (altitude (station places d t)))
-  pub altitude-from-d : (t : Reading) (d₁ d d₂ : Float) → Asked t d₁ d d₂ → T (le (altitude (station places d t)) (altitude (station places d₂ t)))
-  pub pressure-to-d : (t : Reading) (d₁ d d₂ : Float) → Asked t d₁ d d₂ → T (le (pressure (station places d t)) (pressure (station places d₁ t)))
-  pub pressure-from-d : (t : Reading) (d₁ d d₂ : Float) → Asked t d₁ d d₂ → T (le (pressure (station places d₂ t)) (pressure (station places d t)))
+  pub altitude-to-d : (t : Reading) (d₁ d d₂ : Float) → Asked t d₁ d d₂ → T (le (altitudeFound (station places d₁ t)) (altitudeFound (station places d t)))
+  pub altitude-from-d : (t : Reading) (d₁ d d₂ : Float) → Asked t d₁ d d₂ → T (le (altitudeFound (station places d t)) (altitudeFound (station places d₂ t)))
+  pub pressure-to-d : (t : Reading) (d₁ d d₂ : Float) → Asked t d₁ d d₂ → T (le (pressureFound (station places d t)) (pressureFound (station places d₁ t)))
+  pub pressure-from-d : (t : Reading) (d₁ d d₂ : Float) → Asked t d₁ d d₂ → T (le (pressureFound (station places d₂ t)) (pressureFound (station places d t)))
   -- "nor does the temperature rise where none was given"
-  pub temperature-to-d : (d₁ d d₂ : Float) → Asked FromLayer d₁ d d₂ → T (le (temperature (station places d FromLayer)) (temperature (station places d₁ FromLayer)))
-  pub temperature-from-d : (d₁ d d₂ : Float) → Asked FromLayer d₁ d d₂ → T (le (temperature (station places d₂ FromLayer)) (temperature (station places d FromLayer)))
+  pub temperature-to-d : (d₁ d d₂ : Float) → Asked FromLayer d₁ d d₂ → T (le (temperatureFound (station places d FromLayer)) (temperatureFound (station places d₁ FromLayer)))
+  pub temperature-from-d : (d₁ d d₂ : Float) → Asked FromLayer d₁ d d₂ → T (le (temperatureFound (station places d₂ FromLayer)) (temperatureFound (station places d FromLayer)))
   -- "if also d1 and d2 lie in −500 to 3,000 m, at least 1 m apart, and a given temperature in −40 to 50 °C, altitude strictly rises and pressure strictly falls"
   pub altitude-strictly : (t : Reading) (d₁ d d₂ : Float) → Asked t d₁ d d₂ → InRange d₁ → InRange d₂ → OneMetreApart d₁ d₂ → Temperate t
-      → T (lt (altitude (station places d₁ t)) (altitude (station places d₂ t)))
+      → T (lt (altitudeFound (station places d₁ t)) (altitudeFound (station places d₂ t)))
   pub pressure-strictly : (t : Reading) (d₁ d d₂ : Float) → Asked t d₁ d d₂ → InRange d₁ → InRange d₂ → OneMetreApart d₁ d₂ → Temperate t
-      → T (lt (pressure (station places d₂ t)) (pressure (station places d₁ t)))
+      → T (lt (pressureFound (station places d₂ t)) (pressureFound (station places d₁ t)))
   -- "contracts reject .. an inverse echoing the height .., one set of air for all": at both ends of the ranges
   pub rejects-wrong-inverses : Rejected
 
@@ -209,23 +208,23 @@ pub record K1 : Type 0 where
   pub whole : (h p u : Float) (room : ℕ) (text : List ℕ) → settingSheet h p u room ≡ accepted text → length text ≡ 1530
   pub first-rows : (h p u : Float) (room : ℕ) (text : List ℕ) → settingSheet h p u room ≡ accepted text → (n : ℕ) → n ≤ 51 → rows h p u n ≡ accepted (take (30 * n) text)
   pub each-row : (h p u : Float) (room : ℕ) (text : List ℕ) → settingSheet h p u room ≡ accepted text → (n : ℕ) → n < 51
-      → rowOutcome h p u (celsius n) ≡ accepted (take 30 (drop (30 * n) text))
-  pub rising : (m n : ℕ) → m < n → n < 51 → T (lt (celsius m) (celsius n))
+      → rowOutcome h p u (celsiusOfRow n) ≡ accepted (take 30 (drop (30 * n) text))
+  pub rising : (m n : ℕ) → m < n → n < 51 → T (lt (celsiusOfRow m) (celsiusOfRow n))
   -- "the double's exact value rounded to nearest, halves away from zero; one that rounds to zero has no sign"
   pub halves-away : (decimalText 0 (decimal "2.5") ≡ ascii "3") × (decimalText 0 (decimal "-2.5") ≡ ascii "-3")
   pub zero-unsigned : (decimalText 1 (decimal "-0") ≡ ascii "0.0") × (decimalText 1 (decimal "-0.04") ≡ ascii "0.0")
   -- "temperature and pressure count as given, with no default band, so the 15 °C row is 15 °C": each row but row 25, of 15 °C, which is in the band, is that of
   -- the record of its altitude, temperature, humidity and measured pressure; and each row is that of such a record at sea level, where nothing is a default
-  pub record-row : (h p u : Float) (n : ℕ) → n < 51 → n ≢ 25 → NoneHolds (inputRows h p u)
-      → rowOutcome h p u (celsius n) ≡ (judged (withEntry (withEntry (withEntry (withEntry noReadings meaning.altitude h) meaning.temperature (celsius n)) humidity u) meaning.measuredPressure p) ⟫ figuresOutcome (celsius n))
-  pub sea-level-row : (h p u : Float) (n : ℕ) → n < 51 → NoneHolds (inputRows h p u)
-      → rowOutcome h p u (celsius n) ≡ (judged (withEntry (withEntry (withEntry (withEntry noReadings meaning.altitude nought) meaning.temperature (celsius n)) humidity u) meaning.measuredPressure p) ⟫ figuresOutcome (celsius n))
+  pub record-row : (h p u : Float) (n : ℕ) → n < 51 → n ≢ 25 → NoneHolds (sheetInputRows h p u)
+      → rowOutcome h p u (celsiusOfRow n) ≡ (judged (withEntry (withEntry (withEntry (withEntry noReadings meaning.altitude h) meaning.temperature (celsiusOfRow n)) humidity u) meaning.measuredPressure p) ⟫ figuresOutcome (celsiusOfRow n))
+  pub sea-level-row : (h p u : Float) (n : ℕ) → n < 51 → NoneHolds (sheetInputRows h p u)
+      → rowOutcome h p u (celsiusOfRow n) ≡ (judged (withEntry (withEntry (withEntry (withEntry noReadings meaning.altitude nought) meaning.temperature (celsiusOfRow n)) humidity u) meaning.measuredPressure p) ⟫ figuresOutcome (celsiusOfRow n))
   -- and the sheet does not depend on the altitude
   pub any-altitude : (h k p u : Float) (room : ℕ) → isFinite h ≡ true → isFinite k ≡ true → settingSheet h p u room ≡ settingSheet k p u room
   -- "16 .. checked first", "input is checked as a record's would be, row by row", "17 .. after that row's other checks": each number has exactly its cause
-  pub sheet-caused : (h p u : Float) (room : ℕ) → ExactlyCaused ((row (ltb room 1530) 16 [] ∷ inputRows h p u) ++ linesRows h p u 51) (linesText h p u 51) (settingSheet h p u room)
+  pub sheet-caused : (h p u : Float) (room : ℕ) → ExactlyCaused ((row (ltb room 1530) 16 [] ∷ sheetInputRows h p u) ++ linesRows h p u 51) (linesText h p u 51) (settingSheet h p u room)
   pub sheet-order : (h p u : Float) (room : ℕ)
-      → numbers ((row (ltb room 1530) 16 [] ∷ inputRows h p u) ++ linesRows h p u 51) ≡ 16 ∷ 11 ∷ 11 ∷ 12 ∷ 11 ∷ 13 ∷ repeated 51 (14 ∷ 15 ∷ 17 ∷ [])
+      → numbers ((row (ltb room 1530) 16 [] ∷ sheetInputRows h p u) ++ linesRows h p u 51) ≡ 16 ∷ 11 ∷ 11 ∷ 12 ∷ 11 ∷ 13 ∷ repeated 51 (14 ∷ 15 ∷ 17 ∷ [])
   -- "from 16 on a refusal hands out its number alone"
   pub refusals : (h p u : Float) (room number : ℕ) (values : List Float) → settingSheet h p u room ≡ refused number values → HandedOut number values
 
@@ -245,7 +244,7 @@ pub record K3 : Type 0 where
       → f ≡ figuresOf (record { «altitude_m» = h; temperature = resolvedTemperature (entryOf r meaning.temperature) h; pressure = Given p; «humidity_percent» = valueOrZero (entryOf r humidity) })
   -- "tag 03 and `resolve_station_pressure` go on matching the Rust": it passes its band
   pub banded : (r : Readings) (h p : Float) (f : Figures) → entryOf r meaning.altitude ≡ Present h → entryOf r meaning.stationPressure ≡ Present p → judged r ≡ accepted f
-      → f ≡ figuresOf (record { «altitude_m» = h; temperature = resolvedTemperature (entryOf r meaning.temperature) h; pressure = stationPressure p h; «humidity_percent» = valueOrZero (entryOf r humidity) })
+      → f ≡ figuresOf (record { «altitude_m» = h; temperature = resolvedTemperature (entryOf r meaning.temperature) h; pressure = resolvedStationPressure p h; «humidity_percent» = valueOrZero (entryOf r humidity) })
 
 -- ---- K4, records written, in tag order
 pub record K4 : Type 0 where
@@ -267,7 +266,7 @@ pub record K5 : Type 0 where
   pub count-gives : (x : Float) (n : ℤ) → IsDouble x → countFor x ≡ counted.Count n → T (inRange n) × (thousandths n ≡ x)
   pub count-found : (x : Float) (n : ℤ) → T (inRange n) → thousandths n ≡ x → countFor x ≡ counted.Count n
   -- "a signed count of thousandths in four bytes, two's complement", from one end of the range to the other, and "minus zero has none"
-  pub word-of-count : (n : ℤ) → T (inRange n) → wordOf n < 2 ^ 32 × (countOf (wordOf n) ≡ n)
+  pub word-of-count : (n : ℤ) → T (inRange n) → twosComplement n < 2 ^ 32 × (countOf (twosComplement n) ≡ n)
   pub greatest-count : (countOf 0x7FFFFFFF ≡ pos 2147483647) × (thousandths (pos 2147483647) ≡ decimal "2147483.647")
   pub least-count : (countOf 0x80000000 ≡ negsuc 2147483647) × (thousandths (negsuc 2147483647) ≡ decimal "-2147483.648")
   pub minus-zero : countFor (decimal "-0") ≡ counted.Missing
@@ -343,10 +342,10 @@ pub record K8 : Type 0 where
   -- "every temperature is accepted"
   pub accepted : (d t₁ t t₂ : Float) → Warmed d t₁ t t₂ → Accepted (station places d (Given t))
   -- "the resolved altitude never rises with warmth and the pressure never falls"
-  pub altitude-to-t : (d t₁ t t₂ : Float) → Warmed d t₁ t t₂ → T (le (altitude (station places d (Given t))) (altitude (station places d (Given t₁))))
-  pub altitude-from-t : (d t₁ t t₂ : Float) → Warmed d t₁ t t₂ → T (le (altitude (station places d (Given t₂))) (altitude (station places d (Given t))))
-  pub pressure-to-t : (d t₁ t t₂ : Float) → Warmed d t₁ t t₂ → T (le (pressure (station places d (Given t₁))) (pressure (station places d (Given t))))
-  pub pressure-from-t : (d t₁ t t₂ : Float) → Warmed d t₁ t t₂ → T (le (pressure (station places d (Given t))) (pressure (station places d (Given t₂))))
+  pub altitude-to-t : (d t₁ t t₂ : Float) → Warmed d t₁ t t₂ → T (le (altitudeFound (station places d (Given t))) (altitudeFound (station places d (Given t₁))))
+  pub altitude-from-t : (d t₁ t t₂ : Float) → Warmed d t₁ t t₂ → T (le (altitudeFound (station places d (Given t₂))) (altitudeFound (station places d (Given t))))
+  pub pressure-to-t : (d t₁ t t₂ : Float) → Warmed d t₁ t t₂ → T (le (pressureFound (station places d (Given t₁))) (pressureFound (station places d (Given t))))
+  pub pressure-from-t : (d t₁ t t₂ : Float) → Warmed d t₁ t t₂ → T (le (pressureFound (station places d (Given t))) (pressureFound (station places d (Given t₂))))
   -- "`faa_rule_density_altitude_ft` never falls with temperature, for finite temperatures and a finite pressure of at least 0"
   pub faa-never-falls : (p t₁ t₂ : Float) → IsDouble p → IsDouble t₁ → IsDouble t₂ → T (isFinite p) → T (le nought p) → T (isFinite t₁) → T (isFinite t₂) → T (le t₁ t₂)
       → T (le (faaDensityAltitude places p t₁) (faaDensityAltitude places p t₂))
@@ -370,7 +369,7 @@ pub record K9 : Type 0 where
       → (entryOf r meaning.temperature ≡ Absent) ⊎ (entryOf r meaning.measuredPressure ≡ Absent) → nextTrimClass bytes ≡ refused 22 []
   -- each number has exactly its cause: those of the record, then 22
   pub trim-caused : (bytes : List ℕ) → let r = readings bytes in
-      ExactlyCaused (recordRows false bytes ++ row (not (has r meaning.temperature) || not (has r meaning.measuredPressure)) 22 [] ∷ []) (nextAt bytes) (nextTrimClass bytes)
+      ExactlyCaused (recordRows false bytes ++ row (not (has r meaning.temperature) || not (has r meaning.measuredPressure)) 22 [] ∷ []) (nextFor bytes) (nextTrimClass bytes)
   -- "for a reading with temperature and measured pressure": it is answered, never refused
   pub answered : (bytes : List ℕ) (f : Figures) (t p : Float) → judge bytes ≡ accepted f → entryOf (readings bytes) meaning.temperature ≡ Present t
       → entryOf (readings bytes) meaning.measuredPressure ≡ Present p → (n : Next) × (nextTrimClass bytes ≡ accepted n)
@@ -420,20 +419,20 @@ pub record K13 : Type 0 where
 -- ---- K14, how near is near: "over any number of places from 1 to 60"
 pub record K14 : Type 0 where
   -- "2 to the L is at most x to the 2^60, and that is less than 2 to the (L + 2)"
-  pub word-at-most : (n : ℕ) → 1 ≤ n → n ≤ 60 → (x : Float) → IsDouble x → T (positive x) → twoToThe (logWord n x) isAtMost value x toThe (2 ^ n)
-  pub word-near : (n : ℕ) → 1 ≤ n → n ≤ 60 → (x : Float) → IsDouble x → T (positive x) → value x toThe (2 ^ n) isBelow twoToThe (logWord n x +ℤ pos 2)
+  pub word-at-most : (n : ℕ) → 1 ≤ n → n ≤ 60 → (x : Float) → IsDouble x → T (positive x) → twoToThe (logWord n x) isAtMost exactValue x toThe (2 ^ n)
+  pub word-near : (n : ℕ) → 1 ≤ n → n ≤ 60 → (x : Float) → IsDouble x → T (positive x) → exactValue x toThe (2 ^ n) isBelow twoToThe (logWord n x +ℤ pos 2)
   -- "Y to the 2^60 is at most 2 to the (62 × 2^60 + f), and that is less than (Y + 4) to the 2^60"
   pub antilog-at-most : (n : ℕ) → 1 ≤ n → n ≤ 60 → (f : ℕ) → f < 2 ^ n → antilogRoot n f ^ 2 ^ n ≤ 2 ^ (62 * 2 ^ n + f)
   pub antilog-near : (n : ℕ) → 1 ≤ n → n ≤ 60 → (f : ℕ) → f < 2 ^ n → 2 ^ (62 * 2 ^ n + f) < (antilogRoot n f + 4) ^ 2 ^ n
   -- fewer than two units, and than four, are too few
-  pub word-needs-two : let x = fin false 3614860327554031 (pos 1) in (value x toThe (2 ^ 12) isBelow twoToThe (logWord 12 x +ℤ pos 1)) → ⊥
+  pub word-needs-two : let x = fin false 3614860327554031 (pos 1) in (exactValue x toThe (2 ^ 12) isBelow twoToThe (logWord 12 x +ℤ pos 1)) → ⊥
   pub antilog-needs-two : 2 ^ (62 * 2 ^ 4 + 7) < (antilogRoot 4 7 + 1) ^ 2 ^ 4 → ⊥
   -- and what it makes of the 27 powers, in units of 2^-60: half a unit in the double's last place is 2^7 of them
   pub power-near : (i : ℕ) → i < 27 → (x : Float) → IsDouble x → T (positive x) → Normal (powerAt 60 i x)
-      → Within (2 ^ 7 + 5 + 2 * (exponentAt i .magnitude / 2 ^ 58)) 60 (powerAt 60 i x) (2 ^ 58) (raised (exponentAt i) (value x))
+      → InBounds (2 ^ 7 + 5 + 2 * (exponentAt i .magnitude / 2 ^ 58)) 60 (powerAt 60 i x) (2 ^ 58) (raised (exponentAt i) (exactValue x))
   -- of exp, for every b that lies as near to e as 21 decimals tell
   pub exp-near : (b : Fraction) → 0 < b .under → eBelow isAtMost b → b isAtMost eAbove → (x : Float) → IsDouble x → T (finite x) → Normal (exp 60 x)
-      → Within (2 ^ 7 + 6 + num x / (4 * den x)) 60 (exp 60 x) (den x) (raisedBy x b)
+      → InBounds (2 ^ 7 + 6 + num x / (4 * den x)) 60 (exp 60 x) (den x) (raisedBy x b)
   -- and of ln, which rounds F / 2^60
   pub ln-near : (b : Fraction) → 0 < b .under → eBelow isAtMost b → b isAtMost eAbove → (x : Float) → IsDouble x → T (positive x)
       → LnWithin 60 b x (floorDiv (logWord 60 x *ℤ pos ln2) (2 ^ 62))
@@ -444,9 +443,9 @@ pub record K14 : Type 0 where
 pub record Near : Type 0 where
   -- the density, CIPM-2007, equation (1), with the saturation pressure of the IAPWS release: within 2^-45 kg/m³, which is 2.8e-14, and of dry air 2^-47
   pub density-near : (altitude : Float) (t₀ p₀ : Reading) (h : Float) → let t = shownCelsius t₀ altitude in let p = shownHectopascals p₀ altitude in InScope t p h → (s : Saturation (kelvin t))
-      → IsNear 45 (atmosphere places altitude t₀ p₀ h .«density_kg_m3») (density (pascal p) (kelvin t) (vapour t p h s))
+      → IsNear 45 (atmosphere places altitude t₀ p₀ h .«density_kg_m3») (exactDensity (pascal p) (kelvin t) (vapour t p h s))
   pub dry-density-near : (altitude : Float) (t₀ p₀ : Reading) → let t = shownCelsius t₀ altitude in let p = shownHectopascals p₀ altitude in InScope t p nought
-      → IsNear 47 (atmosphere places altitude t₀ p₀ nought .«density_kg_m3») (density (pascal p) (kelvin t) (the "0"))
+      → IsNear 47 (atmosphere places altitude t₀ p₀ nought .«density_kg_m3») (exactDensity (pascal p) (kelvin t) (the "0"))
   -- the mole fraction of water vapour, x_v = h f p_sv / p: within 2^-44
   pub fraction-near : (altitude : Float) (t₀ p₀ : Reading) (h : Float) → let t = shownCelsius t₀ altitude in let p = shownHectopascals p₀ altitude in InScope t p h → (s : Saturation (kelvin t))
       → IsNear 44 (atmosphere places altitude t₀ p₀ h .«vapor_mole_fraction») (vapour t p h s)
@@ -462,7 +461,7 @@ pub record Near : Type 0 where
   pub speed-exists : (t p h : Float) → InScope t p h → (s : Saturation (kelvin t)) → (c : Fraction) × IsRoot c (squaredSpeed (kelvin t) (vapour t p h s))
   -- so the figures of every accepted record that shows a temperature and a pressure of these ranges, measured, of a QNH or of the standard atmosphere
   pub record-density : (r : Readings) (f : Figures) → judged r ≡ accepted f → let t = f .«temperature_c» in let p = f .«pressure_hpa» in let h = resolved r .«humidity_percent» in InScope t p h
-      → (s : Saturation (kelvin t)) → IsNear 45 (f .«density_kg_m3») (density (pascal p) (kelvin t) (vapour t p h s))
+      → (s : Saturation (kelvin t)) → IsNear 45 (f .«density_kg_m3») (exactDensity (pascal p) (kelvin t) (vapour t p h s))
   pub record-fraction : (r : Readings) (f : Figures) → judged r ≡ accepted f → let t = f .«temperature_c» in let p = f .«pressure_hpa» in let h = resolved r .«humidity_percent» in InScope t p h
       → (s : Saturation (kelvin t)) → IsNear 44 (f .«vapor_mole_fraction») (vapour t p h s)
   pub record-sound : (r : Readings) (f : Figures) → judged r ≡ accepted f → let t = f .«temperature_c» in let p = f .«pressure_hpa» in let h = resolved r .«humidity_percent» in InScope t p h
@@ -472,7 +471,7 @@ pub record Near : Type 0 where
   pub printed-near : (j k : ℕ) (x : Float) (X : Exact) → IsDouble x → IsNear k x X → IsPrinted j k (decimalText j x) X
   -- the trim class is that of the exact density, the count of the limits at or below it, unless it lies within 2^-45 kg/m³ of a limit
   pub class-near : (r : Readings) (f : Figures) → judged r ≡ accepted f → let t = f .«temperature_c» in let p = f .«pressure_hpa» in let h = resolved r .«humidity_percent» in InScope t p h
-      → (s : Saturation (kelvin t)) → let ρ = density (pascal p) (kelvin t) (vapour t p h s) in FarFromEach 45 ρ classDensities → classOf r ≡ accepted (exactCount classDensities ρ)
+      → (s : Saturation (kelvin t)) → let ρ = exactDensity (pascal p) (kelvin t) (vapour t p h s) in FarFromEach 45 ρ classDensities → classOf r ≡ accepted (exactCount classDensities ρ)
   -- the root of a greater number is no less, and so the speed of sound in dry air never falls where the temperature rises, at any two altitudes and pressures
   pub sqrt-rises : (x y : Float) → IsDouble x → IsDouble y → T (positive x) → T (positive y) → T (le x y) → T (le (sqrt x) (sqrt y))
   pub dry-sound-rises : (altitude altitude' t u p q : Float) → InScope t p nought → InScope u q nought → T (le t u)
@@ -481,41 +480,41 @@ pub record Near : Type 0 where
   pub dry-density-falls : (altitude altitude' t u p : Float) → InScope t p nought → InScope u p nought → T (isNotAbove (number t ⊞ the "1") (number u))
       → T (lt (atmosphere places altitude' (Given u) (Given p) nought .«density_kg_m3») (atmosphere places altitude (Given t) (Given p) nought .«density_kg_m3»))
   pub dry-sheet-falls : (altitude p : Float) → Between (decimal "500") (decimal "1100") p → (m n : ℕ) → m < n → n < 51
-      → T (lt (figuresOf (rowStation altitude p nought (celsius n)) .«density_kg_m3») (figuresOf (rowStation altitude p nought (celsius m)) .«density_kg_m3»))
+      → T (lt (figuresOf (rowStation altitude p nought (celsiusOfRow n)) .«density_kg_m3») (figuresOf (rowStation altitude p nought (celsiusOfRow m)) .«density_kg_m3»))
 
 -- ---- how near the standard atmosphere, the pressure of a QNH and the altitudes are to their formulas, in the same way; powers are no fractions either
 pub record AltitudesNear : Type 0 where
   -- the standard temperature, ICAO Doc 7488, T = T_b + β (H - H_b) with H = r h / (r + h): within 2^-42 K, which is 2.3e-13, in K and as it is shown
   pub standard-temperature : (h : Float) → Between (decimal "-500") (decimal "11000") h
-      → IsNear 42 (standardAir places h .«temperature_k») (troposphere.temperature (number h)) × IsNear 42 (shownCelsius FromLayer h) (troposphere.temperature (number h) ⊟ the "273.15")
+      → IsNear 42 (standardAir places h .«temperature_k») (troposphere.exactTemperature (number h)) × IsNear 42 (shownCelsius FromLayer h) (troposphere.exactTemperature (number h) ⊟ the "273.15")
   -- the standard pressure, p = p_b (1 + β / T_b (H - H_b)) ^ (-g₀ / (β R)): within 2^-31 Pa, which is 4.7e-10, and as it is shown within 2^-37 hPa
   pub standard-pressure : (h : Float) → Between (decimal "-500") (decimal "11000") h → (p : troposphere.PressureRatio (number h))
-      → IsNear 31 (standardAir places h .«pressure_pa») (troposphere.pressure p) × IsNear 37 (shownHectopascals FromLayer h) (troposphere.pressure p ÷ the "100")
+      → IsNear 31 (standardAir places h .«pressure_pa») (troposphere.exactPressure p) × IsNear 37 (shownHectopascals FromLayer h) (troposphere.exactPressure p ÷ the "100")
   -- up to 5,000 m the standard air lies in these ranges
   pub standard-in-scope : (altitude h : Float) → Between (decimal "-500") (decimal "5000") altitude → Between (decimal "0") (decimal "100") h → InScope (shownCelsius FromLayer altitude) (shownHectopascals FromLayer altitude) h
   -- a QNH reduced to the station, QNH (1 + (L H / T0) (P0 / QNH) ^ n) ^ (1 / n) with n = -L R / g: within 2^-37 hPa, which is 7.3e-12
-  pub qnh-near : (qnh h : Float) → Between (decimal "500") (decimal "1100") qnh → Between (decimal "-500") (decimal "5000") h → (r : reduction.Reduction (number qnh) (number h)) → IsNear 37 (reducedQnh places qnh h) (reduction.station r)
+  pub qnh-near : (qnh h : Float) → Between (decimal "500") (decimal "1100") qnh → Between (decimal "-500") (decimal "5000") h → (r : reduction.Reduction (number qnh) (number h)) → IsNear 37 (reducedQnh places qnh h) (reduction.stationHpa r)
   -- the pressure altitude, National Weather Service, 145366.45 ft (1 - (p / 1013.25) ^ 0.190284): within 2^-36 m, which is 1.5e-11
-  pub pressure-altitude-near : (p : Float) → Between (decimal "500") (decimal "1100") p → (r : nws.RaisedPressure (number p)) → IsNear 36 (pressureAltitude places p) (nws.nwsAltitude r)
+  pub pressure-altitude-near : (p : Float) → Between (decimal "500") (decimal "1100") p → (r : nws.RaisedPressure (number p)) → IsNear 36 (pressureAltitude places p) (nws.exactNwsAltitude r)
   -- the density-matched altitude, T_0 / -β (1 - (ρ / ρ_0) ^ (1 / n)) with n = -g₀ / (β R) - 1, at the exact density: within 2^-30 m, which is 9.3e-10
-  pub density-altitude-near : (t p h : Float) → InScope t p h → (s : Saturation (kelvin t)) (r : matched.RaisedDensity (matched.airDensity t p h s)) → IsNear 30 (densityMatchedAltitude places t p h) (matched.matchedAltitude r)
+  pub density-altitude-near : (t p h : Float) → InScope t p h → (s : Saturation (kelvin t)) (r : matched.RaisedDensity (matched.exactAirDensity t p h s)) → IsNear 30 (densityMatchedAltitude places t p h) (matched.matchedAltitude r)
   -- there are such fractions everywhere
   pub pressure-ratio-exists : (h : Float) → Between (decimal "-500") (decimal "11000") h → troposphere.PressureRatio (number h)
   pub reduction-exists : (qnh h : Float) → Between (decimal "500") (decimal "1100") qnh → Between (decimal "-500") (decimal "5000") h → reduction.Reduction (number qnh) (number h)
   pub raised-pressure-exists : (p : Float) → Between (decimal "500") (decimal "1100") p → nws.RaisedPressure (number p)
-  pub raised-density-exists : (t p h : Float) → InScope t p h → (s : Saturation (kelvin t)) → matched.RaisedDensity (matched.airDensity t p h s)
+  pub raised-density-exists : (t p h : Float) → InScope t p h → (s : Saturation (kelvin t)) → matched.RaisedDensity (matched.exactAirDensity t p h s)
   -- so every accepted record whose temperature or pressure comes from the layer
   pub record-temperature : (r : Readings) (f : Figures) → judged r ≡ accepted f → resolved r .temperature ≡ FromLayer → let h = f .«altitude_m» in Between (decimal "-500") (decimal "11000") h
-      → IsNear 42 (f .«temperature_c») (troposphere.temperature (number h) ⊟ the "273.15")
+      → IsNear 42 (f .«temperature_c») (troposphere.exactTemperature (number h) ⊟ the "273.15")
   pub record-pressure : (r : Readings) (f : Figures) → judged r ≡ accepted f → resolved r .pressure ≡ FromLayer → let h = f .«altitude_m» in Between (decimal "-500") (decimal "11000") h → (p : troposphere.PressureRatio (number h))
-      → IsNear 37 (f .«pressure_hpa») (troposphere.pressure p ÷ the "100")
+      → IsNear 37 (f .«pressure_hpa») (troposphere.exactPressure p ÷ the "100")
   -- or has a QNH, and the altitudes of every one
   pub record-qnh : (r : Readings) (f : Figures) → judged r ≡ accepted f → (q : Float) → entryOf r meaning.qnh ≡ Present q → let h = f .«altitude_m» in Between (decimal "500") (decimal "1100") q → Between (decimal "-500") (decimal "5000") h
-      → (p : reduction.Reduction (number q) (number h)) → IsNear 37 (f .«pressure_hpa») (reduction.station p)
+      → (p : reduction.Reduction (number q) (number h)) → IsNear 37 (f .«pressure_hpa») (reduction.stationHpa p)
   pub record-pressure-altitude : (r : Readings) (f : Figures) → judged r ≡ accepted f → Between (decimal "500") (decimal "1100") (f .«pressure_hpa») → (p : nws.RaisedPressure (number (f .«pressure_hpa»)))
-      → IsNear 36 (f .«pressure_altitude_m») (nws.nwsAltitude p)
+      → IsNear 36 (f .«pressure_altitude_m») (nws.exactNwsAltitude p)
   pub record-density-altitude : (r : Readings) (f : Figures) → judged r ≡ accepted f → let t = f .«temperature_c» in let p = f .«pressure_hpa» in let h = resolved r .«humidity_percent» in InScope t p h
-      → (s : Saturation (kelvin t)) (x : matched.RaisedDensity (matched.airDensity t p h s)) → IsNear 30 (f .«density_matched_altitude_m») (matched.matchedAltitude x)
+      → (s : Saturation (kelvin t)) (x : matched.RaisedDensity (matched.exactAirDensity t p h s)) → IsNear 30 (f .«density_matched_altitude_m») (matched.matchedAltitude x)
 
 -- ---- typed at the park
 pub record AtThePark : Type 0 where
@@ -533,11 +532,11 @@ pub record AtThePark : Type 0 where
 -- ---- the report of refused readings: the reading that it names
 pub record Reports : Type 0 where
   -- "number, value": it is the one whose value the refusal hands out first
-  pub named : (r : Readings) (number : ℕ) (v : Float) (values : List Float) → judged r ≡ refused number (v ∷ values) → entryOf r (readingOf r number) ≡ Present v
+  pub named : (r : Readings) (number : ℕ) (v : Float) (values : List Float) → judged r ≡ refused number (v ∷ values) → entryOf r (readingAbout r number) ≡ Present v
   -- of 1 and 4 the density altitude, of 2 and 3 the temperature, of 13 the humidity; of 11 and 12 one of those that they check
-  pub named-alone : (r : Readings) → (readingOf r 1 ≡ densityAltitude) × (readingOf r 2 ≡ meaning.temperature) × (readingOf r 3 ≡ meaning.temperature) × (readingOf r 4 ≡ densityAltitude) × (readingOf r 13 ≡ humidity)
-  pub named-11 : (r : Readings) → List·Memᴰ (readingOf r 11) (meaning.altitude ∷ meaning.stationPressure ∷ meaning.qnh ∷ humidity ∷ meaning.measuredPressure ∷ [])
-  pub named-12 : (r : Readings) → List·Memᴰ (readingOf r 12) (meaning.stationPressure ∷ meaning.qnh ∷ meaning.measuredPressure ∷ [])
+  pub named-alone : (r : Readings) → (readingAbout r 1 ≡ densityAltitude) × (readingAbout r 2 ≡ meaning.temperature) × (readingAbout r 3 ≡ meaning.temperature) × (readingAbout r 4 ≡ densityAltitude) × (readingAbout r 13 ≡ humidity)
+  pub named-11 : (r : Readings) → List·Memᴰ (readingAbout r 11) (meaning.altitude ∷ meaning.stationPressure ∷ meaning.qnh ∷ humidity ∷ meaning.measuredPressure ∷ [])
+  pub named-12 : (r : Readings) → List·Memᴰ (readingAbout r 12) (meaning.stationPressure ∷ meaning.qnh ∷ meaning.measuredPressure ∷ [])
 
 -- ---- the decimals of the definitions, as in `decimal "287.0531"`
 pub record Decimals : Type 0 where

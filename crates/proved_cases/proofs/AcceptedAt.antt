@@ -1,14 +1,14 @@
 -- Density altitudes and temperatures that the inverse accepts: demand 3 and request K8 are asked of them. Each computes. Assumes nothing.
-use lib.Ieee.{Float, ofBits, neg, add, sub, mul, div, lt, le}
+use Rattle.arithmetic.proofs.Kit.{Float, ofBits, neg, add, sub, mul, div, lt, le}
 use Rattle.arithmetic.specs.Places.{places}
 use Rattle.arithmetic.specs.Decimals.{decimal}
 use Rattle.antilog.specs.Log.{wordOfUnits}
 use Rattle.antilog.specs.Antilog.{antilogRoot}
 use Rattle.elementary.specs.Exponents.{exponents}
 use Rattle.elementary.specs.Power.{power, powerAt}
-use Rattle.doubles.specs.Doubles.{absDouble, isFinite}
-use Rattle.atmosphere.specs.declared.station.Reading.{Reading}
-use Rattle.atmosphere.specs.declared.station.Reading.the-variants.{Given, FromLayer}
+use Rattle.arithmetic.specs.Doubles.{absDouble, isFinite}
+use Rattle.atmosphere.specs.declared.given.Reading.{Reading}
+use Rattle.atmosphere.specs.declared.given.Reading.the-variants.{Given, FromLayer}
 use Rattle.atmosphere.specs.Layers.{standardAir}
 use Rattle.density_altitude.specs.Inverse.{station}
 use Rattle.density_order.specs.Order.{Accepted}

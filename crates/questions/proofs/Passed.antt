@@ -1,16 +1,6 @@
 -- A text is passed byte by byte: what is left to look at after one byte more. Assumes nothing.
-use mathlib.Core.Path.{_≡_}
-use mathlib.Core.Bool.{_&&_}
-use mathlib.Core.List.{List}
-use Prim.Native.Nat.{ℕ, _+_, _*_, _%_, _<_, _^_}
-use native.Mathlib.Nat.{pow-suc, pow-le-pow-right, lt-of-lt-of-le, mod-lt}
-use native.Mathlib.Numerals.{add-one}
-use native.Mathlib.Omega.{arith}
-use lib.Arith.{digits-lt}
-use lib.Dec.{ltb, lit<}
-use lib.ListN.{length, getD, drop}
-use lib.Seq.{drop-cons}
-use Rattle.questions.specs.Digits.{digitOf, areHex, hexFrom, _⟫_, withDigit, numberFrom}
+use Rattle.arithmetic.proofs.Kit.{_≡_, _&&_, List, ℕ, _+_, _*_, _%_, _<_, _^_, pow-suc, pow-le-pow-right, lt-of-lt-of-le, mod-lt, add-one, arith, digits-lt, ltb, lit<, length, getD, drop, drop-cons}
+use Rattle.questions.specs.Digits.{digitOf, areHex, hexFrom, _⟫_, withDigit, decimalFrom}
 
 module _ (s : List ℕ) (i : ℕ) (h : i < length s) where
   pub hex-passed : areHex (drop i s) ≡ (ltb (digitOf (getD s i 0)) 16 && areHex (drop (i + 1) s))
@@ -21,8 +11,8 @@ module _ (s : List ℕ) (i : ℕ) (h : i < length s) where
   unfolding hexFrom
   word-passed v = rw (add-one, drop-cons s i 0)
 
-  pub number-passed : (v : ℕ) → numberFrom v (drop i s) ≡ (withDigit v (getD s i 0) ⟫ (λ (w : ℕ). numberFrom w (drop (i + 1) s)))
-  unfolding numberFrom
+  pub number-passed : (v : ℕ) → decimalFrom v (drop i s) ≡ (withDigit v (getD s i 0) ⟫ (λ (w : ℕ). decimalFrom w (drop (i + 1) s)))
+  unfolding decimalFrom
   number-passed v = rw (add-one, drop-cons s i 0)
 
 -- a word of fewer than sixteen digits has room for one more

@@ -4,11 +4,11 @@ use mathlib.Core.List.{List}
 use lib.Ieee.{Float, binary64, ofBits}
 use Rattle.questions.specs.declared.digits.Number.{Number}
 use Rattle.questions.specs.declared.digits.Number.the-variants.{Of, Nothing}
-use Rattle.questions.specs.Digits.{wordIn, numberIn}
+use Rattle.questions.specs.Digits.{hexNumber, numberIn}
 
 -- every NaN's pattern is the one NaN
 abbrev pub doubleIn : List ℕ → Float
-doubleIn w = ofBits binary64 (wordIn w)
+doubleIn w = ofBits binary64 (hexNumber w)
 
 -- 0 where there is none
 abbrev pub numberFound : Number → ℕ

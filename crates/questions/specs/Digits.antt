@@ -1,10 +1,10 @@
 -- Digits: hex digits of either case, the bytes and the words that they spell, and decimal numbers. Definitions only.
-use Prim.Native.Nat.{ℕ, zero, suc, _+_, _-_, _*_, _/_, _%_, _^_, _≤_, min}
-use mathlib.Core.Path.{_≡_}
+use Prim.Native.Nat.{ℕ, _+_, _-_, _*_, _/_, _%_, _^_, min}
 use mathlib.Core.Bool.{Bool, true, _&&_, cond}
-use mathlib.Core.List.{List, [], _∷_, _++_}
+use mathlib.Core.List.{List, [], _∷_}
 use lib.Dec.{leb, ltb}
-use lib.ListN.{length, getD, take}
+use lib.ListN.{length, getD}
+use Rattle.pages.specs.Pages.{upTo}
 use Rattle.questions.specs.declared.digits.Number.{Number}
 use Rattle.questions.specs.declared.digits.Number.the-variants.{Of, Nothing}
 
@@ -28,27 +28,16 @@ unfoldable pub hexFrom : ℕ → List ℕ → ℕ
 hexFrom v [] = v
 hexFrom v (b ∷ s) = hexFrom (v * 16 + digitOf b % 16) s
 
-unfoldable pub wordIn : List ℕ → ℕ
-wordIn s = cond (leb (length s) 16) (hexFrom 0 s) 0
+unfoldable pub hexNumber : List ℕ → ℕ
+hexNumber s = cond (leb (length s) 16) (hexFrom 0 s) 0
 
 -- ---- bytes, two digits each
 abbrev pub byteAt : List ℕ → ℕ → ℕ
 byteAt s i = digitOf (getD s (2 * i) 0) % 16 * 16 + digitOf (getD s (2 * i + 1) 0) % 16
 
--- f 0, f 1, .., f (n - 1)
-unfoldable pub upTo : (ℕ → ℕ) → ℕ → List ℕ
-upTo f zero = []
-upTo f (suc n) = upTo f n ++ (f n ∷ [])
-
 -- those that there is room for
 unfoldable pub bytesIn : ℕ → List ℕ → List ℕ
 bytesIn room s = upTo (byteAt s) (min (length s / 2) room)
-
--- the first n places of a buffer hold the bytes; how many these are is said twice, as lending them asks it
-pub record Spelled (bytes buffer : List ℕ) (n : ℕ) : Type 0 where
-  pub text : take n buffer ≡ bytes
-  pub within : n ≤ length buffer
-  pub counted : n ≡ length (take n buffer)
 
 -- ---- decimal numbers below 2 ^ 64
 infixr 20 _⟫_
@@ -59,11 +48,11 @@ Nothing ⟫ next = Nothing
 abbrev pub withDigit : ℕ → ℕ → Number
 withDigit v b = cond (leb 48 b && leb b 57 && ltb (v * 10 + (b - 48)) (2 ^ 64)) (Of (v * 10 + (b - 48))) Nothing
 
-unfoldable pub numberFrom : ℕ → List ℕ → Number
-numberFrom v [] = Of v
-numberFrom v (b ∷ s) = withDigit v b ⟫ (λ w. numberFrom w s)
+unfoldable pub decimalFrom : ℕ → List ℕ → Number
+decimalFrom v [] = Of v
+decimalFrom v (b ∷ s) = withDigit v b ⟫ (λ w. decimalFrom w s)
 
 -- one digit at least
 unfoldable pub numberIn : List ℕ → Number
 numberIn [] = Nothing
-numberIn (b ∷ s) = numberFrom 0 (b ∷ s)
+numberIn (b ∷ s) = decimalFrom 0 (b ∷ s)

@@ -5,13 +5,13 @@ use mathlib.Core.Bool.{Bool, true, false, _&&_, _||_, cond}
 use mathlib.Core.List.{List, [], _∷_, _++_}
 use lib.Dec.{eqb, ltb}
 use lib.ListN.{length, getD}
-use Rattle.pieces.specs.Ascii.{ascii}
-use Rattle.pieces.specs.Characters.{same}
+use Rattle.arithmetic.specs.Ascii.{ascii}
+use Rattle.pages.specs.Characters.{same}
 use Rattle.questions.specs.declared.digits.Number.{Number}
 use Rattle.questions.specs.declared.digits.Number.the-variants as number
 use Rattle.questions.specs.declared.forms.Given.{Given}
 use Rattle.questions.specs.declared.forms.Given.the-variants.{Word, Absent}
-use Rattle.questions.specs.Digits.{areHex, wordIn, numberIn}
+use Rattle.questions.specs.Digits.{areHex, hexNumber, numberIn}
 
 -- ---- one argument
 abbrev pub isWord : List ℕ → Bool
@@ -22,7 +22,7 @@ abbrev pub isNone : List ℕ → Bool
 isNone w = same w (ascii "none") || isWord w
 
 unfoldable pub givenIn : List ℕ → Given
-givenIn w = cond (same w (ascii "none")) Absent (Word (wordIn w))
+givenIn w = cond (same w (ascii "none")) Absent (Word (hexNumber w))
 
 -- bytes of two hex digits each, one at least, or `-` for the empty record
 abbrev pub isRecord : List ℕ → Bool

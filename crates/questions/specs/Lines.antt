@@ -6,8 +6,8 @@ use mathlib.Core.List.{List}
 use lib.Dec.{ltb, eqb}
 use lib.ListN.{length, getD, take}
 use Rattle.bytes.specs.Bytes.{indexOf}
-use Rattle.questions.specs.declared.lines.Found.{Found}
-use Rattle.questions.specs.declared.lines.Found.the-variants.{Line, Nothing}
+use Rattle.questions.specs.declared.line_ends.Found.{Found}
+use Rattle.questions.specs.declared.line_ends.Found.the-variants.{Line, Nothing}
 
 -- the end of a line whose newline, or the input's end, is at e
 abbrev pub beforeReturn : List ℕ → ℕ → ℕ

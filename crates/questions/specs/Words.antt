@@ -7,16 +7,16 @@ use lib.Dec.{eqb}
 use lib.ListN.{length, getD, drop}
 
 -- words with a byte before them: a blank ends a word of no bytes
-abbrev pub before : Bool → ℕ → List (List ℕ) → List (List ℕ)
-before true b ws = [] ∷ ws
-before false b [] = (b ∷ []) ∷ []
-before false b (w ∷ ws) = (b ∷ w) ∷ ws
+abbrev pub beforePart : Bool → ℕ → List (List ℕ) → List (List ℕ)
+beforePart true b ws = [] ∷ ws
+beforePart false b [] = (b ∷ []) ∷ []
+beforePart false b (w ∷ ws) = (b ∷ w) ∷ ws
 
-unfoldable pub words : List ℕ → List (List ℕ)
-words [] = [] ∷ []
-words (b ∷ s) = before (eqb b 32) b (words s)
+unfoldable pub lineParts : List ℕ → List (List ℕ)
+lineParts [] = [] ∷ []
+lineParts (b ∷ s) = beforePart (eqb b 32) b (lineParts s)
 
 -- word i begins at position `at` of s, or s ends there where it has no such word
-pub record Starts (s : List ℕ) (i at : ℕ) : Type 0 where
+pub record PartStarts (s : List ℕ) (i at : ℕ) : Type 0 where
   pub within : at ≤ length s
-  pub first : getD (words (drop at s)) 0 [] ≡ getD (words s) i []
+  pub first : getD (lineParts (drop at s)) 0 [] ≡ getD (lineParts s) i []

@@ -2,7 +2,8 @@
 ghost use mathlib.Core.Path.{_≡_};
 ghost use Prim.Native.Nat.{_/_, min};
 ghost use lib.ListN.{length};
-ghost use Rattle.questions.specs.Digits.{digitOf, areHex, wordIn, bytesIn, Spelled, withDigit, numberIn};
+ghost use Rattle.questions.specs.Digits.{digitOf, areHex, hexNumber, bytesIn, withDigit, numberIn};
+ghost use Rattle.pages.specs.Pages.{Holds};
 
 // A hex digit's value, and 16 for any other byte.
 fn digit(b: u8) -> u8
@@ -49,7 +50,7 @@ fn wide(x: u8) -> u64
 // The number that sixteen hex digits at most spell, and 0 where there are more. The text is left as it
 // was.
 pub fn word_in(text: &[u8]) -> u64
-    ensures answered { λ r. ⌜ r ≡ wordIn (now (text .entry)) ⌝ }
+    ensures answered { λ r. ⌜ r ≡ hexNumber (now (text .entry)) ⌝ }
     ensures kept { λ _. ⌜ now (text .exit) ≡ now (text .entry) ⌝ }
 {
     if text.len() > 16 {
@@ -75,7 +76,7 @@ fn bytes_in(digits: usize, room: usize) -> usize
 // The bytes that a text spells, two hex digits each, at the start of the buffer, as many as it has room
 // for; how many these are. The text is left as it was.
 pub fn read_bytes(text: &[u8], out: &mut [u8]) -> usize
-    ensures read { λ r. ⌜ Spelled (bytesIn (length (now (out .entry))) (now (text .entry))) (now (out .exit)) r ⌝ }
+    ensures read { λ r. ⌜ Holds (bytesIn (length (now (out .entry))) (now (text .entry))) (now (out .exit)) r ⌝ }
     ensures kept { λ _. ⌜ now (text .exit) ≡ now (text .entry) ⌝ }
 {
     let count = bytes_in(text.len(), out.len());

@@ -1,8 +1,8 @@
 // The forms of arguments. A letter stands for each: r a record, x a double, w a word, both by their sixteen
 // hex digits, o a double that may be absent, n a number; a question's letters are its shape.
 ghost use mathlib.Core.Path.{_≡_};
-ghost use Rattle.pieces.specs.Pieces.{Appended};
-ghost use Rattle.questions.specs.Words.{words};
+ghost use Rattle.pages.specs.Pages.{Appended};
+ghost use Rattle.questions.specs.Words.{lineParts};
 ghost use Rattle.questions.specs.Forms.{isWord, isNone, givenIn, isRecord, isNumber, isOf, areOf, fits, kindText, kindTexts, wrongLine};
 use crate::digits::Number;
 use crate::digits::are_hex;
@@ -11,7 +11,7 @@ use crate::digits::word_in;
 use crate::words::nth_word;
 use crate::words::word_count;
 use check::same;
-use pieces::put;
+use pages::put;
 
 // A word, or none where it may be absent.
 pub enum Given {
@@ -86,7 +86,7 @@ fn is_of(letter: u8, text: &[u8]) -> bool
 
 // Whether each argument is of its letter's form.
 fn are_of(line: &[u8], shape: &[u8]) -> bool
-    ensures { λ r. ⌜ r ≡ areOf (words (now (line .entry))) (now (shape .entry)) ⌝ }
+    ensures { λ r. ⌜ r ≡ areOf (lineParts (now (line .entry))) (now (shape .entry)) ⌝ }
 {
     let mut i = 0;
     while i < shape.len() {
@@ -101,7 +101,7 @@ fn are_of(line: &[u8], shape: &[u8]) -> bool
 // Whether the words of a line after the first are as many as the letters of the shape, and of their forms.
 // Both are left as they were.
 pub fn fits(line: &[u8], shape: &[u8]) -> bool
-    ensures answered { λ r. ⌜ r ≡ fits (words (now (line .entry))) (now (shape .entry)) ⌝ }
+    ensures answered { λ r. ⌜ r ≡ fits (lineParts (now (line .entry))) (now (shape .entry)) ⌝ }
     ensures kept { λ _. ⌜ now (line .exit) ≡ now (line .entry) ⌝ }
     ensures left { λ _. ⌜ now (shape .exit) ≡ now (shape .entry) ⌝ }
 {

@@ -3,5 +3,5 @@
 pub mod arguments;
 pub mod digits;
 pub mod forms;
-pub mod lines;
+pub mod line_ends;
 pub mod words;

@@ -1,29 +1,21 @@
 -- The entries of readings by meaning: what a new value sets and what it leaves, and that each value of a record that is read is a double. Assumes nothing.
-use mathlib.Core.Path.{_≡_, refl, sym, ap, subst, _∙_}
-use mathlib.Core.Bool.{Bool, true, false, cond}
-use mathlib.Core.Logic.{_≢_, _⊎_, inl, inr}
-use mathlib.Core.List.{List, [], _∷_}
-use Prim.Native.Nat.{ℕ, zero, suc, _<_}
-use native.Mathlib.Omega.{arith}
-use lib.Dec.{T}
-use lib.Ieee.{Float, binary64, fits}
-use lib.Ieee.Bits.{ofBits-fits}
-use lib.ListN.{length, getD, set, replicate, drop, length-set}
+use Rattle.arithmetic.proofs.Kit.{_≡_, refl, sym, ap, subst, _∙_, Bool, true, false, cond, _≢_, _⊎_, inl, inr, List, [], _∷_, map, ℕ, zero, suc, _<_, arith, T, Float, binary64, fits, ofBits-fits, length, getD, set, replicate, length-set}
+use mathlib.Core.List.{foldl}
 use lib.Seq.{getD-set-same, getD-set-other}
 use Rattle.refusal.proofs.Rows.{exactly}
 use Rattle.thousandths.specs.Thousandths.{countOf}
 use Rattle.thousandths.proofs.Laws.{thousandths-fits}
 use Rattle.fields.specs.declared.fields.Value.{Value}
 use Rattle.fields.specs.declared.fields.Value.the-variants.{Double, Count}
-use Rattle.entries.specs.declared.Entry.the-variants.{Absent, Present}
-use Rattle.entries.specs.declared.Stored.the-variants as stored
-use Rattle.entries.specs.declared.Slot.{Slot}
-use Rattle.entries.specs.declared.Readings.{Readings}
-use Rattle.fields.specs.Bytes.{wordAt, doubleAt}
-use Rattle.fields.specs.Fields.{meanings, doubleOf, isCountTag, tagOf, valueOf, field, sizeOf}
-use Rattle.record.specs.Readings.{noted, readingsFrom, readRows, readings}
-use Rattle.entries.specs.Entries.{slotOf, noReadings, entryFor, entryOf, withValue, withEntry}
-use Rattle.record.specs.Doubles.{HoldsDoubles, ReadsDoubles}
+use Rattle.record.specs.declared.entries.Entry.the-variants.{Absent, Present}
+use Rattle.record.specs.declared.entries.Stored.the-variants as stored
+use Rattle.record.specs.declared.entries.Slot.{Slot}
+use Rattle.record.specs.declared.entries.Readings.{Readings}
+use Rattle.fields.specs.Bytes.{numberAt, doubleAt}
+use Rattle.fields.specs.Fields.{meanings, doubleOf, isCountTag, tagOf, valueOf, field, heads}
+use Rattle.record.specs.Readings.{noted, readRows, readings}
+use Rattle.record.specs.Entries.{slotOf, noReadings, entryFor, entryOf, withValue, withEntry}
+use Rattle.record.proofs.Stated.{HoldsDoubles, ReadsDoubles}
 
 -- ---- a slot for each meaning
 abbrev pub Whole : Readings → Type 0
@@ -72,21 +64,18 @@ with-double r m v double held n y e =
 value-double : (s : List ℕ) → T (fits binary64 (doubleOf (valueOf s)))
 value-double s = go (isCountTag (tagOf s))
   where
-    go : (b : Bool) → T (fits binary64 (doubleOf (cond b (Count (wordAt s 3 4)) (Double (doubleAt s 3)))))
-    go true = thousandths-fits (countOf (wordAt s 3 4))
-    go false = ofBits-fits binary64 (wordAt s 3 8)
+    go : (b : Bool) → T (fits binary64 (doubleOf (cond b (Count (numberAt s 3 4)) (Double (doubleAt s 3)))))
+    go true = thousandths-fits (countOf (numberAt s 3 4))
+    go false = ofBits-fits binary64 (numberAt s 3 8)
 
-from : (n : ℕ) (r : Readings) (s : List ℕ) → HoldsDoubles r → HoldsDoubles (readingsFrom n r s)
-unfolding readingsFrom field
-from zero r s held = held
-from (suc n) r [] held = held
-from (suc n) r (b ∷ t) held =
-    let s = b ∷ t in
-    from n (noted r (field s)) (drop (sizeOf s) s) (with-double r (field s .meaning) (field s .value) (value-double s) held)
+from : (r : Readings) (fs : List (List ℕ)) → HoldsDoubles r → HoldsDoubles (foldl noted r (map field fs))
+unfolding field
+from r [] held = held
+from r (s ∷ fs) held = from (noted r (field s)) fs (with-double r (field s .meaning) (field s .value) (value-double s) held)
 
 never : {x : Float} → Absent ≡ Present x → ⊥
 never e = let z : _≡_ {A = ℕ} 0 1 = cc in omega arith
 
 pub reads-doubles : ReadsDoubles
 reads-doubles s r e =
-    subst HoldsDoubles (exactly (readings s) (readRows false s) .accepted-because e .1) (from (length s) noReadings s (λ m x h. absurd (never (sym (none-there m) ∙ h))))
+    subst HoldsDoubles (exactly (readings s) (readRows false s) .accepted-because e .1) (from noReadings (heads s) (λ m x h. absurd (never (sym (none-there m) ∙ h))))

@@ -1,18 +1,13 @@
 -- The order of the fields does not matter to a record that the first reader accepts: neighbours may change places. Assumes nothing.
-use mathlib.Core.Path.{_≡_, refl, sym, ap, _∙_}
-use mathlib.Core.Bool.{false}
-use mathlib.Core.List.{List, _++_}
-use Prim.Native.Nat.{ℕ}
-use native.Mathlib.Omega.{arith}
-use lib.ListN.{length, drop-of-length-le}
+use Rattle.arithmetic.proofs.Kit.{_≡_, refl, sym, ap, _∙_, false, List, _++_, ℕ, arith, length, drop-of-length-le}
 use Rattle.refusal.specs.Outcomes.{Outcome, accepted, Row, _then_}
 use Rattle.refusal.proofs.Rows.{then-none, then-accepted}
-use Rattle.entries.specs.declared.Slot.{Slot}
-use Rattle.entries.specs.declared.Readings.{Readings}
+use Rattle.record.specs.declared.entries.Slot.{Slot}
+use Rattle.record.specs.declared.entries.Readings.{Readings}
 use Rattle.fields.specs.Fields.{tagOf, field, sizeOf}
 use Rattle.record.specs.Readings.{noted, readRecord}
 use Rattle.record.proofs.Walk.{fieldRows, read, any-last}
-use Rattle.record.proofs.Entries.{is-new, with-readings, either-order}
+use Rattle.record.proofs.EntryLaws.{is-new, with-readings, either-order}
 use Rattle.record.proofs.Followed.{read-whole}
 use Rattle.record.proofs.Following.{read-on}
 
@@ -28,7 +23,7 @@ pub read-one : (r : Readings) (f t : List ℕ) → length f ≡ sizeOf f → who
 read-one r f t one =
     read-whole f t (omega arith) false r 0
     ∙ ap (λ (u : List ℕ). rows r f then read false (noted r (field f)) (tagOf f) (u ++ t)) (drop-of-length-le f {i = sizeOf f} (omega arith))
-    ∙ ap (λ (o : Outcome Readings). rows r f then o) (any-last (length t) (noted r (field f)) (tagOf f) 0 t)
+    ∙ ap (λ (o : Outcome Readings). rows r f then o) (any-last (noted r (field f)) (tagOf f) 0 t)
 
 module _ (f g t : List ℕ) (one : length f ≡ sizeOf f) (one′ : length g ≡ sizeOf g) {q : Readings} where
   exchanged : (r : Readings) → whole r (f ++ (g ++ t)) ≡ accepted q → whole r (g ++ (f ++ t)) ≡ accepted q

@@ -1,19 +1,12 @@
 -- A field depends only on its own bytes: one that is whole is the same whatever follows it. Assumes nothing.
-use mathlib.Core.Path.{_≡_, refl, sym, ap, ap₂, _∙_}
-use mathlib.Core.Bool.{Bool, true, false, not, cond}
-use mathlib.Core.List.{List, [], _∷_, _++_}
-use Prim.Native.Nat.{ℕ, zero, suc, _+_, _*_, _≤_}
-use native.Mathlib.Omega.{arith}
-use borrow.Author.Tests.{le-ltb}
-use lib.Dec.{ltb, eqb}
-use lib.Ieee.{binary64, ofBits}
-use lib.ListN.{length, drop, length-append, List·getD-append}
+use Rattle.arithmetic.proofs.Kit.{_≡_, refl, sym, ap, ap₂, _∙_, Bool, true, false, not, cond, List, [], _∷_, _++_, ℕ, zero, suc, _+_, _*_, _≤_, arith, le-ltb, ltb, eqb, binary64, ofBits, length, drop, length-append}
+use lib.ListN.{List·getD-append}
 use lib.Seq.{drop-append-le}
 use Rattle.refusal.specs.Outcomes.{Outcome, Row, row, _then_}
 use Rattle.fields.specs.declared.fields.Field.{Field}
 use Rattle.fields.specs.declared.fields.Value.the-variants.{Double, Count}
-use Rattle.entries.specs.declared.Readings.{Readings}
-use Rattle.fields.specs.Bytes.{wordAt, doubleAt}
+use Rattle.record.specs.declared.entries.Readings.{Readings}
+use Rattle.fields.specs.Bytes.{numberAt, doubleAt}
 use Rattle.fields.specs.Fields.{isCountTag, isTag, meaningOf, dataSize, tagOf, lengthOf, sizeOf, valueOf, field, headRows}
 use Rattle.record.specs.Readings.{orderRows, noted}
 use Rattle.fields.proofs.Forms.{size-by}
@@ -24,8 +17,8 @@ abbrev pub headerRows : List ℕ → List Row
 headerRows s = row (ltb (length s) 3) 5 [] ∷ row (not (isTag (tagOf s))) 6 [] ∷ row (not (eqb (lengthOf s) (dataSize (tagOf s)))) 7 [] ∷ []
 
 module _ (s t : List ℕ) where
-  word : (i n : ℕ) → i + n ≤ length s → wordAt (s ++ t) i n ≡ wordAt s i n
-  unfolding wordAt
+  word : (i n : ℕ) → i + n ≤ length s → numberAt (s ++ t) i n ≡ numberAt s i n
+  unfolding numberAt
   word i zero h = refl
   word i (suc n) h = ap₂ (λ (w b : ℕ). w * 256 + b) (word i n (omega arith)) (List·getD-append s t 0 (i + n) (omega arith))
 
@@ -48,16 +41,16 @@ module _ (s t : List ℕ) where
         let cut = ap (λ (n : ℕ). ltb (length (s ++ t)) (3 + dataSize n)) (tag header) ∙ long (sizeOf s) whole in
         λ i. same-header header i ++ row (cut i) 5 [] ∷ []
 
-    by-form : (b : Bool) → isCountTag (tagOf s) ≡ b → cond b (Count (wordAt (s ++ t) 3 4)) (Double (doubleAt (s ++ t) 3)) ≡ cond b (Count (wordAt s 3 4)) (Double (doubleAt s 3))
+    by-form : (b : Bool) → isCountTag (tagOf s) ≡ b → cond b (Count (numberAt (s ++ t) 3 4)) (Double (doubleAt (s ++ t) 3)) ≡ cond b (Count (numberAt s 3 4)) (Double (doubleAt s 3))
     by-form true e = ap (λ (w : ℕ). Count w) (word 3 4 (omega (arith, size-by (tagOf s) _ e)))
     by-form false e = ap (λ (w : ℕ). Double (ofBits binary64 w)) (word 3 8 (omega (arith, size-by (tagOf s) _ e)))
 
     same-value : valueOf (s ++ t) ≡ valueOf s
-    same-value = ap (λ (n : ℕ). cond (isCountTag n) (Count (wordAt (s ++ t) 3 4)) (Double (doubleAt (s ++ t) 3))) (tag header) ∙ by-form (isCountTag (tagOf s)) refl
+    same-value = ap (λ (n : ℕ). cond (isCountTag n) (Count (numberAt (s ++ t) 3 4)) (Double (doubleAt (s ++ t) 3))) (tag header) ∙ by-form (isCountTag (tagOf s)) refl
 
     pub same-field : field (s ++ t) ≡ field s
     unfolding field
-    same-field = λ i. record { tag = tag header i; meaning = meaningOf (tag header i); value = same-value i; size = 3 + dataSize (tag header i) }
+    same-field = λ i. record { tag = tag header i; meaning = meaningOf (tag header i); value = same-value i }
 
     -- the rows of the field, and the reading of what follows it
     pub read-whole : (strict : Bool) (r : Readings) (last : ℕ)

@@ -1,22 +1,15 @@
 -- What follows a place in the record: nothing there matters to a refusal other than 5, and what follows an accepted record is read on from its readings. A refusal 5 is caused
 -- at the end of the record. Assumes nothing.
-use mathlib.Core.Path.{_≡_, refl, sym, ap, _∙_}
-use mathlib.Core.Bool.{Bool, true, false}
-use mathlib.Core.List.{List, [], _∷_, _++_}
-use Prim.Native.Nat.{ℕ, zero, suc, _<_}
-use native.Mathlib.Omega.{arith}
-use borrow.Author.Tests.{ltb-true, ltb-false, lt-ltb}
-use lib.Dec.{ltb}
-use lib.Ieee.{Float}
-use lib.ListN.{length, drop, length-append, length-drop}
+use Rattle.arithmetic.proofs.Kit.{_≡_, refl, sym, ap, _∙_, Bool, true, false, List, [], _∷_, _++_, ℕ, _<_, arith, ltb-true, ltb-false, lt-ltb, ltb, Float, length, drop, length-append}
 use Rattle.refusal.specs.Outcomes.{Outcome, accepted, refused, Row, row, _then_}
 use Rattle.refusal.proofs.Rows.{then-append, then-none, then-to, then-accepted}
-use Rattle.entries.specs.declared.Readings.{Readings}
+use Rattle.record.specs.declared.entries.Readings.{Readings}
 use Rattle.fields.specs.Fields.{tagOf, field, headRows, sizeOf}
+use Rattle.fields.proofs.Heads.{Split, at-end, at-field, split}
 use Rattle.record.specs.Readings.{orderRows, noted, readRecord}
-use Rattle.entries.specs.Entries.{noReadings}
+use Rattle.record.specs.Entries.{noReadings}
 use Rattle.record.proofs.Walk.{fieldRows, no-bytes, read, read-step, any-last}
-use Rattle.record.proofs.Entries.{is-whole}
+use Rattle.record.proofs.EntryLaws.{is-whole}
 use Rattle.record.proofs.Followed.{headerRows, same-header, read-whole}
 
 -- ---- a refusal other than 5
@@ -40,11 +33,10 @@ module _ (strict : Bool) {k : ℕ} {vs : List Float} (other : k ≡ 5 → ⊥) w
           ∙ ap (λ (rows : List Row). rows then data-row (s ++ t) then p) (same-header s t (ltb-false (length s) 3 h))
           ∙ then-to (headerRows s) (λ none f. absurd (other (cc))) (sym (then-append (headerRows s) (data-row s) o) ∙ e)
 
-  refused-from : (n : ℕ) (r : Readings) (last : ℕ) (s t : List ℕ) → length s < n → read strict r last s ≡ refused k vs → read strict r last (s ++ t) ≡ refused k vs
-  refused-from zero r last s t h e = absurd (omega arith)
-  refused-from (suc n) r last [] t h e = let f = no-bytes strict zero r last in let z : _≡_ {A = ℕ} 0 1 = cc in absurd (omega arith)
-  refused-from (suc n) r last (c ∷ u) t h e = go (ltb (length s) (sizeOf s)) refl (sym (read-step strict r last s (omega arith)) ∙ e)
-      (refused-from n (noted r (field s)) (tagOf s) (drop (sizeOf s) s) t (omega (arith, length-drop (sizeOf s) s)))
+  refused-from : {s : List ℕ} → Split s → (r : Readings) (last : ℕ) (t : List ℕ) → read strict r last s ≡ refused k vs → read strict r last (s ++ t) ≡ refused k vs
+  refused-from at-end r last t e = let f = no-bytes strict r last in let z : _≡_ {A = ℕ} 0 1 = cc in absurd (omega arith)
+  refused-from (at-field c u on) r last t e = go (ltb (length s) (sizeOf s)) refl (sym (read-step strict r last s (omega arith)) ∙ e)
+      (refused-from on (noted r (field s)) (tagOf s) t)
     where
       s : List ℕ
       s = c ∷ u
@@ -58,7 +50,7 @@ module _ (strict : Bool) {k : ℕ} {vs : List Float} (other : k ≡ 5 → ⊥) w
       go false h e rest = read-whole s t (ltb-false (length s) (sizeOf s) h) strict r last ∙ then-to (fieldRows strict r last s) (λ none. rest) e
 
 pub nothing-after : (strict : Bool) {k : ℕ} {vs : List Float} (s t : List ℕ) → readRecord strict s ≡ refused k vs → (k ≡ 5 → ⊥) → readRecord strict (s ++ t) ≡ refused k vs
-nothing-after strict s t e other = refused-from strict other (suc (length s)) noReadings 0 s t (omega arith) e
+nothing-after strict s t e other = refused-from strict other (split s) noReadings 0 t e
 
 -- ---- an accepted record
 -- what follows it, after the last of its tags
@@ -66,15 +58,14 @@ pub record ReadOn (strict : Bool) (r : Readings) (last : ℕ) (a s : List ℕ) (
   pub end : ℕ
   pub same : read strict r last (a ++ s) ≡ read strict q end s
 
-from-readings : (strict : Bool) (n : ℕ) (r : Readings) (last : ℕ) (a s : List ℕ) {q : Readings} → length a < n → read strict r last a ≡ accepted q → ReadOn strict r last a s q
-from-readings strict zero r last a s h e = absurd (omega arith)
-from-readings strict (suc n) r last [] s h e = let f = no-bytes strict zero r last in record { end = last; same = ap (λ (q : Readings). read strict q last s) (cc) }
-from-readings strict (suc n) r last (c ∷ u) s h e =
+from-readings : (strict : Bool) {a : List ℕ} → Split a → (r : Readings) (last : ℕ) (s : List ℕ) {q : Readings} → read strict r last a ≡ accepted q → ReadOn strict r last a s q
+from-readings strict at-end r last s e = let f = no-bytes strict r last in record { end = last; same = ap (λ (q : Readings). read strict q last s) (cc) }
+from-readings strict (at-field c u rest) r last s e =
     let a = c ∷ u in
     let ok = then-accepted (fieldRows strict r last a) (sym (read-step strict r last a (omega arith)) ∙ e) in
-    let on = from-readings strict n (noted r (field a)) (tagOf a) (drop (sizeOf a) a) s (omega (arith, length-drop (sizeOf a) a)) (ok .1) in
+    let on = from-readings strict rest (noted r (field a)) (tagOf a) s (ok .1) in
     record { end = on .end; same = read-whole a s (is-whole strict r last a (ok .0)) strict r last ∙ then-none (fieldRows strict r last a) (ok .0) ∙ on .same }
 
 -- the first reader does not look at that tag
 pub read-on : (a s : List ℕ) {q : Readings} → readRecord false a ≡ accepted q → readRecord false (a ++ s) ≡ read false q 0 s
-read-on a s {q} e = let on = from-readings false (suc (length a)) noReadings 0 a s (omega arith) e in on .same ∙ any-last (length s) q (on .end) 0 s
+read-on a s {q} e = let on = from-readings false (split a) noReadings 0 s e in on .same ∙ any-last q (on .end) 0 s

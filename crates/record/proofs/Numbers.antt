@@ -1,40 +1,30 @@
 -- The numbers of a record's fields: the same six for each, and none from 20 on. Assumes nothing.
-use mathlib.Core.Path.{_≡_, refl, ap}
-use mathlib.Core.Bool.{Bool}
-use mathlib.Core.List.{List, [], _∷_, _++_, flatMap}
-use Prim.Native.Nat.{ℕ, zero, suc, _≤_}
-use native.Mathlib.Omega.{arith}
-use lib.ListN.{length, drop}
+use Rattle.arithmetic.proofs.Kit.{_≡_, refl, ap, Bool, List, [], _∷_, _++_, map, flatMap, ℕ, _≤_, arith}
 use Rattle.refusal.specs.Outcomes.{numbers}
 use Rattle.refusal.proofs.Rows.{Never, never-both}
-use Rattle.entries.specs.declared.Readings.{Readings}
-use Rattle.fields.specs.Fields.{tagOf, sizeOf, field, headRows}
-use Rattle.fields.specs.Tags.{tagsFrom, tags}
-use Rattle.record.specs.Readings.{noted, orderRows, rowsFrom, readRows}
-use Rattle.entries.specs.Entries.{noReadings}
+use Rattle.record.specs.declared.entries.Readings.{Readings}
+use Rattle.fields.specs.Fields.{tagOf, field, headRows, heads}
+use Rattle.fields.specs.Tags.{tags}
+use Rattle.record.specs.Readings.{noted, orderRows, rowsOf, readRows}
+use Rattle.record.specs.Entries.{noReadings}
 
-in-order-from : (strict : Bool) (n : ℕ) (r : Readings) (last : ℕ) (s : List ℕ)
-    → numbers (rowsFrom strict n r last s) ≡ flatMap (λ _. 5 ∷ 6 ∷ 7 ∷ 5 ∷ 8 ∷ 19 ∷ []) (tagsFrom n s)
-unfolding rowsFrom headRows tagsFrom flatMap
-in-order-from strict zero r last s = refl
-in-order-from strict (suc n) r last [] = refl
-in-order-from strict (suc n) r last (b ∷ t) =
-    let s = b ∷ t in
-    ap (λ (ns : List ℕ). 5 ∷ 6 ∷ 7 ∷ 5 ∷ 8 ∷ 19 ∷ ns) (in-order-from strict n (noted r (field s)) (tagOf s) (drop (sizeOf s) s))
+in-order : (strict : Bool) (r : Readings) (last : ℕ) (fs : List (List ℕ))
+    → numbers (rowsOf strict r last fs) ≡ flatMap (λ _. 5 ∷ 6 ∷ 7 ∷ 5 ∷ 8 ∷ 19 ∷ []) (map tagOf fs)
+unfolding headRows flatMap
+in-order strict r last [] = refl
+in-order strict r last (s ∷ fs) = ap (λ (ns : List ℕ). 5 ∷ 6 ∷ 7 ∷ 5 ∷ 8 ∷ 19 ∷ ns) (in-order strict (noted r (field s)) (tagOf s) fs)
 
 pub fields-in-order : (strict : Bool) (s : List ℕ) → numbers (readRows strict s) ≡ flatMap (λ _. 5 ∷ 6 ∷ 7 ∷ 5 ∷ 8 ∷ 19 ∷ []) (tags s)
-fields-in-order strict s = in-order-from strict (length s) noReadings 0 s
+fields-in-order strict s = in-order strict noReadings 0 (heads s)
 
-module _ (k : ℕ) (h : 20 ≤ k) where
-  never-from : (strict : Bool) (n : ℕ) (r : Readings) (last : ℕ) (s : List ℕ) → Never k (rowsFrom strict n r last s)
-  unfolding rowsFrom headRows
-  never-from strict zero r last s = tt
-  never-from strict (suc n) r last [] = tt
-  never-from strict (suc n) r last (b ∷ t) =
-      let s = b ∷ t in
-      never-both k (headRows s ++ orderRows strict r last (field s)) (rowsFrom strict n (noted r (field s)) (tagOf s) (drop (sizeOf s) s))
+module _ (k : ℕ) (h : 20 ≤ k) (strict : Bool) where
+  never : (r : Readings) (last : ℕ) (fs : List (List ℕ)) → Never k (rowsOf strict r last fs)
+  unfolding headRows
+  never r last [] = tt
+  never r last (s ∷ fs) =
+      never-both k (headRows s ++ orderRows strict r last (field s)) (rowsOf strict (noted r (field s)) (tagOf s) fs)
       ((λ e. absurd (omega arith)), ((λ e. absurd (omega arith)), ((λ e. absurd (omega arith)), ((λ e. absurd (omega arith)), ((λ e. absurd (omega arith)), ((λ e. absurd (omega arith)), tt))))))
-      (never-from strict n (noted r (field s)) (tagOf s) (drop (sizeOf s) s))
+      (never (noted r (field s)) (tagOf s) fs)
 
-  pub fields-never : (strict : Bool) (s : List ℕ) → Never k (readRows strict s)
-  fields-never strict s = never-from strict (length s) noReadings 0 s
+  pub fields-never : (s : List ℕ) → Never k (readRows strict s)
+  fields-never s = never noReadings 0 (heads s)

@@ -1,14 +1,14 @@
 -- The parts of a reader's answer are those of one outcome only. Assumes nothing.
-use mathlib.Core.Path.{_≡_, ap}
+use Rattle.arithmetic.proofs.Kit.{_≡_, ap}
 use Rattle.refusal.specs.Outcomes.{Outcome, accepted, refused, _⟫_}
-use Rattle.entries.specs.declared.Readings.{Readings}
+use Rattle.record.specs.declared.entries.Readings.{Readings}
 use Rattle.record.specs.declared.readings.Read.{Read}
-use Rattle.record.specs.Readings.{readOutcome, parts, partsOf}
+use Rattle.record.specs.Readings.{readOutcome, parts, readParts}
 
 -- what both parts say together
 abbrev both : Outcome (Unit {0}) × Readings → Outcome Readings
 both p = p .0 ⟫ (λ _. accepted (p .1))
 
-pub outcome-of-parts : (r : Read) (o : Outcome Readings) → parts r ≡ partsOf o → readOutcome r ≡ o
+pub outcome-of-parts : (r : Read) (o : Outcome Readings) → parts r ≡ readParts o → readOutcome r ≡ o
 outcome-of-parts r (accepted q) e = ap both e
 outcome-of-parts r (refused number values) e = ap both e

@@ -1,3 +1,3 @@
--- What the contracts of `record` cite: the readings that the fields of a record give, and that these are doubles.
+-- What the contracts of `record` cite: readings by meaning, and those that the fields of a record give.
 pub mod Readings
-pub mod Doubles
+pub mod Entries

@@ -1,16 +1,15 @@
 -- The readings of a mast record, document 01: fields one after the other, each meaning at most once. The first reader takes any order of tags; document 02's
 -- strict reader takes only rising ones. Definitions only.
-use Prim.Native.Nat.{ℕ, zero, suc}
+use Prim.Native.Nat.{ℕ}
 use mathlib.Core.Bool.{Bool, _&&_}
-use mathlib.Core.List.{List, [], _∷_, _++_}
+use mathlib.Core.List.{List, [], _∷_, _++_, map, foldl}
 use lib.Dec.{ltb}
-use lib.ListN.{length, drop}
 use Rattle.refusal.specs.Outcomes.{Outcome, accepted, refused, _⟫_, Row, row, _then_, checked}
 use Rattle.fields.specs.declared.fields.Field.{Field}
-use Rattle.entries.specs.declared.Readings.{Readings}
+use Rattle.record.specs.declared.entries.Readings.{Readings}
 use Rattle.record.specs.declared.readings.Read.{Read}
-use Rattle.fields.specs.Fields.{tagOf, sizeOf, field, headRows}
-use Rattle.entries.specs.Entries.{noReadings, withValue, entryOf, isPresent}
+use Rattle.fields.specs.Fields.{tagOf, field, headRows, heads}
+use Rattle.record.specs.Entries.{noReadings, withValue, entryOf, isPresent}
 
 -- ---- a field that is whole, after those that gave r, the last of them with the tag `last`. 8: tag repeated, or the field in both forms. 19, to the strict
 -- reader: a tag below the last
@@ -22,28 +21,16 @@ orderRows strict r last f =
 abbrev pub noted : Readings → Field → Readings
 noted r f = withValue r (f .meaning) (f .value)
 
-abbrev pub withField : Bool → Readings → ℕ → Field → Outcome Readings
-withField strict r last f = orderRows strict r last f then accepted (noted r f)
-
--- ---- the record: the rows of its fields, one field after the other, and the readings that they give. A field has a byte at least, so n fields for n bytes
--- are enough. No tag is below 0.
-unfoldable pub rowsFrom : Bool → ℕ → Readings → ℕ → List ℕ → List Row
-rowsFrom strict zero r last s = []
-rowsFrom strict (suc n) r last [] = []
-rowsFrom strict (suc n) r last (b ∷ t) =
-    let s = b ∷ t in
-    (headRows s ++ orderRows strict r last (field s)) ++ rowsFrom strict n (noted r (field s)) (tagOf s) (drop (sizeOf s) s)
-
-unfoldable pub readingsFrom : ℕ → Readings → List ℕ → Readings
-readingsFrom zero r s = r
-readingsFrom (suc n) r [] = r
-readingsFrom (suc n) r (b ∷ t) = let s = b ∷ t in readingsFrom n (noted r (field s)) (drop (sizeOf s) s)
+-- ---- the record: the rows of its fields, one field after the other, and the readings that they give. No tag is below 0
+abbrev pub rowsOf : Bool → Readings → ℕ → List (List ℕ) → List Row
+rowsOf strict r last [] = []
+rowsOf strict r last (s ∷ rest) = (headRows s ++ orderRows strict r last (field s)) ++ rowsOf strict (noted r (field s)) (tagOf s) rest
 
 abbrev pub readRows : Bool → List ℕ → List Row
-readRows strict s = rowsFrom strict (length s) noReadings 0 s
+readRows strict s = rowsOf strict noReadings 0 (heads s)
 
 abbrev pub readings : List ℕ → Readings
-readings s = readingsFrom (length s) noReadings s
+readings s = foldl noted noReadings (map field (heads s))
 
 abbrev pub readRecord : Bool → List ℕ → Outcome Readings
 readRecord strict s = readRows strict s then accepted (readings s)
@@ -56,6 +43,6 @@ readOutcome r = checked (r .check) ⟫ (λ _. accepted (r .readings))
 abbrev pub parts : Read → Outcome (Unit {0}) × Readings
 parts r = (checked (r .check), r .readings)
 
-abbrev pub partsOf : Outcome Readings → Outcome (Unit {0}) × Readings
-partsOf (accepted r) = (accepted tt, r)
-partsOf (refused number values) = (refused number values, noReadings)
+abbrev pub readParts : Outcome Readings → Outcome (Unit {0}) × Readings
+readParts (accepted r) = (accepted tt, r)
+readParts (refused number values) = (refused number values, noReadings)

@@ -1,2 +1,3 @@
 // The mast record: the readings that its fields give.
+pub mod entries;
 pub mod readings;

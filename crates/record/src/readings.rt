@@ -4,16 +4,16 @@ ghost use mathlib.Core.Bool.{true, false, _&&_};
 ghost use mathlib.Core.List.{[], _∷_};
 ghost use lib.Dec.{ltb};
 ghost use Rattle.refusal.specs.Outcomes.{refusal, checked, passed, row};
-ghost use Rattle.entries.specs.Entries.{entryFor, isPresent};
-ghost use Rattle.record.specs.Readings.{readRecord, parts, partsOf};
-use entries::Readings;
-use entries::Slot;
-use entries::Stored;
-use entries::is_stored;
-use entries::no_readings;
-use fields::fields::Found;
+ghost use Rattle.record.specs.Entries.{entryFor, isPresent};
+ghost use Rattle.record.specs.Readings.{readRecord, parts, readParts};
+use crate::entries::Readings;
+use crate::entries::Slot;
+use crate::entries::Stored;
+use crate::entries::is_stored;
+use crate::entries::no_readings;
 use fields::fields::MEANINGS;
-use reader::reader::field_from;
+use fields::reader::Step;
+use fields::reader::step_from;
 use refusal::Check;
 use refusal::Refusal;
 
@@ -38,8 +38,8 @@ fn order_check(stored: Stored, tag: u8, last: u8, strict: bool) -> Check
 }
 
 // A refusal, with no readings.
-pub fn refused(cause: Refusal) -> Read
-    ensures { λ r. ⌜ parts r ≡ partsOf (refusal cause) ⌝ }
+fn refused(cause: Refusal) -> Read
+    ensures { λ r. ⌜ parts r ≡ readParts (refusal cause) ⌝ }
 {
     Read {
         check: Check::Refused(cause),
@@ -50,7 +50,7 @@ pub fn refused(cause: Refusal) -> Read
 // The values are put in their places as they are read: handed on as a whole from field to field they
 // took longer than all else that a refused record costs.
 fn read_fields(bytes: &[u8], strict: bool) -> Read
-    ensures { λ r. ⌜ parts r ≡ partsOf (readRecord strict (now (bytes .entry))) ⌝ }
+    ensures { λ r. ⌜ parts r ≡ readParts (readRecord strict (now (bytes .entry))) ⌝ }
     ensures kept { λ _. ⌜ now (bytes .exit) ≡ now (bytes .entry) ⌝ }
 {
     let mut slots = [Slot {
@@ -59,11 +59,11 @@ fn read_fields(bytes: &[u8], strict: bool) -> Read
     let mut last = 0;
     let mut at = 0;
     while at < bytes.len() {
-        match field_from(bytes, at) {
-            Found::Refused(refusal) => {
+        match step_from(bytes, at) {
+            Step::Refused(refusal) => {
                 return refused(refusal);
             }
-            Found::Field(field) => {
+            Step::Field(field, next) => {
                 let meaning = field.meaning;
                 let slot = slots[meaning];
                 let stored = slot.stored;
@@ -75,7 +75,7 @@ fn read_fields(bytes: &[u8], strict: bool) -> Read
                     stored: Stored::Present(value),
                 };
                 last = field.tag;
-                at += field.size;
+                at = next;
             }
         }
     }
@@ -88,7 +88,7 @@ fn read_fields(bytes: &[u8], strict: bool) -> Read
 // The readings of a record with its tags in any order, or the first cause 5 to 8 in the order of its
 // fields. The record is left as it was.
 pub fn read_record(bytes: &[u8]) -> Read
-    ensures { λ r. ⌜ parts r ≡ partsOf (readRecord false (now (bytes .entry))) ⌝ }
+    ensures { λ r. ⌜ parts r ≡ readParts (readRecord false (now (bytes .entry))) ⌝ }
     ensures kept { λ _. ⌜ now (bytes .exit) ≡ now (bytes .entry) ⌝ }
 {
     read_fields(bytes, false)
@@ -97,7 +97,7 @@ pub fn read_record(bytes: &[u8]) -> Read
 // The readings of a record whose tags rise, or the first cause 5 to 8 or 19 in the order of its fields.
 // The record is left as it was.
 pub fn read_record_strictly(bytes: &[u8]) -> Read
-    ensures { λ r. ⌜ parts r ≡ partsOf (readRecord true (now (bytes .entry))) ⌝ }
+    ensures { λ r. ⌜ parts r ≡ readParts (readRecord true (now (bytes .entry))) ⌝ }
     ensures kept { λ _. ⌜ now (bytes .exit) ≡ now (bytes .entry) ⌝ }
 {
     read_fields(bytes, true)

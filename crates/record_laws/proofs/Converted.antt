@@ -1,10 +1,10 @@
 -- A record and what it converts to are judged alike: the reader gives them the same entries. Assumes nothing.
-use mathlib.Core.Path.{sym, ap, _∙_}
+use Rattle.arithmetic.proofs.Kit.{sym, ap, _∙_}
 use Rattle.refusal.specs.Outcomes.{Outcome, _⟫_}
-use Rattle.entries.specs.declared.Readings.{Readings}
-use Rattle.conversion.proofs.ReadAlike.{same-entries}
+use Rattle.record.specs.declared.entries.Readings.{Readings}
+use Rattle.writer.proofs.ReadAlike.{same-entries}
 use Rattle.mast.specs.Judge.{judged, judge}
-use Rattle.record_laws.specs.Converted.{JudgedAlike}
+use Rattle.record_laws.proofs.Stated.{JudgedAlike}
 use Rattle.mast.proofs.Entries.{judged-by-entries}
 
 pub judged-alike : JudgedAlike

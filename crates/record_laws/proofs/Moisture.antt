@@ -1,21 +1,16 @@
 -- Of figures that are accepted, document 02, K11: the mark is that of the range, and the density's mole fraction is the one shown. Assumes nothing.
-use mathlib.Core.Path.{_≡_, refl, sym, subst, _∙_}
-use mathlib.Core.Bool.{Bool, true, _&&_}
-use lib.Dec.{T}
-use lib.Ieee.{Float, le}
-use lib.Ieee.Bits.{is-true}
-use lib.Ieee.Fits.{and-i, and-l, and-r}
+use Rattle.arithmetic.proofs.Kit.{_≡_, refl, sym, subst, _∙_, Bool, true, _&&_, T, Float, le, is-true, and-i, and-l, and-r}
 use Rattle.arithmetic.specs.Places.{places}
 use Rattle.arithmetic.specs.Decimals.{decimal, nought, hundred}
 use Rattle.arithmetic.specs.Operators.{_⊖_, _⊘_}
-use Rattle.doubles.specs.Doubles.{clampDouble}
-use Rattle.moist_air.specs.MoistAir.{icePoint, capped, airDensityAt}
+use Rattle.arithmetic.specs.Doubles.{clampDouble}
+use Rattle.humid_air.specs.MoistAir.{icePoint, capped, airDensityAt}
 use Rattle.humid_air.specs.Humidity.{moleFractionCelsius}
 use Rattle.air.specs.Moist.{densityOf}
 use Rattle.air.specs.Station.{kelvins, pascals, atmosphere}
 use Rattle.refusal.specs.Outcomes.{accepted}
-use Rattle.entries.specs.declared.Readings.{Readings}
-use Rattle.answered.specs.declared.judge.Figures.{Figures}
+use Rattle.record.specs.declared.entries.Readings.{Readings}
+use Rattle.refusal.specs.declared.judge.Figures.{Figures}
 use Rattle.station.specs.Figures.{inCipmRange, figuresWith}
 use Rattle.mast.specs.Judge.{resolved, judged}
 use Rattle.record_laws.proofs.Pressures.{of-accepted}

@@ -1,24 +1,20 @@
 -- The reading that a report names of refused readings is the one whose value the refusal hands out: the first row that holds is a row of that reading. Assumes
 -- nothing.
-use mathlib.Core.Path.{_≡_, refl, sym, ap, subst, _∙_}
-use mathlib.Core.Bool.{Bool, true, false, cond, _&&_, _||_, true≢false}
-use mathlib.Core.List.{List, [], _∷_, _++_, List·Memᴰ, List·Memᴰ·head, List·Memᴰ·tail}
-use Prim.Native.Nat.{ℕ}
-use native.Mathlib.Omega.{arith}
-use lib.Ieee.{Float}
+use Rattle.arithmetic.proofs.Kit.{_≡_, refl, sym, ap, subst, _∙_, Bool, true, false, cond, _&&_, _||_, true≢false, List, [], _∷_, _++_, List·Memᴰ, ℕ, arith, Float}
+use mathlib.Core.List.{List·Memᴰ·head, List·Memᴰ·tail}
 use Rattle.arithmetic.specs.Places.{places}
 use Rattle.refusal.specs.Outcomes.{accepted, refused, Row, _then_}
 use Rattle.refusal.specs.Causes.{NoneHolds}
 use Rattle.refusal.proofs.Rows.{none-before, none-after}
 use Rattle.density_altitude.specs.Inverse.{temperatureRows, stationRows}
-use Rattle.entries.specs.declared.Entry.{Entry}
-use Rattle.entries.specs.declared.Entry.the-variants.{Absent, Present}
-use Rattle.entries.specs.declared.Readings.{Readings}
-use Rattle.entries.specs.Entries.{entryOf, isPresent}
+use Rattle.record.specs.declared.entries.Entry.{Entry}
+use Rattle.record.specs.declared.entries.Entry.the-variants.{Absent, Present}
+use Rattle.record.specs.declared.entries.Readings.{Readings}
+use Rattle.record.specs.Entries.{entryOf, isPresent}
 use Rattle.fields.specs.Fields.{altitude, temperature, stationPressure, qnh, humidity, densityAltitude, measuredPressure}
-use Rattle.fault.specs.Fault.{notFinite, notPositive, firstNotFinite, firstNotPositive, readingOf}
-use Rattle.limits.specs.Checks.{has, isClash, finiteRows, pressureRows, humidityRows, present, valueRows}
-use Rattle.resolved.specs.Resolved.{givenTemperature}
+use Rattle.report.specs.Fault.{notFinite, notPositive, firstNotFinite, firstNotPositive, readingAbout}
+use Rattle.mast.specs.Checks.{has, isClash, finiteRows, pressureRows, humidityRows, present, valueRows}
+use Rattle.station.specs.Resolved.{givenTemperature}
 use Rattle.station.specs.Figures.{figuresOf}
 use Rattle.mast.specs.Judge.{airRows, wayRows, resolved, readingRows, judged}
 use Rattle.mast.proofs.Entries.{neither}
@@ -27,7 +23,7 @@ module _ (r : Readings) where
   -- what a refusal hands out first is the value of the reading that is named
   abbrev Named : ℕ → List Float → Type 0
   Named n [] = Unit {0}
-  Named n (v ∷ vs) = entryOf r (readingOf r n) ≡ Present v
+  Named n (v ∷ vs) = entryOf r (readingAbout r n) ≡ Present v
 
   -- ---- rows of which each, where it is the first that holds, hands out the value of the reading that is named
   abbrev Sound : List Row → Type 0
@@ -52,15 +48,15 @@ module _ (r : Readings) where
   first11 a s q u = cond a altitude (cond s stationPressure (cond q qnh (cond u humidity measuredPressure)))
 
   at-11 : {a s q u : Bool} {x : Float} → notFinite (entryOf r altitude) ≡ a → notFinite (entryOf r stationPressure) ≡ s → notFinite (entryOf r qnh) ≡ q → notFinite (entryOf r humidity) ≡ u
-      → entryOf r (first11 a s q u) ≡ Present x → entryOf r (readingOf r 11) ≡ Present x
-  unfolding readingOf firstNotFinite
+      → entryOf r (first11 a s q u) ≡ Present x → entryOf r (readingAbout r 11) ≡ Present x
+  unfolding readingAbout firstNotFinite
   at-11 {x = x} fa fs fq fu told = subst (λ (m : ℕ). entryOf r m ≡ Present x) (sym (λ i. first11 (fa i) (fs i) (fq i) (fu i))) told
 
   abbrev first12 : Bool → Bool → ℕ
   first12 s q = cond s stationPressure (cond q qnh measuredPressure)
 
-  at-12 : {s q : Bool} {x : Float} → notPositive (entryOf r stationPressure) ≡ s → notPositive (entryOf r qnh) ≡ q → entryOf r (first12 s q) ≡ Present x → entryOf r (readingOf r 12) ≡ Present x
-  unfolding readingOf firstNotPositive
+  at-12 : {s q : Bool} {x : Float} → notPositive (entryOf r stationPressure) ≡ s → notPositive (entryOf r qnh) ≡ q → entryOf r (first12 s q) ≡ Present x → entryOf r (readingAbout r 12) ≡ Present x
+  unfolding readingAbout firstNotPositive
   at-12 {x = x} fs fq told = subst (λ (m : ℕ). entryOf r m ≡ Present x) (sym (λ i. first12 (fs i) (fq i))) told
 
   -- ---- the rows of each reading, where those before it hold nothing
@@ -69,7 +65,7 @@ module _ (r : Readings) where
   sound-altitude (Present x) told = (λ h. at-11 (ap notFinite told ∙ h) refl refl refl told, λ _. tt)
 
   sound-temperature : (e : Entry) → entryOf r temperature ≡ e → Sound (present temperatureRows e)
-  unfolding readingOf
+  unfolding readingAbout
   sound-temperature Absent told = tt
   sound-temperature (Present t) told = (λ h. told, λ _. (λ h. told, λ _. tt))
 
@@ -85,7 +81,7 @@ module _ (r : Readings) where
 
       module _ (fq : notFinite (entryOf r qnh) ≡ false) where
         sound-humidity : (e : Entry) → entryOf r humidity ≡ e → Sound (present humidityRows e)
-        unfolding readingOf
+        unfolding readingAbout
         sound-humidity Absent told = tt
         sound-humidity (Present u) told = (λ h. at-11 fa fs fq (ap notFinite told ∙ h) told, λ _. (λ h. told, λ _. tt))
 
@@ -171,7 +167,7 @@ module _ (r : Readings) where
         sym (ap (λ (e : Entry). isPresent e && excluded) with06) ∙ neither pressures (has r densityAltitude && excluded) apart .1
 
     sound-given : (e : Entry) → entryOf r temperature ≡ e → Sound r (stationRows places d (givenTemperature e))
-    unfolding readingOf
+    unfolding readingAbout
     sound-given Absent told = (λ h. with06, λ _. (λ h. with06, λ _. tt))
     sound-given (Present t) told = (λ h. with06, λ _. (λ h. told, λ _. (λ h. told, λ _. (λ h. with06, λ _. tt))))
 
@@ -193,13 +189,13 @@ module _ (r : Readings) where
       let way = entryOf r densityAltitude in
       (λ _. tt, λ apart. sound-append r (wayRows r way) (airRows (resolved r)) (sound-way apart way refl) (λ _. (λ _. tt, λ _. (λ _. tt, λ _. tt))))
 
-pub named : (r : Readings) (n : ℕ) (v : Float) (vs : List Float) → judged r ≡ refused n (v ∷ vs) → entryOf r (readingOf r n) ≡ Present v
+pub named : (r : Readings) (n : ℕ) (v : Float) (vs : List Float) → judged r ≡ refused n (v ∷ vs) → entryOf r (readingAbout r n) ≡ Present v
 unfolding judged
 named r n v vs e = by-rows r (figuresOf (resolved r)) (readingRows r) (sound-readings r) e
 
 -- ---- which of them: 11 is about any reading but a temperature and a density altitude, and 12 about a pressure
-pub named-11 : (r : Readings) → List·Memᴰ (readingOf r 11) (altitude ∷ stationPressure ∷ qnh ∷ humidity ∷ measuredPressure ∷ [])
-unfolding readingOf firstNotFinite
+pub named-11 : (r : Readings) → List·Memᴰ (readingAbout r 11) (altitude ∷ stationPressure ∷ qnh ∷ humidity ∷ measuredPressure ∷ [])
+unfolding readingAbout firstNotFinite
 named-11 r = go (notFinite (entryOf r altitude)) (notFinite (entryOf r stationPressure)) (notFinite (entryOf r qnh)) (notFinite (entryOf r humidity))
   where
     go : (a s q u : Bool) → List·Memᴰ (first11 r a s q u) (altitude ∷ stationPressure ∷ qnh ∷ humidity ∷ measuredPressure ∷ [])
@@ -209,8 +205,8 @@ named-11 r = go (notFinite (entryOf r altitude)) (notFinite (entryOf r stationPr
     go false false false true = List·Memᴰ·tail (List·Memᴰ·tail (List·Memᴰ·tail (List·Memᴰ·head refl)))
     go false false false false = List·Memᴰ·tail (List·Memᴰ·tail (List·Memᴰ·tail (List·Memᴰ·tail (List·Memᴰ·head refl))))
 
-pub named-12 : (r : Readings) → List·Memᴰ (readingOf r 12) (stationPressure ∷ qnh ∷ measuredPressure ∷ [])
-unfolding readingOf firstNotPositive
+pub named-12 : (r : Readings) → List·Memᴰ (readingAbout r 12) (stationPressure ∷ qnh ∷ measuredPressure ∷ [])
+unfolding readingAbout firstNotPositive
 named-12 r = go (notPositive (entryOf r stationPressure)) (notPositive (entryOf r qnh))
   where
     go : (s q : Bool) → List·Memᴰ (first12 r s q) (stationPressure ∷ qnh ∷ measuredPressure ∷ [])
@@ -218,6 +214,6 @@ named-12 r = go (notPositive (entryOf r stationPressure)) (notPositive (entryOf 
     go false true = List·Memᴰ·tail (List·Memᴰ·head refl)
     go false false = List·Memᴰ·tail (List·Memᴰ·tail (List·Memᴰ·head refl))
 
-pub named-alone : (r : Readings) → (readingOf r 1 ≡ densityAltitude) × (readingOf r 2 ≡ temperature) × (readingOf r 3 ≡ temperature) × (readingOf r 4 ≡ densityAltitude) × (readingOf r 13 ≡ humidity)
-unfolding readingOf
+pub named-alone : (r : Readings) → (readingAbout r 1 ≡ densityAltitude) × (readingAbout r 2 ≡ temperature) × (readingAbout r 3 ≡ temperature) × (readingAbout r 4 ≡ densityAltitude) × (readingAbout r 13 ≡ humidity)
+unfolding readingAbout
 named-alone r = (refl, refl, refl, refl, refl)

@@ -1,25 +1,18 @@
 -- No value of accepted readings is NaN: each is finite. Assumes nothing.
-use mathlib.Core.Path.{_≡_, refl, sym, ap, subst, _∙_}
-use mathlib.Core.Bool.{Bool, true, false}
-use Prim.Native.Nat.{ℕ, _≤_}
-use native.Mathlib.Omega.{arith}
-use borrow.Author.Tests.{ltb-true, ltb-false}
-use lib.Dec.{ltb}
-use lib.Ieee.{isNan}
-use lib.ListN.{length, List·getD-eq-default}
-use Rattle.doubles.proofs.NotANumber.{is-number}
+use Rattle.arithmetic.proofs.Kit.{_≡_, refl, sym, ap, subst, _∙_, Bool, true, false, ℕ, _≤_, arith, ltb-true, ltb-false, ltb, isNan, length, List·getD-eq-default}
+use Rattle.arithmetic.proofs.NotANumber.{is-number}
 use Rattle.refusal.specs.Outcomes.{accepted}
 use Rattle.fields.specs.declared.fields.Value.{Value}
 use Rattle.fields.specs.declared.fields.Value.the-variants.{Double, Count}
-use Rattle.entries.specs.declared.Slot.{Slot}
-use Rattle.entries.specs.declared.Stored.the-variants.{Absent, Present}
-use Rattle.entries.specs.declared.Readings.{Readings}
+use Rattle.record.specs.declared.entries.Slot.{Slot}
+use Rattle.record.specs.declared.entries.Stored.the-variants.{Absent, Present}
+use Rattle.record.specs.declared.entries.Readings.{Readings}
 use Rattle.fields.specs.Fields.{meanings}
-use Rattle.entries.specs.Entries.{slotOf, entryFor, storedOf}
-use Rattle.writer.specs.Laws.{NoNan}
-use Rattle.answered.specs.declared.judge.Figures.{Figures}
+use Rattle.record.specs.Entries.{slotOf, entryFor, storedOf}
+use Rattle.writer.proofs.Stated.{NoNan}
+use Rattle.refusal.specs.declared.judge.Figures.{Figures}
 use Rattle.mast.specs.Judge.{judged}
-use Rattle.mast.specs.Entries.{FiniteEntry}
+use Rattle.mast.proofs.Stated.{FiniteEntry}
 use Rattle.mast.proofs.Entries.{accepted-is-finite}
 
 never : {v : Value} → Absent ≡ Present v → ⊥

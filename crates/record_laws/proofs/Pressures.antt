@@ -1,23 +1,22 @@
 -- The pressure of readings that are accepted, document 02, K3: 07 as it came, whatever the altitude, and 03 by its band. What excludes them is absent, since
 -- nothing clashes. Assumes nothing.
-use mathlib.Core.Path.{_≡_, refl, sym, ap, _∙_}
-use mathlib.Core.Bool.{Bool, true, false, _&&_, _||_, or-true, true≢false}
-use lib.Ieee.{Float}
+use Rattle.arithmetic.proofs.Kit.{_≡_, refl, sym, ap, _∙_, Bool, true, false, _&&_, _||_, true≢false, Float}
+use mathlib.Core.Bool.{or-true}
 use Rattle.refusal.specs.Outcomes.{accepted}
 use Rattle.refusal.specs.Causes.{NoneHolds}
 use Rattle.refusal.proofs.Rows.{exactly}
-use Rattle.atmosphere.specs.declared.station.Reading.{Reading}
-use Rattle.atmosphere.specs.declared.station.Reading.the-variants.{Given}
+use Rattle.atmosphere.specs.declared.given.Reading.{Reading}
+use Rattle.atmosphere.specs.declared.given.Reading.the-variants.{Given}
 use Rattle.atmosphere.specs.Station as station
-use Rattle.entries.specs.declared.Entry.{Entry}
-use Rattle.entries.specs.declared.Entry.the-variants.{Absent, Present}
-use Rattle.entries.specs.declared.Readings.{Readings}
-use Rattle.entries.specs.Entries.{isPresent, entryOf, valueOrZero}
+use Rattle.record.specs.declared.entries.Entry.{Entry}
+use Rattle.record.specs.declared.entries.Entry.the-variants.{Absent, Present}
+use Rattle.record.specs.declared.entries.Readings.{Readings}
+use Rattle.record.specs.Entries.{isPresent, entryOf, valueOrZero}
 use Rattle.fields.specs.Fields.{altitude, temperature, stationPressure, qnh, humidity, densityAltitude, measuredPressure}
-use Rattle.limits.specs.Checks.{has, isClash}
-use Rattle.answered.specs.declared.judge.Figures.{Figures}
-use Rattle.resolved.specs.declared.resolved.Resolved.{Resolved}
-use Rattle.resolved.specs.Resolved.{unmeasuredPressure, measuredOr, resolvedTemperature, resolvedPressure, ordinary}
+use Rattle.mast.specs.Checks.{has, isClash}
+use Rattle.refusal.specs.declared.judge.Figures.{Figures}
+use Rattle.station.specs.declared.resolved.Resolved.{Resolved}
+use Rattle.station.specs.Resolved.{unmeasuredPressure, measuredOr, resolvedTemperature, resolvedPressure, ordinary}
 use Rattle.station.specs.Figures.{figuresWith, figuresOf}
 use Rattle.mast.specs.Judge.{readingRows, resolvedBy, resolved, judged}
 use Rattle.mast.proofs.Dry.{absent}
@@ -75,7 +74,7 @@ module _ (r : Readings) (a : Entry) {f : Figures} (at : entryOf r altitude ≡ a
   unfolding figuresWith
   measured-shown p is07 = ap (λ (g : Figures). g .«pressure_hpa») (measured-used p is07)
 
-  pub banded : (p : Float) → entryOf r stationPressure ≡ Present p → f ≡ figuresOf (with-pressure (station.stationPressure p (valueOrZero a)))
+  pub banded : (p : Float) → entryOf r stationPressure ≡ Present p → f ≡ figuresOf (with-pressure (station.resolvedStationPressure p (valueOrZero a)))
   banded p is03 =
       let there : has r stationPressure ≡ true = ap isPresent is03 in
       let other : (has r altitude || has r stationPressure || has r qnh || has r measuredPressure) ≡ true =

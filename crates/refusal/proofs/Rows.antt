@@ -1,11 +1,5 @@
 -- Lists of rows: one after the other, what comes after them, and that an outcome of rows is exactly caused by them. Assumes nothing.
-use mathlib.Core.Path.{_≡_, refl, sym, ap, ap₂, subst, _∙_}
-use mathlib.Core.Bool.{Bool, true, false, cond, true≢false}
-use mathlib.Core.Logic.{_⊎_, inl, inr}
-use mathlib.Core.List.{List, [], _∷_, _++_}
-use Prim.Native.Nat.{ℕ}
-use native.Mathlib.Omega.{arith}
-use lib.Ieee.{Float}
+use Rattle.arithmetic.proofs.Kit.{_≡_, refl, sym, ap, ap₂, subst, _∙_, Bool, true, false, cond, true≢false, _⊎_, inl, inr, List, [], _∷_, _++_, ℕ, arith, Float}
 use Rattle.refusal.specs.declared.Check.{Check}
 use Rattle.refusal.specs.Outcomes.{Outcome, accepted, refused, _⟫_, Row, _then_, numbers, checked, passed}
 use Rattle.refusal.specs.Causes.{NoneHolds, FirstHolds, ExactlyCaused}

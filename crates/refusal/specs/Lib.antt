@@ -2,3 +2,5 @@
 pub mod Refusals
 pub mod Outcomes
 pub mod Causes
+pub mod Judged
+pub mod Inverted

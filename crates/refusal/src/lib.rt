@@ -1,5 +1,8 @@
 // Why readings are refused: the causes of document 01's table and of document 02, each with its number
 // and the values that it hands out, and how one check follows another.
+pub mod inverse;
+pub mod judge;
+
 ghost use mathlib.Core.Path.{_≡_};
 ghost use Rattle.refusal.specs.Refusals.{numberOf, valuesOf, listed};
 ghost use Rattle.refusal.specs.Outcomes.{checked, row, passed, _⟫_};

@@ -1,6 +1,7 @@
--- How long a report is, the text on its page, and the record.
+-- How long a report is, its record, and samples.
 pub mod Short
-pub mod Held
+pub mod AdviceShort
 pub mod Recorded
--- Whole reports.
 pub mod Samples
+pub mod ColumnLines
+pub mod Stated

@@ -1,16 +1,8 @@
 -- The writer has room for any record in 154 bytes, and what it writes there is the record. Assumes nothing.
-use mathlib.Core.Path.{_≡_, ap, _∙_}
-use mathlib.Core.Bool.{false}
-use mathlib.Core.List.{List, _++_}
-use Prim.Native.Nat.{ℕ}
-use native.Mathlib.Omega.{arith}
-use borrow.Author.Tests.{le-ltb}
-use lib.Dec.{ltb}
-use lib.ListN.{length, take, drop}
-use lib.Seq.{take-at}
+use Rattle.arithmetic.proofs.Kit.{_≡_, ap, _∙_, false, List, _++_, ℕ, arith, le-ltb, ltb, length, take, drop, take-at}
 use Rattle.refusal.specs.declared.Refusal.{Refusal}
 use Rattle.refusal.specs.Outcomes.{accepted, refusal}
-use Rattle.entries.specs.declared.Readings.{Readings}
+use Rattle.record.specs.declared.entries.Readings.{Readings}
 use Rattle.writer.specs.Records.{recordOf}
 use Rattle.writer.specs.Written.{lengthWritten, overwritten}
 use Rattle.report.proofs.Short.{record-short}

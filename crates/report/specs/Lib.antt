@@ -1,3 +1,8 @@
 -- What the contract of `report_text` cites: the report of readings; and samples.
 pub mod Report
-pub mod Samples
+pub mod Fault
+pub mod Advice
+pub mod AirLines
+pub mod TrimLines
+pub mod SheetRefusal
+pub mod Columns

@@ -1,30 +1,31 @@
 // The readable report of readings: a line for each figure, the trim class, the mark in words; or what is
 // said of a refusal; and the record in hex.
+mod advice;
+mod air_lines;
+mod columns;
+mod fault;
+pub mod sheet_refusal;
+mod trim_lines;
+
 ghost use Rattle.mast.specs.Judge.{judged};
-ghost use Rattle.pieces.specs.Pieces.{Appended};
-ghost use Rattle.report.specs.Report.{acceptedLines, answerLines, recordLine, reportText, Holds};
-use advice::put_refused;
-use air_lines::put_air;
-use air_lines::put_mark;
-use air_lines::put_station;
-use answered::judge::Answer;
-use answered::judge::Figures;
-use entries::Readings;
+ghost use Rattle.pages.specs.Pages.{Appended};
+ghost use Rattle.report.specs.Report.{acceptedLines, answerLines, recordLine, reportText};
+use crate::advice::put_refused;
+use crate::air_lines::put_air;
+use crate::air_lines::put_mark;
+use crate::air_lines::put_station;
+use crate::trim_lines::put_next;
+use crate::trim_lines::put_trim;
 use mast::judge::judge_readings;
-use pieces::put;
-use pieces::put_hex;
+use pages::put;
+use pages::put_hex;
+use record::entries::Readings;
+use refusal::judge::Answer;
+use refusal::judge::Figures;
+use trim::classes::trim_class;
 use trim::search::next_trim_class_of_readings;
-use trim_class::classes::trim_class;
-use trim_lines::put_next;
-use trim_lines::put_trim;
 use writer::Written;
 use writer::write;
-
-// The first `len` bytes are the text.
-pub struct ReportText {
-    pub bytes: [u8; 2048],
-    pub len: usize,
-}
 
 // Each puts a piece on the page from `at` on, and answers the position after it.
 fn put_accepted(page: &mut [u8], at: usize, readings: Readings, figures: Figures) -> usize
@@ -61,11 +62,9 @@ fn put_record(page: &mut [u8], at: usize, readings: Readings) -> usize
 }
 
 // The report of any readings.
-pub fn report_text(readings: Readings) -> ReportText
-    ensures { λ r. ⌜ Holds r (reportText readings) ⌝ }
+pub fn put_report(page: &mut [u8], at: usize, readings: Readings) -> usize
+    ensures { λ r. ⌜ Appended (now (page .entry)) at (reportText readings) (now (page .exit)) r ⌝ }
 {
-    let mut page = [0u8; 2048];
-    let answered = put_answer(&mut page, 0, readings);
-    let len = put_record(&mut page, answered, readings);
-    ReportText { bytes: page, len }
+    let answered = put_answer(page, at, readings);
+    put_record(page, answered, readings)
 }

@@ -1,23 +1,14 @@
 -- Each number from 2 ^ 124 up to 2 ^ 126 is served by its entry of the table of roots, so that `quick_root` never takes the first root for it.
 -- Assumes nothing.
-use mathlib.Core.Path.{_≡_, refl, sym, ap, _∙_, subst}
-use mathlib.Core.Bool.{Bool, true, false, _&&_, cond}
-use mathlib.Core.List.{List}
-use Prim.Native.Nat.{ℕ, zero, suc, _+_, _-_, _*_, _/_, _^_, _≤_, _<_, suc-le-suc}
-use native.Mathlib.Nat.{zero-add, sub-add-cancel, le-of-suc-le-suc, not-suc-le-zero, le-div-iff-mul-le, div-lt-iff-lt-mul, div-div-eq-div-mul}
-use native.Mathlib.Omega.{arith}
-use borrow.Author.Tests.{lt-ltb, le-leb}
-use lib.Dec.{T, leb, ltb, leb→le, ltb→lt}
-use lib.Ieee.Fits.{and-l, and-r}
-use lib.ListN.{getD}
-use lib.Pow.{pow-pos}
-use Rattle.wide.specs.Root.{root}
-use Rattle.root_tables.specs.Tables.{values, entry, rootTable}
+use Rattle.arithmetic.proofs.Kit.{_≡_, refl, sym, ap, _∙_, Bool, true, false, _&&_, cond, List, ℕ, zero, suc, _+_, _-_, _*_, _/_, _^_, _≤_, _<_, suc-le-suc, zero-add, le-of-suc-le-suc, not-suc-le-zero, le-div-iff-mul-le, div-lt-iff-lt-mul, div-div-eq-div-mul, arith, lt-ltb, le-leb, T, leb, ltb, leb→le, ltb→lt, and-l, and-r, getD, pow-pos}
+use native.Mathlib.Nat.{sub-add-cancel}
+use Rattle.roots.specs.Root.{root}
+use Rattle.roots.specs.Tables.{values, entry, rootTable}
 use Rattle.roots.specs.declared.quick.TableRoot.the-variants.{Root, NotServed}
 use Rattle.roots.specs.Quick.{isNear, served, tableRoot}
-use Rattle.wide.proofs.Root.{IsRoot, of-root, roots-le}
+use Rattle.roots.proofs.Root.{IsRoot, of-root, roots-le}
 use Rattle.roots.proofs.roots.Halves.{next-square}
-use Rattle.wide.proofs.words.Shifts.{far-right}
+use Rattle.arithmetic.proofs.wide.Shifts.{far-right}
 
 -- ---- what stands at a place of a table
 

@@ -1,2 +1,3 @@
 -- The entry of the tables that a root starts from.
 pub mod Entry
+pub mod Root

@@ -4,7 +4,7 @@ use mathlib.Core.List.{List}
 use Prim.Native.Nat.{ℕ, _+_, _-_, _*_, _/_, _^_}
 use lib.Dec.{leb, ltb}
 use lib.ListN.{getD}
-use Rattle.wide.specs.Root.{root}
+use Rattle.roots.specs.Root.{root}
 use Rattle.roots.specs.declared.quick.Both.{Both}
 use Rattle.roots.specs.declared.quick.TableRoot.{TableRoot}
 use Rattle.roots.specs.declared.quick.TableRoot.the-variants.{Root, NotServed}

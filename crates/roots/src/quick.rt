@@ -2,17 +2,17 @@
 ghost use mathlib.Core.Path.{_≡_};
 ghost use Prim.Native.Nat.{_+_, _-_, _*_, _/_, _^_, _≤_, _<_};
 ghost use Rattle.roots.specs.Quick.{bothRoots, tableRoot};
-ghost use Rattle.wide.specs.Root.{root};
-ghost use Rattle.wide.specs.Value.{value};
+ghost use Rattle.roots.specs.Root.{root};
+ghost use Rattle.arithmetic.specs.Value.{value};
 use super::roots::floor_root;
 use super::roots::with_lower_half;
-use root_tables::reciprocal_table::reciprocal_table;
-use root_tables::root_table::root_table;
+use crate::reciprocal_table::reciprocal_table;
+use crate::root_table::root_table;
+use arithmetic::wide::Wide;
+use arithmetic::wide::at_most;
+use arithmetic::wide::product;
 use std::num::wrapping_add_u64;
 use std::num::wrapping_sub_u64;
-use wide::words::Wide;
-use wide::words::at_most;
-use wide::words::product;
 
 fn from_half(x: u32) -> u64
     ensures { λ r. ⌜ r < 2 ^ 32 ⌝ }
@@ -90,7 +90,7 @@ pub enum TableRoot {
 
 // The floor of the square root of a number of 125 or 126 bits, whose n / 2^116 is from 256 to 1,023, from its entries of the two
 // tables, which the caller lends. One whose entry is not near is not served: of `root_table` each is (specs/Quick).
-pub fn table_root(n: Wide, roots: &[u64; 768], reciprocals: &[u32; 768]) -> TableRoot
+fn table_root(n: Wide, roots: &[u64; 768], reciprocals: &[u32; 768]) -> TableRoot
     ensures { λ r. ⌜ r ≡ tableRoot (now (roots .entry)) (value n) ⌝ }
 {
     let place = number(n);

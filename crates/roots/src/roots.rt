@@ -1,12 +1,12 @@
 // The floor of the square root of a number of two words.
 ghost use mathlib.Core.Path.{_≡_};
 ghost use Prim.Native.Nat.{suc, _+_, _*_, _%_, _^_, _≤_, _<_};
-ghost use Rattle.wide.specs.Root.{root};
-ghost use Rattle.wide.specs.Value.{value};
-use wide::words::Wide;
-use wide::words::at_most;
-use wide::words::product;
-use wide::words::shifted_left;
+ghost use Rattle.roots.specs.Root.{root};
+ghost use Rattle.arithmetic.specs.Value.{value};
+use arithmetic::wide::Wide;
+use arithmetic::wide::at_most;
+use arithmetic::wide::product;
+use arithmetic::wide::shifted_left;
 
 // A guess that is no less than the root of n: a step of Newton's iteration from a parabola in n's top
 // 16 bits, which for an n of 63 or 64 bits is within 1/190 of the root. Half a word holds every root.

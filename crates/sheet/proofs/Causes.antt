@@ -1,22 +1,19 @@
 -- Each number of a sheet has exactly its cause, in the order of the checks. Assumes nothing.
-use mathlib.Core.Path.{_≡_, refl, sym, ap, _∙_}
-use mathlib.Core.List.{List, [], _∷_, _++_}
-use Prim.Native.Nat.{ℕ, zero, suc}
-use lib.Dec.{ltb}
-use lib.Ieee.{Float}
+use Rattle.arithmetic.proofs.Kit.{_≡_, refl, sym, ap, _∙_, List, [], _∷_, _++_, ℕ, zero, suc, ltb, Float}
 use Rattle.refusal.specs.Outcomes.{Outcome, accepted, _⟫_, row, _then_, numbers}
 use Rattle.refusal.proofs.Rows.{numbers-append, then-append, then-next, then-rows, exactly-by}
 use Rattle.station.specs.Figures.{figuresOf}
 use Rattle.mast.specs.Judge.{airRows, airOutcome}
-use Rattle.sheet.specs.Row.{isTooWide, figuresOutcome, station, rowOutcome}
-use Rattle.sheet.specs.Sheet.{celsius, rows, inputRows, settingSheet}
-use Rattle.sheet.specs.Laws.{lineRows, lineText, linesRows, linesText, sheetRows, Caused, repeated, OrderOfChecks}
+use Rattle.sheet.specs.Row.{isTooWide, figuresOutcome, stationOfRow, rowOutcome}
+use Rattle.sheet.specs.Sheet.{celsiusOfRow, rows, sheetInputRows, settingSheet}
+use Rattle.sheet.specs.Laws.{lineRows, lineText, linesRows, linesText, repeated}
+use Rattle.sheet.proofs.Stated.{sheetRows, SheetCaused, SheetOrder}
 
 module _ (h p u : Float) where
   by-line : (t : Float) → rowOutcome h p u t ≡ (lineRows h p u t then accepted (lineText h p u t))
   unfolding rowOutcome airOutcome figuresOutcome
   by-line t =
-      let a = station h p u t in
+      let a = stationOfRow h p u t in
       then-rows (airRows a) (row (isTooWide t (figuresOf a)) 17 [] ∷ []) (figuresOf a) (lineText h p u t) (figuresOutcome t) refl
 
   by-lines : (n : ℕ) → rows h p u n ≡ (linesRows h p u n then accepted (linesText h p u n))
@@ -24,24 +21,24 @@ module _ (h p u : Float) where
   by-lines zero = refl
   by-lines (suc n) =
       let text = linesText h p u n in
-      let t = celsius n in
+      let t = celsiusOfRow n in
       let line = lineText h p u t in
       let last : (rowOutcome h p u t ⟫ (λ l. accepted (text ++ l))) ≡ (lineRows h p u t then accepted (text ++ line)) =
       ap (λ (o : Outcome (List ℕ)). o ⟫ (λ l. accepted (text ++ l))) (by-line t) ∙ then-next (lineRows h p u t) (accepted line) (λ l. accepted (text ++ l)) in
       ap (λ (o : Outcome (List ℕ)). o ⟫ (λ s. rowOutcome h p u t ⟫ (λ l. accepted (s ++ l)))) (by-lines n)
       ∙ then-rows (linesRows h p u n) (lineRows h p u t) text (text ++ line) (λ s. rowOutcome h p u t ⟫ (λ l. accepted (s ++ l))) last
 
-pub caused : (h p u : Float) (room : ℕ) → Caused h p u room
+pub caused : (h p u : Float) (room : ℕ) → SheetCaused h p u room
 unfolding settingSheet
 caused h p u room =
-    let first = row (ltb room 1530) 16 [] ∷ inputRows h p u in
+    let first = row (ltb room 1530) 16 [] ∷ sheetInputRows h p u in
     let text = linesText h p u 51 in
     exactly-by text (sheetRows h p u room) (ap (λ (o : Outcome (List ℕ)). first then o) (by-lines h p u 51) ∙ sym (then-append first (linesRows h p u 51) (accepted text)))
 
 lines-in-order : (h p u : Float) (n : ℕ) → numbers (linesRows h p u n) ≡ repeated n (14 ∷ 15 ∷ 17 ∷ [])
 unfolding linesRows repeated
 lines-in-order h p u zero = refl
-lines-in-order h p u (suc n) = numbers-append (linesRows h p u n) (lineRows h p u (celsius n)) ∙ ap (λ (ns : List ℕ). ns ++ 14 ∷ 15 ∷ 17 ∷ []) (lines-in-order h p u n)
+lines-in-order h p u (suc n) = numbers-append (linesRows h p u n) (lineRows h p u (celsiusOfRow n)) ∙ ap (λ (ns : List ℕ). ns ++ 14 ∷ 15 ∷ 17 ∷ []) (lines-in-order h p u n)
 
-pub order-of-checks : OrderOfChecks
+pub order-of-checks : SheetOrder
 order-of-checks h p u room = ap (λ (ns : List ℕ). 16 ∷ 11 ∷ 11 ∷ 12 ∷ 11 ∷ 13 ∷ ns) (lines-in-order h p u 51)

@@ -1,19 +1,12 @@
 -- A figure in its column: what the code copies of a text in sixteen places, and how many bytes a row has. Assumes nothing.
-use mathlib.Core.Path.{_≡_, refl, sym, ap, _∙_}
-use mathlib.Core.Bool.{Bool, true, false, _||_}
-use mathlib.Core.List.{List, [], _∷_, _++_, append-assoc}
-use Prim.Native.Nat.{ℕ, _+_, _-_, _≤_}
-use native.Mathlib.Omega.{arith}
-use borrow.Author.Tests.{ltb-true, ltb-false, lt-ltb}
-use lib.Dec.{ltb, lit≤}
-use lib.Ieee.{Float}
-use lib.ListN.{length, drop, replicate, length-append, length-replicate, replicate-append-replicate}
+use Rattle.arithmetic.proofs.Kit.{_≡_, refl, sym, ap, _∙_, Bool, true, false, _||_, List, [], _∷_, _++_, append-assoc, ℕ, _+_, _-_, _≤_, arith, ltb-true, ltb-false, lt-ltb, ltb, lit≤, Float, length, drop, replicate, length-append, length-replicate}
+use lib.ListN.{replicate-append-replicate}
 use lib.Seq.{drop-at}
-use Rattle.decimals.specs.declared.text.DecimalText.{DecimalText}
+use Rattle.decimals.specs.declared.shown.DecimalText.{DecimalText}
 use Rattle.decimals.specs.Decimal.{decimalText}
 use Rattle.decimals.specs.Places.{inSixteen}
 use Rattle.decimals.proofs.Standing.{too-long, fits}
-use Rattle.answered.specs.declared.judge.Figures.{Figures}
+use Rattle.refusal.specs.declared.judge.Figures.{Figures}
 use Rattle.mast.proofs.Entries.{neither}
 use Rattle.sheet.specs.Over.{lastPlaces}
 use Rattle.sheet.specs.Row.{cell, isWider, rowText, isTooWide}

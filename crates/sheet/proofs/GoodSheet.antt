@@ -1,21 +1,13 @@
 -- The first rows of a good sheet are the rows of the first temperatures, which rise. Assumes nothing.
-use mathlib.Core.Path.{_≡_, sym, ap, _∙_, subst}
-use mathlib.Core.Bool.{Bool, true, _&&_}
-use mathlib.Core.Logic.{_⊎_, inl, inr}
-use mathlib.Core.List.{List, [], _∷_, _++_}
-use Prim.Native.Nat.{ℕ, zero, suc, _+_, _-_, _*_, _≤_, _<_}
-use native.Mathlib.Nat.{add-zero, add-suc, eq-or-lt-of-le}
-use native.Mathlib.Omega.{arith}
-use lib.Dec.{T, ltb}
-use lib.Ieee.{Float, lt, ofInt}
-use lib.ListN.{length, take, drop}
-use lib.Ieee.Fits.{and-l, and-r}
-use lib.Seq.{length-take-le, take-all, take-at, drop-at, take-take, take-add}
+use Rattle.arithmetic.proofs.Kit.{_≡_, sym, ap, _∙_, Bool, List, [], _∷_, _++_, ℕ, zero, suc, _+_, _-_, _*_, _≤_, add-zero, arith, T, ltb, Float, lt, ofInt, length, take, drop, length-take-le, take-all, take-at}
+use native.Mathlib.Nat.{add-suc}
+use lib.Seq.{drop-at, take-take, take-add}
 use Rattle.refusal.specs.Outcomes.{accepted, row}
 use Rattle.refusal.proofs.Rows.{then-accepted}
+use Rattle.arithmetic.proofs.Every.{every, at}
 use Rattle.sheet.specs.Row.{rowOutcome}
-use Rattle.sheet.specs.Sheet.{celsius, rows, inputRows, settingSheet}
-use Rattle.sheet.specs.Laws.{FirstRows, GoodSheet}
+use Rattle.sheet.specs.Sheet.{celsiusOfRow, rows, sheetInputRows, settingSheet}
+use Rattle.sheet.proofs.Stated.{FirstRows, GoodSheet}
 use Rattle.sheet.proofs.Outcomes.{parts, rows-length}
 
 -- ---- rows
@@ -32,7 +24,7 @@ module _ (h p u : Float) where
       first n j (q .before) (q .rows-before) ∙ ap accepted (ap (take (30 * n)) (sym cut) ∙ take-take (30 * n) (30 * (n + j)) text (omega arith))
 
   each : (n : ℕ) (text : List ℕ) → rows h p u (suc n) ≡ accepted (take (30 * suc n) text) → 30 * n ≤ length text
-      → rowOutcome h p u (celsius n) ≡ accepted (take 30 (drop (30 * n) text))
+      → rowOutcome h p u (celsiusOfRow n) ≡ accepted (take 30 (drop (30 * n) text))
   each n text e long =
       let q = parts h p u n (take (30 * suc n) text) e in
       let sum : 30 * suc n ≡ 30 * n + 30 = omega arith in
@@ -52,28 +44,16 @@ module _ (h p u : Float) where
       record { whole = whole; first = to; each = λ n lt. each n text (to (suc n) lt) (omega arith) }
 
 -- ---- temperatures: each pair of them is compared
-abbrev pub every : (ℕ → Bool) → ℕ → Bool
-every f zero = true
-every f (suc n) = every f n && f n
-
-pub at-each : (f : ℕ → Bool) (n m : ℕ) → m < n → T (every f n) → T (f m)
-at-each f zero m h t = absurd (omega arith)
-at-each f (suc n) m h t = go (eq-or-lt-of-le h) (at-each f n m)
-  where
-    go : (suc m ≡ suc n) ⊎ (suc m < suc n) → (m < n → T (every f n) → T (f m)) → T (f m)
-    go (inl e) before = let same : n ≡ m = omega arith in subst (λ (k : ℕ). T (f k)) same (and-r (every f n) (f n) t)
-    go (inr l) before = before (omega arith) (and-l (every f n) (f n) t)
-
 abbrev below : ℕ → Bool
-below n = every (λ m. lt (celsius m) (celsius n)) n
+below n = every n (λ m. lt (celsiusOfRow m) (celsiusOfRow n))
 
-all-rise : T (every below 51)
-unfolding lt celsius ofInt
+all-rise : T (every 51 below)
+unfolding lt celsiusOfRow ofInt
 all-rise = tt
 
 pub good-sheet : GoodSheet
 unfolding settingSheet
 good-sheet = record {
-  rowsOf = λ h p u room text e. good h p u text (then-accepted (row (ltb room 1530) 16 [] ∷ inputRows h p u) e .1);
-  rising = λ m n less most. at-each (λ k. lt (celsius k) (celsius n)) n m less (at-each below 51 n most all-rise);
+  rowsOf = λ h p u room text e. good h p u text (then-accepted (row (ltb room 1530) 16 [] ∷ sheetInputRows h p u) e .1);
+  rising = λ m n less most. at n (λ k. lt (celsiusOfRow k) (celsiusOfRow n)) (at 51 below all-rise n most) m less;
 }

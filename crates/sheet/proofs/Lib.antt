@@ -7,3 +7,4 @@ pub mod GoodSheet
 pub mod RefusedSheet
 pub mod Causes
 pub mod OfRecord
+pub mod Stated

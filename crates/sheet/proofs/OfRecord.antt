@@ -1,39 +1,31 @@
 -- A row of the sheet beside the record of the same air: temperature and pressure are given, so that a row is that of the record with 01, 02, 05 and 07
 -- wherever 02 is no default, and no row looks at the altitude but to see that it is finite. Assumes nothing.
-use mathlib.Core.Path.{_≡_, refl, sym, ap, ap₂, subst, _∙_}
-use mathlib.Core.Logic.{_≢_}
-use mathlib.Core.Bool.{Bool, true, false, not, _&&_, _||_, cond, and-false}
-use mathlib.Core.List.{List, [], _∷_, _++_}
-use Prim.Native.Nat.{ℕ, zero, suc, _<_}
-use borrow.Author.Tests.{ne-eqb, not-false}
-use lib.Dec.{T, ltb, eqb}
-use lib.Ieee.{Float, sub, lt, le, ofInt, ofBits}
-use lib.Ieee.Bits.{is-true, is-false}
-use lib.Ieee.Fits.{and-l, and-r}
+use Rattle.arithmetic.proofs.Kit.{_≡_, refl, sym, ap, ap₂, subst, _∙_, _≢_, Bool, true, false, not, _&&_, _||_, cond, List, [], _∷_, _++_, ℕ, zero, suc, _<_, ne-eqb, not-false, T, ltb, eqb, Float, sub, lt, le, ofInt, ofBits, is-true, is-false, and-l, and-r}
+use mathlib.Core.Bool.{and-false}
 use Rattle.arithmetic.specs.Places.{places}
 use Rattle.arithmetic.specs.Decimals.{nought, one}
-use Rattle.doubles.specs.Doubles.{absDouble, isFinite}
-use Rattle.atmosphere.specs.declared.station.Reading.{Reading}
-use Rattle.atmosphere.specs.declared.station.Reading.the-variants.{Given, FromLayer}
-use Rattle.atmosphere.specs.Station.{inTemperatureBand, resolved, stationTemperature}
-use Rattle.density_altitude.specs.Inverse.{absoluteZero, temperatureRows, isFiniteAbove}
+use Rattle.arithmetic.specs.Doubles.{absDouble, isFinite, isFiniteAbove}
+use Rattle.atmosphere.specs.declared.given.Reading.{Reading}
+use Rattle.atmosphere.specs.declared.given.Reading.the-variants.{Given, FromLayer}
+use Rattle.atmosphere.specs.Station.{inTemperatureBand, unlessDefault, resolvedStationTemperature}
+use Rattle.density_altitude.specs.Inverse.{absoluteZero, temperatureRows}
 use Rattle.humid_air.specs.Humidity.{moleFractionCelsius}
 use Rattle.air.specs.Station.{atmosphere}
 use Rattle.refusal.specs.Outcomes.{Outcome, accepted, refused, _⟫_, row, _then_}
 use Rattle.refusal.specs.Causes.{NoneHolds}
 use Rattle.refusal.proofs.Rows.{then-append, then-none, then-next}
-use Rattle.entries.specs.declared.Readings.{Readings}
-use Rattle.entries.specs.Entries.{noReadings, withEntry}
+use Rattle.record.specs.declared.entries.Readings.{Readings}
+use Rattle.record.specs.Entries.{noReadings, withEntry}
 use Rattle.fields.specs.Fields.{altitude, temperature, humidity, measuredPressure}
-use Rattle.limits.specs.Checks.{pressureRows, humidityRows, valueRows}
-use Rattle.answered.specs.declared.judge.Figures.{Figures}
-use Rattle.resolved.specs.declared.resolved.Resolved.{Resolved}
-use Rattle.resolved.specs.Resolved.{ordinary}
+use Rattle.mast.specs.Checks.{pressureRows, humidityRows, valueRows}
+use Rattle.refusal.specs.declared.judge.Figures.{Figures}
+use Rattle.station.specs.declared.resolved.Resolved.{Resolved}
+use Rattle.station.specs.Resolved.{ordinary}
 use Rattle.station.specs.Figures.{figuresWith, figuresOf}
 use Rattle.mast.specs.Judge.{airRows, airOutcome, judged}
-use Rattle.sheet.specs.Row.{rowText, figuresOutcome, station, rowOutcome}
-use Rattle.sheet.specs.Sheet.{celsius, rows, inputRows, settingSheet}
-use Rattle.sheet.proofs.GoodSheet.{every, at-each}
+use Rattle.sheet.specs.Row.{rowText, figuresOutcome, stationOfRow, rowOutcome}
+use Rattle.sheet.specs.Sheet.{celsiusOfRow, rows, sheetInputRows, settingSheet}
+use Rattle.arithmetic.proofs.Every.{every, at}
 
 -- ---- the altitude
 -- whether figures are air, if b says that the altitude is finite
@@ -52,17 +44,17 @@ module _ (h k p u : Float) (finite : isFinite h ≡ true) (also : isFinite k ≡
   pub same-row : (t : Float) → rowOutcome h p u t ≡ rowOutcome k p u t
   unfolding rowOutcome airOutcome figuresOutcome rowText figuresWith atmosphere
   same-row t =
-      let f = figuresOf (station h p u t) in
+      let f = figuresOf (stationOfRow h p u t) in
       let row-if : Bool → Outcome (List ℕ) = λ b. (row (lt one (moleFractionCelsius places t p u)) 14 [] ∷ row (not (airIf b f)) 15 [] ∷ []) then figuresOutcome t f in
-      then-next (airRows (station h p u t)) (accepted f) (figuresOutcome t)
+      then-next (airRows (stationOfRow h p u t)) (accepted f) (figuresOutcome t)
       ∙ ap row-if (finite ∙ sym also)
-      ∙ sym (then-next (airRows (station k p u t)) (accepted (figuresOf (station k p u t))) (figuresOutcome t))
+      ∙ sym (then-next (airRows (stationOfRow k p u t)) (accepted (figuresOf (stationOfRow k p u t))) (figuresOutcome t))
 
   same-rows : (n : ℕ) → rows h p u n ≡ rows k p u n
   unfolding rows
   same-rows zero = refl
   same-rows (suc n) =
-      ap₂ (λ (o line : Outcome (List ℕ)). o ⟫ (λ x. line ⟫ (λ y. accepted (x ++ y)))) (same-rows n) (same-row (celsius n))
+      ap₂ (λ (o line : Outcome (List ℕ)). o ⟫ (λ x. line ⟫ (λ y. accepted (x ++ y)))) (same-rows n) (same-row (celsiusOfRow n))
 
   pub any-altitude : (room : ℕ) → settingSheet h p u room ≡ settingSheet k p u room
   unfolding settingSheet
@@ -76,7 +68,7 @@ module _ (h k p u : Float) (finite : isFinite h ≡ true) (also : isFinite k ≡
 abbrev readingsOf : Float → Float → Float → Float → Readings
 readingsOf h p u t = withEntry (withEntry (withEntry (withEntry noReadings altitude h) temperature t) humidity u) measuredPressure p
 
-of-record : (h p u t : Float) → NoneHolds (inputRows h p u) → NoneHolds (temperatureRows t) → stationTemperature t h ≡ Given t → judged (readingsOf h p u t) ≡ airOutcome (station h p u t)
+of-record : (h p u t : Float) → NoneHolds (sheetInputRows h p u) → NoneHolds (temperatureRows t) → resolvedStationTemperature t h ≡ Given t → judged (readingsOf h p u t) ≡ airOutcome (stationOfRow h p u t)
 unfolding judged ordinary airOutcome
 of-record h p u t i w given =
     let r = readingsOf h p u t in
@@ -86,50 +78,50 @@ of-record h p u t i w given =
     ∙ then-none (valueRows r) none
     ∙ ap (λ (x : Reading). airOutcome (at x)) given
 
-row-of-record : (h p u t : Float) → NoneHolds (inputRows h p u) → NoneHolds (temperatureRows t) → stationTemperature t h ≡ Given t
+row-of-record : (h p u t : Float) → NoneHolds (sheetInputRows h p u) → NoneHolds (temperatureRows t) → resolvedStationTemperature t h ≡ Given t
     → rowOutcome h p u t ≡ (judged (readingsOf h p u t) ⟫ figuresOutcome t)
 unfolding rowOutcome
 row-of-record h p u t i w given = ap (λ (o : Outcome Figures). o ⟫ figuresOutcome t) (sym (of-record h p u t i w given))
 
 -- the temperatures of the sheet pass their checks, and all but 15 °C lie outside the default band
 abbrev passes : ℕ → Bool
-passes n = isFinite (celsius n) && not (le (celsius n) absoluteZero)
+passes n = isFinite (celsiusOfRow n) && not (le (celsiusOfRow n) absoluteZero)
 
-all-pass : T (every passes 51)
-unfolding le celsius ofInt isFinite ofBits
+all-pass : T (every 51 passes)
+unfolding le celsiusOfRow ofInt isFinite ofBits
 all-pass = tt
 
 abbrev outside : ℕ → Bool
-outside n = eqb n 25 || not (inTemperatureBand (celsius n))
+outside n = eqb n 25 || not (inTemperatureBand (celsiusOfRow n))
 
-all-outside : T (every outside 51)
-unfolding lt sub absDouble celsius ofInt ofBits
+all-outside : T (every 51 outside)
+unfolding lt sub absDouble celsiusOfRow ofInt ofBits
 all-outside = tt
 
-passed : (n : ℕ) → n < 51 → NoneHolds (temperatureRows (celsius n))
+passed : (n : ℕ) → n < 51 → NoneHolds (temperatureRows (celsiusOfRow n))
 passed n below =
-    let t = celsius n in
-    let both = at-each passes 51 n below all-pass in
+    let t = celsiusOfRow n in
+    let both = at 51 passes all-pass n below in
     (ap not (is-true (isFinite t) (and-l (isFinite t) (not (le t absoluteZero)) both)), (is-false (le t absoluteZero) (and-r (isFinite t) (not (le t absoluteZero)) both), tt))
 
-not-15 : (n : ℕ) → n < 51 → n ≢ 25 → inTemperatureBand (celsius n) ≡ false
+not-15 : (n : ℕ) → n < 51 → n ≢ 25 → inTemperatureBand (celsiusOfRow n) ≡ false
 not-15 n below other =
-    let band = inTemperatureBand (celsius n) in
-    is-false band (subst (λ (b : Bool). T (b || not band)) (ne-eqb n 25 other) (at-each outside 51 n below all-outside))
+    let band = inTemperatureBand (celsiusOfRow n) in
+    is-false band (subst (λ (b : Bool). T (b || not band)) (ne-eqb n 25 other) (at 51 outside all-outside n below))
 
-pub record-row : (h p u : Float) (n : ℕ) → n < 51 → n ≢ 25 → NoneHolds (inputRows h p u)
-    → rowOutcome h p u (celsius n) ≡ (judged (readingsOf h p u (celsius n)) ⟫ figuresOutcome (celsius n))
+pub record-row : (h p u : Float) (n : ℕ) → n < 51 → n ≢ 25 → NoneHolds (sheetInputRows h p u)
+    → rowOutcome h p u (celsiusOfRow n) ≡ (judged (readingsOf h p u (celsiusOfRow n)) ⟫ figuresOutcome (celsiusOfRow n))
 record-row h p u n below other i =
-    row-of-record h p u (celsius n) i (passed n below) (ap (λ (b : Bool). resolved b (celsius n) h) (not-15 n below other))
+    row-of-record h p u (celsiusOfRow n) i (passed n below) (ap (λ (b : Bool). unlessDefault b (celsiusOfRow n) h) (not-15 n below other))
 
 -- at sea level no temperature is a default
-at-sea-level : (t : Float) → stationTemperature t nought ≡ Given t
+at-sea-level : (t : Float) → resolvedStationTemperature t nought ≡ Given t
 unfolding lt absDouble ofBits
 at-sea-level t = ap (λ (b : Bool). cond b FromLayer (Given t)) (and-false (inTemperatureBand t))
 
-pub sea-level-row : (h p u : Float) (n : ℕ) → n < 51 → NoneHolds (inputRows h p u)
-    → rowOutcome h p u (celsius n) ≡ (judged (readingsOf nought p u (celsius n)) ⟫ figuresOutcome (celsius n))
+pub sea-level-row : (h p u : Float) (n : ℕ) → n < 51 → NoneHolds (sheetInputRows h p u)
+    → rowOutcome h p u (celsiusOfRow n) ≡ (judged (readingsOf nought p u (celsiusOfRow n)) ⟫ figuresOutcome (celsiusOfRow n))
 unfolding isFinite ofBits
 sea-level-row h p u n below i =
-    same-row h nought p u (not-false (isFinite h) (i .0)) refl (celsius n)
-    ∙ row-of-record nought p u (celsius n) (refl, i .1) (passed n below) (at-sea-level (celsius n))
+    same-row h nought p u (not-false (isFinite h) (i .0)) refl (celsiusOfRow n)
+    ∙ row-of-record nought p u (celsiusOfRow n) (refl, i .1) (passed n below) (at-sea-level (celsiusOfRow n))

@@ -1,13 +1,7 @@
 -- A text over a page: what stands before its end, the page's length, one text after another, and a copy into a part. Assumes nothing.
-use mathlib.Core.Path.{_≡_, sym, ap, ap₂, _∙_}
-use mathlib.Core.List.{List, [], _∷_, _++_, append-nil, append-assoc}
-use Prim.Native.Nat.{ℕ, _+_, _-_, _≤_, _<_}
-use native.Mathlib.Nat.{add-assoc}
-use native.Mathlib.Numerals.{add-one}
-use native.Mathlib.Omega.{arith}
+use Rattle.arithmetic.proofs.Kit.{_≡_, sym, ap, ap₂, _∙_, List, [], _∷_, _++_, append-nil, append-assoc, ℕ, _+_, _-_, _≤_, _<_, add-assoc, add-one, arith, length, take, drop, set, length-append, length-drop, drop-of-length-le, length-take-le, take-at, take-length, drop-drop}
 use borrow.Rule.Slice.PartMut.{putMid}
-use lib.ListN.{length, take, drop, set, length-append, length-drop, drop-of-length-le}
-use lib.Seq.{length-take-le, take-at, take-length, drop-drop, drop-append-add, set-split}
+use lib.Seq.{drop-append-add, set-split}
 use Rattle.sheet.specs.Over.{over}
 
 module _ (page : List ℕ) (at : ℕ) (text : List ℕ) (room : at + length text ≤ length page) where

@@ -1,17 +1,11 @@
 -- The outcomes of rows: what a row that is accepted has, the rows before it, and that a refusal stays. Assumes nothing.
-use mathlib.Core.Path.{_≡_, refl, sym, ap, _∙_}
-use mathlib.Core.Bool.{Bool, true, false}
-use mathlib.Core.List.{List, [], _++_}
-use Prim.Native.Nat.{ℕ, zero, suc, _+_, _*_}
-use native.Mathlib.Nat.{add-zero, add-suc}
-use native.Mathlib.Omega.{arith}
-use lib.Ieee.{Float}
-use lib.ListN.{length, length-append}
+use Rattle.arithmetic.proofs.Kit.{_≡_, refl, sym, ap, _∙_, Bool, true, false, List, [], _++_, ℕ, zero, suc, _+_, _*_, add-zero, arith, Float, length, length-append}
+use native.Mathlib.Nat.{add-suc}
 use Rattle.refusal.specs.Outcomes.{Outcome, accepted, refused, _⟫_, row}
-use Rattle.answered.specs.declared.judge.Figures.{Figures}
+use Rattle.refusal.specs.declared.judge.Figures.{Figures}
 use Rattle.mast.specs.Judge.{airOutcome}
-use Rattle.sheet.specs.Row.{rowText, isTooWide, figuresOutcome, station, rowOutcome}
-use Rattle.sheet.specs.Sheet.{celsius, rows, bare}
+use Rattle.sheet.specs.Row.{rowText, isTooWide, figuresOutcome, stationOfRow, rowOutcome}
+use Rattle.sheet.specs.Sheet.{celsiusOfRow, rows, bare}
 use Rattle.sheet.proofs.Cells.{narrow, row-length}
 
 -- ---- outcomes
@@ -46,31 +40,31 @@ figures-length t f line e = go (isTooWide t f) refl
 module _ (h p u : Float) where
   pub line-length : (t : Float) (line : List ℕ) → rowOutcome h p u t ≡ accepted line → length line ≡ 30
   unfolding rowOutcome
-  line-length t line e = let f = next-accepted (airOutcome (station h p u t)) (figuresOutcome t) e in figures-length t (f .0) line (f .2)
+  line-length t line e = let f = next-accepted (airOutcome (stationOfRow h p u t)) (figuresOutcome t) e in figures-length t (f .0) line (f .2)
 
   -- what the station's air says
-  pub air-refused : (t : Float) {n : ℕ} {vs : List Float} → airOutcome (station h p u t) ≡ refused n vs → rowOutcome h p u t ≡ refused n vs
+  pub air-refused : (t : Float) {n : ℕ} {vs : List Float} → airOutcome (stationOfRow h p u t) ≡ refused n vs → rowOutcome h p u t ≡ refused n vs
   unfolding rowOutcome
   air-refused t e = ap (λ (o : Outcome Figures). o ⟫ figuresOutcome t) e
 
-  pub air-accepted : (t : Float) {f : Figures} → airOutcome (station h p u t) ≡ accepted f → rowOutcome h p u t ≡ figuresOutcome t f
+  pub air-accepted : (t : Float) {f : Figures} → airOutcome (stationOfRow h p u t) ≡ accepted f → rowOutcome h p u t ≡ figuresOutcome t f
   unfolding rowOutcome
   air-accepted t e = ap (λ (o : Outcome Figures). o ⟫ figuresOutcome t) e
 
   -- ---- rows
   -- one row more
-  pub more : (n : ℕ) (text line : List ℕ) → rows h p u n ≡ accepted text → rowOutcome h p u (celsius n) ≡ accepted line
+  pub more : (n : ℕ) (text line : List ℕ) → rows h p u n ≡ accepted text → rowOutcome h p u (celsiusOfRow n) ≡ accepted line
       → rows h p u (suc n) ≡ accepted (text ++ line)
   unfolding rows
   more n text line e f =
-      ap (λ (o : Outcome (List ℕ)). o ⟫ (λ x. rowOutcome h p u (celsius n) ⟫ (λ y. accepted (x ++ y)))) e
+      ap (λ (o : Outcome (List ℕ)). o ⟫ (λ x. rowOutcome h p u (celsiusOfRow n) ⟫ (λ y. accepted (x ++ y)))) e
       ∙ ap (λ (o : Outcome (List ℕ)). o ⟫ (λ y. accepted (text ++ y))) f
 
-  pub stopped : (n : ℕ) (text : List ℕ) {k : ℕ} {vs : List Float} → rows h p u n ≡ accepted text → rowOutcome h p u (celsius n) ≡ refused k vs
+  pub stopped : (n : ℕ) (text : List ℕ) {k : ℕ} {vs : List Float} → rows h p u n ≡ accepted text → rowOutcome h p u (celsiusOfRow n) ≡ refused k vs
       → rows h p u (suc n) ≡ refused k vs
   unfolding rows
   stopped n text e f =
-      ap (λ (o : Outcome (List ℕ)). o ⟫ (λ x. rowOutcome h p u (celsius n) ⟫ (λ y. accepted (x ++ y)))) e
+      ap (λ (o : Outcome (List ℕ)). o ⟫ (λ x. rowOutcome h p u (celsiusOfRow n) ⟫ (λ y. accepted (x ++ y)))) e
       ∙ ap (λ (o : Outcome (List ℕ)). o ⟫ (λ y. accepted (text ++ y))) f
 
   -- a refusal is the last word
@@ -78,21 +72,21 @@ module _ (h p u : Float) where
   unfolding rows
   stays n zero e = rw (add-zero n) e
   stays n (suc j) e =
-      rw (add-suc n j) (ap (λ (o : Outcome (List ℕ)). o ⟫ (λ x. rowOutcome h p u (celsius (n + j)) ⟫ (λ y. accepted (x ++ y)))) (stays n j e))
+      rw (add-suc n j) (ap (λ (o : Outcome (List ℕ)). o ⟫ (λ x. rowOutcome h p u (celsiusOfRow (n + j)) ⟫ (λ y. accepted (x ++ y)))) (stays n j e))
 
   -- what rows that are accepted are made of
   pub record Parts (n : ℕ) (text : List ℕ) : Type 0 where
     pub before : List ℕ
     pub line : List ℕ
     pub rows-before : rows h p u n ≡ accepted before
-    pub last-row : rowOutcome h p u (celsius n) ≡ accepted line
+    pub last-row : rowOutcome h p u (celsiusOfRow n) ≡ accepted line
     pub joined : before ++ line ≡ text
 
   pub parts : (n : ℕ) (text : List ℕ) → rows h p u (suc n) ≡ accepted text → Parts n text
   unfolding rows
   parts n text e =
-      let a = next-accepted (rows h p u n) (λ x. rowOutcome h p u (celsius n) ⟫ (λ y. accepted (x ++ y))) e in
-      let b = next-accepted (rowOutcome h p u (celsius n)) (λ y. accepted (a .0 ++ y)) (a .2) in
+      let a = next-accepted (rows h p u n) (λ x. rowOutcome h p u (celsiusOfRow n) ⟫ (λ y. accepted (x ++ y))) e in
+      let b = next-accepted (rowOutcome h p u (celsiusOfRow n)) (λ y. accepted (a .0 ++ y)) (a .2) in
       record { before = a .0; line = b .0; rows-before = a .1; last-row = b .1; joined = cc }
 
   pub rows-length : (n : ℕ) (text : List ℕ) → rows h p u n ≡ accepted text → length text ≡ 30 * n
@@ -105,6 +99,6 @@ module _ (h p u : Float) where
         ap length (p .joined),
         length-append (p .before) (p .line),
         rows-length n (p .before) (p .rows-before),
-        line-length (celsius n)
+        line-length (celsiusOfRow n)
             (p .line) (p .last-row),
       )

@@ -1,17 +1,11 @@
 -- What a refused sheet hands out: each check's number and values, and those of the rows. Assumes nothing.
-use mathlib.Core.Path.{_≡_, refl}
-use mathlib.Core.Bool.{Bool, true, false, cond}
-use mathlib.Core.Logic.{inl, inr}
-use mathlib.Core.List.{List, [], _∷_, _++_}
-use Prim.Native.Nat.{ℕ, zero, suc, _≤_}
-use native.Mathlib.Omega.{arith}
-use lib.Dec.{ltb, lit≤}
-use lib.Ieee.{Float}
+use Rattle.arithmetic.proofs.Kit.{_≡_, refl, Bool, true, false, cond, inl, inr, List, [], _∷_, _++_, ℕ, zero, suc, _≤_, arith, ltb, lit≤, Float}
 use Rattle.refusal.specs.Outcomes.{Outcome, accepted, refused, _⟫_, Row, row, _then_}
 use Rattle.mast.specs.Judge.{airRows, airOutcome}
-use Rattle.sheet.specs.Row.{rowText, isTooWide, figuresOutcome, station, rowOutcome}
-use Rattle.sheet.specs.Sheet.{celsius, rows, inputRows, settingSheet}
-use Rattle.sheet.specs.Laws.{HandedOut, RefusedSheet}
+use Rattle.sheet.specs.Row.{rowText, isTooWide, figuresOutcome, stationOfRow, rowOutcome}
+use Rattle.sheet.specs.Sheet.{celsiusOfRow, rows, sheetInputRows, settingSheet}
+use Rattle.sheet.specs.Laws.{HandedOut}
+use Rattle.sheet.proofs.Stated.{RefusedSheet}
 
 -- ---- outcomes whose refusals hand out what they should
 abbrev Good : (A : Type 0) → Outcome A → Type 0
@@ -50,21 +44,21 @@ module _ (h p u : Float) where
   good-row : (t : Float) → Good (List ℕ) (rowOutcome h p u t)
   unfolding rowOutcome airOutcome figuresOutcome
   good-row t =
-      good-next (airOutcome (station h p u t)) (figuresOutcome t)
-      (good-rows (airRows (station h p u t)) (number-alone (lit≤ tt) (lit≤ tt), (number-alone (lit≤ tt) (lit≤ tt), tt)) (good-accepted _))
+      good-next (airOutcome (stationOfRow h p u t)) (figuresOutcome t)
+      (good-rows (airRows (stationOfRow h p u t)) (number-alone (lit≤ tt) (lit≤ tt), (number-alone (lit≤ tt) (lit≤ tt), tt)) (good-accepted _))
       (λ f. good-rows (row (isTooWide t f) 17 [] ∷ []) (number-alone (lit≤ tt) (lit≤ tt), tt) (good-accepted (rowText t f)))
 
   good-sheet : (n : ℕ) → Good (List ℕ) (rows h p u n)
   unfolding rows
   good-sheet zero = good-accepted []
   good-sheet (suc n) =
-      good-next (rows h p u n) (λ text. rowOutcome h p u (celsius n) ⟫ (λ line. accepted (text ++ line))) (good-sheet n)
-      (λ text. good-next (rowOutcome h p u (celsius n)) (λ line. accepted (text ++ line)) (good-row (celsius n)) (λ line. good-accepted (text ++ line)))
+      good-next (rows h p u n) (λ text. rowOutcome h p u (celsiusOfRow n) ⟫ (λ line. accepted (text ++ line))) (good-sheet n)
+      (λ text. good-next (rowOutcome h p u (celsiusOfRow n)) (λ line. accepted (text ++ line)) (good-row (celsiusOfRow n)) (λ line. good-accepted (text ++ line)))
 
 pub refused-sheet : RefusedSheet
 unfolding settingSheet
 refused-sheet h p u room =
-    good-rows (row (ltb room 1530) 16 [] ∷ inputRows h p u) (
+    good-rows (row (ltb room 1530) 16 [] ∷ sheetInputRows h p u) (
       number-alone (lit≤ tt) (lit≤ tt),
       (
         input h 11 (lit≤ tt) (lit≤ tt),

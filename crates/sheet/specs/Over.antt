@@ -2,7 +2,7 @@
 use Prim.Native.Nat.{ℕ, _+_, _-_}
 use mathlib.Core.List.{List, [], _∷_, _++_}
 use lib.ListN.{length, take, drop}
-use Rattle.decimals.specs.declared.text.DecimalText.{DecimalText}
+use Rattle.decimals.specs.declared.shown.DecimalText.{DecimalText}
 use Rattle.refusal.specs.Outcomes.{Outcome, accepted, refused}
 
 -- from position `at` on
@@ -10,9 +10,9 @@ abbrev pub over : List ℕ → ℕ → List ℕ → List ℕ
 over page at text = take at page ++ (text ++ drop (at + length text) page)
 
 -- where the text is refused, the page is left
-abbrev pub after : List ℕ → ℕ → Outcome (List ℕ) → List ℕ
-after page at (accepted text) = over page at text
-after page at (refused number values) = page
+abbrev pub overOrLeft : List ℕ → ℕ → Outcome (List ℕ) → List ℕ
+overOrLeft page at (accepted text) = over page at text
+overOrLeft page at (refused number values) = page
 
 -- the last w of a text's sixteen places, and a byte after them
 abbrev pub lastPlaces : ℕ → DecimalText → ℕ → List ℕ

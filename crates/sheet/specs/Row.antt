@@ -8,9 +8,9 @@ use lib.Ieee.{Float}
 use lib.ListN.{length, replicate}
 use Rattle.decimals.specs.Decimal.{decimalText}
 use Rattle.refusal.specs.Outcomes.{Outcome, accepted, _⟫_, row, _then_}
-use Rattle.atmosphere.specs.declared.station.Reading.the-variants.{Given}
-use Rattle.answered.specs.declared.judge.Figures.{Figures}
-use Rattle.resolved.specs.declared.resolved.Resolved.{Resolved}
+use Rattle.atmosphere.specs.declared.given.Reading.the-variants.{Given}
+use Rattle.refusal.specs.declared.judge.Figures.{Figures}
+use Rattle.station.specs.declared.resolved.Resolved.{Resolved}
 use Rattle.mast.specs.Judge.{airOutcome}
 
 -- ---- a figure with k decimals in a column of w places, at the right, and what stands after the column
@@ -34,9 +34,9 @@ unfoldable pub figuresOutcome : Float → Figures → Outcome (List ℕ)
 figuresOutcome t f = (row (isTooWide t f) 17 [] ∷ []) then accepted (rowText t f)
 
 -- ---- temperature and pressure count as given, with no default band
-abbrev pub station : Float → Float → Float → Float → Resolved
-station h p u t = record { «altitude_m» = h; temperature = Given t; pressure = Given p; «humidity_percent» = u }
+abbrev pub stationOfRow : Float → Float → Float → Float → Resolved
+stationOfRow h p u t = record { «altitude_m» = h; temperature = Given t; pressure = Given p; «humidity_percent» = u }
 
 -- 14 and 15 are the station's, and 17 comes after them
 unfoldable pub rowOutcome : Float → Float → Float → Float → Outcome (List ℕ)
-rowOutcome h p u t = airOutcome (station h p u t) ⟫ figuresOutcome t
+rowOutcome h p u t = airOutcome (stationOfRow h p u t) ⟫ figuresOutcome t

@@ -3,13 +3,13 @@ ghost use mathlib.Core.Path.{_≡_};
 ghost use Prim.Native.Nat.{_<_};
 ghost use lib.ListN.{length};
 ghost use Rattle.refusal.specs.Outcomes.{checked, passed, accepted, _⟫_};
-ghost use Rattle.sheet.specs.Over.{after};
-ghost use Rattle.sheet.specs.Sheet.{celsius, rows, inputRows, settingSheet, outcome, bare};
+ghost use Rattle.sheet.specs.Over.{overOrLeft};
+ghost use Rattle.sheet.specs.Sheet.{celsiusOfRow, rows, sheetInputRows, settingSheet, sheetOutcome, bare};
 use super::row::write_row;
-use entries::Entry;
-use limits::checks::check_altitude;
-use limits::checks::check_humidity;
-use limits::checks::check_pressure;
+use mast::checks::check_altitude;
+use mast::checks::check_humidity;
+use mast::checks::check_pressure;
+use record::entries::Entry;
 use refusal::Check;
 use refusal::Refusal;
 use refusal::first_of;
@@ -21,7 +21,7 @@ pub enum Sheet {
 }
 
 fn check_inputs(altitude_m: f64, pressure_hpa: f64, humidity_percent: f64) -> Check
-    ensures { λ r. ⌜ checked r ≡ passed (inputRows «altitude_m» «pressure_hpa» «humidity_percent») ⌝ }
+    ensures { λ r. ⌜ checked r ≡ passed (sheetInputRows «altitude_m» «pressure_hpa» «humidity_percent») ⌝ }
 {
     let altitude = check_altitude(Entry::Present(altitude_m));
     let pressure = check_pressure(Entry::Present(pressure_hpa));
@@ -31,7 +31,7 @@ fn check_inputs(altitude_m: f64, pressure_hpa: f64, humidity_percent: f64) -> Ch
 
 fn celsius(n: u32) -> f64
     requires { ⌜ n < 51 ⌝ }
-    ensures { λ r. ⌜ r ≡ celsius n ⌝ }
+    ensures { λ r. ⌜ r ≡ celsiusOfRow n ⌝ }
 {
     (n as i32 - 10) as f64
 }
@@ -66,8 +66,8 @@ pub fn setting_sheet(
     humidity_percent: f64,
     page: &mut [u8],
 ) -> Sheet
-    ensures answered { λ r. ⌜ outcome r ≡ bare (settingSheet «altitude_m» «pressure_hpa» «humidity_percent» (length (now (page .entry)))) ⌝ }
-    ensures written { λ _. ⌜ now (page .exit) ≡ after (now (page .entry)) 0
+    ensures answered { λ r. ⌜ sheetOutcome r ≡ bare (settingSheet «altitude_m» «pressure_hpa» «humidity_percent» (length (now (page .entry)))) ⌝ }
+    ensures written { λ _. ⌜ now (page .exit) ≡ overOrLeft (now (page .entry)) 0
         (settingSheet «altitude_m» «pressure_hpa» «humidity_percent» (length (now (page .entry)))) ⌝ }
 {
     if page.len() < 1530 {

@@ -4,18 +4,18 @@ ghost use mathlib.Core.List.{_++_};
 ghost use Prim.Native.Nat.{_+_, _≤_, _<_};
 ghost use lib.ListN.{length};
 ghost use Rattle.refusal.specs.Outcomes.{checked};
-ghost use Rattle.sheet.specs.Over.{over, after, lastPlaces};
+ghost use Rattle.sheet.specs.Over.{over, overOrLeft, lastPlaces};
 ghost use Rattle.sheet.specs.Row.{figuresOutcome, rowOutcome};
 ghost use Rattle.sheet.specs.Sheet.{bare};
-use answered::judge::Answer;
-use answered::judge::Figures;
-use atmosphere::station::Reading;
-use decimals::text::DecimalText;
-use decimals::text::decimal_text;
-use mast::judge::air;
+use atmosphere::given::Reading;
+use decimals::shown::DecimalText;
+use decimals::shown::decimal_text;
+use mast::judge::answer_of;
 use refusal::Check;
 use refusal::Refusal;
-use resolved::resolved::Resolved;
+use refusal::judge::Answer;
+use refusal::judge::Figures;
+use station::resolved::Resolved;
 
 fn write_cell(page: &mut [u8], at: usize, text: DecimalText, width: usize, end: u8)
     requires { ⌜ (width ≤ 16) × (at + width < length (now page)) ⌝ }
@@ -47,7 +47,7 @@ fn write_cells(
 fn write_figures(page: &mut [u8], at: usize, temperature_c: f64, figures: Figures) -> Check
     requires { ⌜ at + 30 ≤ length (now page) ⌝ }
     ensures checked { λ r. ⌜ checked r ≡ bare (figuresOutcome «temperature_c» figures) ⌝ }
-    ensures written { λ _. ⌜ now (page .exit) ≡ after (now (page .entry)) at (figuresOutcome «temperature_c» figures) ⌝ }
+    ensures written { λ _. ⌜ now (page .exit) ≡ overOrLeft (now (page .entry)) at (figuresOutcome «temperature_c» figures) ⌝ }
 {
     let temperature = decimal_text(temperature_c, 1);
     let density = decimal_text(figures.density_kg_m3, 4);
@@ -71,7 +71,7 @@ pub(crate) fn write_row(
 ) -> Check
     requires { ⌜ at + 30 ≤ length (now page) ⌝ }
     ensures checked { λ r. ⌜ checked r ≡ bare (rowOutcome «altitude_m» «pressure_hpa» «humidity_percent» «temperature_c») ⌝ }
-    ensures written { λ _. ⌜ now (page .exit) ≡ after (now (page .entry)) at (rowOutcome «altitude_m» «pressure_hpa» «humidity_percent» «temperature_c») ⌝ }
+    ensures written { λ _. ⌜ now (page .exit) ≡ overOrLeft (now (page .entry)) at (rowOutcome «altitude_m» «pressure_hpa» «humidity_percent» «temperature_c») ⌝ }
 {
     let station = Resolved {
         altitude_m,
@@ -79,7 +79,7 @@ pub(crate) fn write_row(
         pressure: Reading::Given(pressure_hpa),
         humidity_percent,
     };
-    match air(station) {
+    match answer_of(station) {
         Answer::Refused(refusal) => Check::Refused(refusal),
         Answer::Figures(figures) => write_figures(page, at, temperature_c, figures),
     }

@@ -4,16 +4,15 @@ use mathlib.Core.Bool.{Bool, _&&_}
 use lib.Ieee.{Float, le}
 use Rattle.arithmetic.specs.Places.{places}
 use Rattle.arithmetic.specs.Decimals.{decimal, nought}
-use Rattle.doubles.specs.Doubles.{isFinite}
+use Rattle.arithmetic.specs.Doubles.{isFinite, isFiniteAbove}
 use Rattle.humid_air.specs.Humidity.{moleFractionCelsius}
-use Rattle.atmosphere.specs.declared.station.Reading.{Reading}
-use Rattle.altitudes.specs.Altitudes.{pressureAltitude}
+use Rattle.atmosphere.specs.declared.given.Reading.{Reading}
+use Rattle.atmosphere.specs.Altitudes.{pressureAltitude}
 use Rattle.air.specs.Station.{celsius, hectopascals, atmosphere}
 use Rattle.air.specs.Matched.{densityMatchedAltitude}
-use Rattle.density_altitude.specs.Inverse.{isFiniteAbove}
-use Rattle.answered.specs.declared.judge.Figures.{Figures}
+use Rattle.refusal.specs.declared.judge.Figures.{Figures}
 use Rattle.station.specs.declared.figures.StationFigures.{StationFigures}
-use Rattle.resolved.specs.declared.resolved.Resolved.{Resolved}
+use Rattle.station.specs.declared.resolved.Resolved.{Resolved}
 
 -- ---- what is shown: what is absent or a default comes from the standard atmosphere
 abbrev pub shownCelsius : Reading → Float → Float

@@ -1,2 +1,3 @@
 -- What the contracts of `station` cite: the figures.
 pub mod Figures
+pub mod Resolved

@@ -1,13 +1,13 @@
 // The eight figures of a station and their mark: what is shown of what is resolved, and the figures.
 ghost use mathlib.Core.Path.{_≡_};
+ghost use Rattle.arithmetic.specs.Doubles.{isFiniteAbove};
 ghost use Rattle.arithmetic.specs.Decimals.{nought};
-ghost use Rattle.density_altitude.specs.Inverse.{isFiniteAbove};
 ghost use Rattle.station.specs.Figures.{inCipmRange, stationFigures, isAir};
+use crate::resolved::Resolved;
 use air::figures::air_figures;
-use altitudes::altitudes::pressure_altitude_m;
-use answered::judge::Figures;
-use doubles::doubles::is_finite;
-use resolved::resolved::Resolved;
+use arithmetic::doubles::is_finite;
+use atmosphere::altitudes::pressure_altitude_m;
+use refusal::judge::Figures;
 
 // The figures of a station, with the mole fraction of vapour, uncapped, of the shown temperature and
 // pressure.

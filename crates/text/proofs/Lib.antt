@@ -1,4 +1,4 @@
--- Document 01's samples.
+-- Document 01's samples, and how long a text is.
 pub mod Samples
--- Texts of equal outcomes.
-pub mod Outcomes
+pub mod Short
+pub mod Stated

@@ -2,3 +2,4 @@
 pub mod Text
 pub mod Asked
 pub mod Samples
+pub mod Lines

@@ -2,9 +2,9 @@
 use Prim.Native.Nat.{ℕ}
 use mathlib.Core.List.{List, _++_}
 use Rattle.refusal.specs.Outcomes.{Outcome, accepted, refused}
-use Rattle.answered.specs.declared.judge.Figures.{Figures}
-use Rattle.pieces.specs.Characters.{refusalLine}
-use Rattle.answer_lines.specs.Lines.{stationLine, airLine}
+use Rattle.refusal.specs.declared.judge.Figures.{Figures}
+use Rattle.pages.specs.Characters.{refusalLine}
+use Rattle.text.specs.Lines.{stationLine, airLine}
 
 abbrev pub answerText : Outcome Figures → List ℕ
 answerText (accepted f) = stationLine f ++ airLine f

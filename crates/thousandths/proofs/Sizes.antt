@@ -1,23 +1,18 @@
 -- The size of a count's double: the rounding moves N / 1000 by less than 2^-31, so that the whole number nearest to 1000 times the double is N.
 -- Assumes nothing.
-use mathlib.Core.Path.{_≡_, refl, sym, ap, _∙_}
-use mathlib.Core.Bool.{true, false}
-use Prim.Native.Nat.{ℕ, _+_, _*_, _^_, _≤_, _<_}
-use native.Mathlib.Nat.{mul-comm, mul-assoc, mul-right-comm, add-mul, mul-le-mul-right, div-eq-of-lt-le}
-use native.Mathlib.Omega.{arith}
-use lib.IntN.{ℤ}
-use lib.Dec.{T, lit≤, lit<}
-use lib.Pow.{pow-pos}
-use lib.Ieee.{Float, nan, inf, fin, binary64, up, down, round}
-use lib.Ieee.Fits.{down-pos}
+use Rattle.arithmetic.proofs.Kit.{_≡_, refl, sym, ap, _∙_, true, false, ℕ, _+_, _*_, _^_, _≤_, _<_, mul-comm, mul-assoc, mul-right-comm, add-mul, mul-le-mul-right, arith, ℤ, T, lit≤, lit<, pow-pos, Float, nan, inf, fin, binary64, up, down, round, down-pos, round-same}
+use native.Mathlib.Nat.{div-eq-of-lt-le}
 use lib.Ieee.Nearest.{div-same}
-use lib.Ieee.Scale.{round-same}
 use Rattle.arithmetic.specs.Nearest.{unitsOf}
 use Rattle.arithmetic.proofs.CommonDenominator.{above, beneath}
 use Rattle.arithmetic.proofs.Order.{unsigned, units-exact}
 use Rattle.arithmetic.proofs.Rounding.{round-unsigned}
 use Rattle.arithmetic.proofs.Near.{Near, round-near}
-use Rattle.thousandths.specs.Thousandths.{nearestWhole}
+use Rattle.thousandths.specs.Thousandths.{nearestWhole, inRange}
+
+-- a count in range
+abbrev pub InRange : ℤ → Type 0
+InRange n = T (inRange n)
 
 -- ---- equal fractions have the same nearest whole number
 pub nearest-whole-same : (a b c d : ℕ) → 0 < b → 0 < d → a * d ≡ c * b → nearestWhole a b ≡ nearestWhole c d

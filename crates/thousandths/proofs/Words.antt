@@ -1,18 +1,14 @@
 -- Two's complement: the counts from 0 up are their own words, and -(k + 1) has the word 2^32 - (k + 1). Assumes nothing.
-use mathlib.Core.Path.{_≡_, refl, ap, _∙_}
-use mathlib.Core.Bool.{Bool, true, false, not}
-use Prim.Native.Nat.{ℕ, zero, suc, _-_, _%_, _≤_, _<_}
-use native.Mathlib.Nat.{mod-eq-of-lt}
-use native.Mathlib.Omega.{arith}
-use lib.IntN.{ℤ, pos, negsuc}
-use lib.Dec.{T, leb, leb→le, le→leb, nleb→lt}
-use mir.Syntax.{w32}
-use mir.Val.{SFits, ofZ, toZ}
-use mir.ValLaws.{toZ-ofZ}
-use borrow.Author.Tests.{le-leb, lt-leb, lt-ltb}
+use Rattle.arithmetic.proofs.Kit.{_≡_, refl, ap, _∙_, Bool, true, false, not, ℕ, zero, suc, _-_, _%_, _≤_, _<_, mod-eq-of-lt, arith, ℤ, pos, negsuc, T, leb, leb→le, le→leb, nleb→lt, w32, SFits, ofZ, toZ, toZ-ofZ, le-leb, lt-leb, lt-ltb}
 use Rattle.arithmetic.specs.Whole.{signed}
-use Rattle.thousandths.specs.Thousandths.{inRange, countOf, wordOf}
-use Rattle.thousandths.specs.Laws.{InRange, TwosComplement}
+use Rattle.thousandths.specs.Thousandths.{inRange, countOf, twosComplement}
+use Rattle.thousandths.proofs.Sizes.{InRange}
+
+pub record TwosComplement : Type 0 where
+  pub countInRange : (w : ℕ) → w < 4294967296 → InRange (countOf w)
+  pub wordInRange : (n : ℤ) → InRange n → twosComplement n < 4294967296
+  pub wordOfCount : (w : ℕ) → w < 4294967296 → twosComplement (countOf w) ≡ w
+  pub countOfWord : (n : ℤ) → InRange n → countOf (twosComplement n) ≡ n
 
 -- ---- the two halves of the words
 pub count-below : (w : ℕ) → w ≤ 2147483647 → countOf w ≡ pos w
@@ -24,7 +20,7 @@ unfolding countOf
 count-above w h k = rw (lt-leb w 2147483647 h, lt-ltb w 4294967296 k) (ap negsuc (omega arith))
 
 -- a property of every count, by those of the two halves
-pub by-halves : (P : ℕ → ℤ → Type 0) → ((w : ℕ) → w ≤ 2147483647 → P w (pos w)) → ((w : ℕ) → 2147483647 < w → w < 4294967296 → P w (negsuc (4294967295 - w)))
+by-halves : (P : ℕ → ℤ → Type 0) → ((w : ℕ) → w ≤ 2147483647 → P w (pos w)) → ((w : ℕ) → 2147483647 < w → w < 4294967296 → P w (negsuc (4294967295 - w)))
     → (w : ℕ) → w < 4294967296 → P w (countOf w)
 by-halves P low high w h = go (leb w 2147483647) (leb→le w 2147483647) (nleb→lt w 2147483647)
   where
@@ -63,17 +59,17 @@ fits-in-range (negsuc n) f = le→leb (suc n) 2147483648 (f .sfits)
 pub reads-back : (w : ℕ) (z : ℤ) → w < 4294967296 → z ≡ countOf w → toZ w32 (ofZ w32 z) ≡ countOf w
 reads-back w z h e = rw e (toZ-ofZ w32 (countOf w) (by-halves (λ w n. SFits w32 n) (λ w l. record { sfits = omega arith }) (λ w g h. record { sfits = omega arith }) w h))
 
-word-of-count : (w : ℕ) → w < 4294967296 → wordOf (countOf w) ≡ w
-unfolding wordOf
-word-of-count = by-halves (λ w n. wordOf n ≡ w) (λ w l. refl) (λ w g h. omega arith)
+word-of-count : (w : ℕ) → w < 4294967296 → twosComplement (countOf w) ≡ w
+unfolding twosComplement
+word-of-count = by-halves (λ w n. twosComplement n ≡ w) (λ w l. refl) (λ w g h. omega arith)
 
-word-in-range : (n : ℤ) → InRange n → wordOf n < 4294967296
-unfolding wordOf
+word-in-range : (n : ℤ) → InRange n → twosComplement n < 4294967296
+unfolding twosComplement
 word-in-range (pos n) h = omega (arith, leb→le n 2147483647 h)
 word-in-range (negsuc n) h = omega arith
 
-pub count-of-word : (n : ℤ) → InRange n → countOf (wordOf n) ≡ n
-unfolding wordOf
+pub count-of-word : (n : ℤ) → InRange n → countOf (twosComplement n) ≡ n
+unfolding twosComplement
 count-of-word (pos n) h = count-below n (leb→le n 2147483647 h)
 count-of-word (negsuc n) h =
     let l : suc n ≤ 2147483648 = leb→le (suc n) 2147483648 h in

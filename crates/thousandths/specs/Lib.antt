@@ -1,3 +1,2 @@
--- What the contracts of `thousandths` cite: counts of thousandths, their words and their doubles, and what a reader may rely on.
+-- What the contracts of `thousandths` cite: counts of thousandths, their words and their doubles.
 pub mod Thousandths
-pub mod Laws

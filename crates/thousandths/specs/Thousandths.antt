@@ -20,9 +20,9 @@ inRange (negsuc n) = leb (suc n) 2147483648
 unfoldable pub countOf : ℕ → ℤ
 countOf w = cond (leb w 2147483647) (pos w) (subℕ w 4294967296)
 
-unfoldable pub wordOf : ℤ → ℕ
-wordOf (pos n) = n
-wordOf (negsuc n) = 4294967296 - suc n
+unfoldable pub twosComplement : ℤ → ℕ
+twosComplement (pos n) = n
+twosComplement (negsuc n) = 4294967296 - suc n
 
 -- ---- "the double nearest n / 1000", ties to even; 0 is +0
 unfoldable pub thousandths : ℤ → Float
@@ -34,19 +34,19 @@ abbrev pub nearestWhole : ℕ → ℕ → ℕ
 nearestWhole a b = (a * 2 + b) / (b * 2)
 
 -- the count nearest to a double, which is m * 2 ^ e with a sign: the only one whose double it can be
-unfoldable pub nearestCount : Float → ℤ
-nearestCount nan = pos 0
-nearestCount (inf s) = pos 0
-nearestCount (fin s m e) = signed s (nearestWhole (m * up e * 1000) (down e))
+unfoldable pub nearestThousandth : Float → ℤ
+nearestThousandth nan = pos 0
+nearestThousandth (inf s) = pos 0
+nearestThousandth (fin s m e) = signed s (nearestWhole (m * up e * 1000) (down e))
 
 -- the count n, if it is in range
 unfoldable pub counted : ℤ → Counted
 counted n = cond (inRange n) (Count n) Missing
 
 -- and if its double has the bit pattern b
-unfoldable pub tried : ℕ → Counted → Counted
-tried b (Count n) = cond (eqb (toBits binary64 (thousandths n)) b) (Count n) Missing
-tried b Missing = Missing
+unfoldable pub ifExact : ℕ → Counted → Counted
+ifExact b (Count n) = cond (eqb (toBits binary64 (thousandths n)) b) (Count n) Missing
+ifExact b Missing = Missing
 
 unfoldable pub countFor : Float → Counted
-countFor x = tried (toBits binary64 x) (counted (nearestCount x))
+countFor x = ifExact (toBits binary64 x) (counted (nearestThousandth x))

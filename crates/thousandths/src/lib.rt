@@ -3,7 +3,7 @@
 ghost use mathlib.Core.Path.{_≡_};
 ghost use Prim.Native.Nat.{_*_, _^_, _<_};
 ghost use Rattle.arithmetic.specs.Whole.{signed};
-ghost use Rattle.thousandths.specs.Thousandths.{countOf, wordOf, thousandths, nearestWhole, counted, tried, countFor};
+ghost use Rattle.thousandths.specs.Thousandths.{countOf, twosComplement, thousandths, nearestWhole, counted, ifExact, countFor};
 
 pub enum Counted {
     Count(i32),
@@ -11,7 +11,7 @@ pub enum Counted {
 }
 
 // The count that a word stands for by two's complement. `!k` is -(k + 1).
-pub fn count_from(word: u32) -> i32
+fn count_from(word: u32) -> i32
     ensures { λ r. ⌜ r ≡ countOf word ⌝ }
 {
     if word <= 2147483647 {
@@ -23,7 +23,7 @@ pub fn count_from(word: u32) -> i32
 
 // The word of a count by two's complement.
 pub fn word_from(count: i32) -> u32
-    ensures { λ r. ⌜ r ≡ wordOf count ⌝ }
+    ensures { λ r. ⌜ r ≡ twosComplement count ⌝ }
 {
     if count >= 0 {
         count as u32
@@ -33,7 +33,7 @@ pub fn word_from(count: i32) -> u32
 }
 
 // The double nearest to count / 1000.
-pub fn double_of(count: i32) -> f64
+fn double_of(count: i32) -> f64
     ensures { λ r. ⌜ r ≡ thousandths count ⌝ }
 {
     count as f64 / 1000.0
@@ -73,7 +73,7 @@ pub fn signed_count(negative: bool, size: u64) -> Counted
 
 // A count, if its double has the pattern.
 fn tried(pattern: u64, count: Counted) -> Counted
-    ensures { λ r. ⌜ r ≡ tried pattern count ⌝ }
+    ensures { λ r. ⌜ r ≡ ifExact pattern count ⌝ }
 {
     match count {
         Counted::Count(n) => {

@@ -1,28 +1,24 @@
 -- The answer to a record: the smallest change that gives another class, and the refusals. Assumes nothing.
-use mathlib.Core.Path.{_≡_, refl, sym, ap, subst, _∙_}
-use mathlib.Core.Bool.{false}
-use mathlib.Core.List.{List, []}
-use mathlib.Core.Logic.{_⊎_, ⊎-elim}
-use Prim.Native.Nat.{ℕ}
-use native.Mathlib.Omega.{arith}
-use lib.Ieee.{Float}
+use Rattle.arithmetic.proofs.Kit.{_≡_, refl, sym, ap, subst, _∙_, false, List, [], _⊎_, ⊎-elim, ℕ, arith, Float}
 use Rattle.refusal.specs.Outcomes.{Outcome, accepted, refused, _⟫_}
-use Rattle.entries.specs.declared.Entry.{Entry}
-use Rattle.entries.specs.declared.Entry.the-variants.{Absent, Present}
-use Rattle.entries.specs.declared.Readings.{Readings}
+use Rattle.record.specs.declared.entries.Entry.{Entry}
+use Rattle.record.specs.declared.entries.Entry.the-variants.{Absent, Present}
+use Rattle.record.specs.declared.entries.Readings.{Readings}
 use Rattle.fields.specs.Fields.{temperature, measuredPressure}
 use Rattle.record.specs.Readings.{readRecord}
-use Rattle.entries.specs.Entries.{entryOf}
-use Rattle.answered.specs.declared.judge.Figures.{Figures}
+use Rattle.record.specs.Entries.{entryOf}
+use Rattle.refusal.specs.declared.judge.Figures.{Figures}
 use Rattle.mast.specs.Judge.{judged, judge}
-use Rattle.trim_change.specs.declared.changes.Turn.{Turn}
-use Rattle.trim_change.specs.declared.changes.Found.{Found}
-use Rattle.trim_change.specs.declared.changes.Found.the-variants as found
-use Rattle.trim_change.specs.declared.changes.Start.{Start}
-use Rattle.trim_class.specs.Classes.{trimClass, classOf}
+use Rattle.trim.specs.declared.changes.Turn.{Turn}
+use Rattle.trim.specs.declared.changes.Found.{Found}
+use Rattle.trim.specs.declared.changes.Found.the-variants as found
+use Rattle.trim.specs.declared.changes.Start.{Start}
+use Rattle.trim.specs.Classes.{trimClass, classOf}
 use Rattle.trim.specs.InOrder.{changes, firstOf}
 use Rattle.trim.specs.Search.{Next, nextFrom, startOf, nextWith, nextOf, nextTrimClass}
-use Rattle.trim.specs.Laws.{OneOfThe800, FirstToGive, Asks, Searched, SmallestChange, Answered, RefusalsFirst}
+use Rattle.trim.specs.Laws.{OneOfThe800, FirstToGive, Asks}
+use Rattle.trim.proofs.Stated.{ClassAnswered}
+use Rattle.trim.proofs.Stated.{Searched, SmallestChange, RefusalsFirst}
 use Rattle.trim.proofs.Found.{FromCount, gives-from, gives-not-from, from-count}
 
 -- ---- the smallest change
@@ -99,12 +95,12 @@ no-reading-refused bytes r f e j h =
     ∙ ap (λ (o : Outcome Figures). (o ⟫ (λ f. accepted (trimClass (f .«density_kg_m3»)))) ⟫ nextWith r) j
     ∙ no-reading r (trimClass (f .«density_kg_m3»)) (entryOf r temperature) (entryOf r measuredPressure) h
 
-answered : (bytes : List ℕ) (n : Next) → nextTrimClass bytes ≡ accepted n → Answered bytes n
+answered : (bytes : List ℕ) (n : Next) → nextTrimClass bytes ≡ accepted n → ClassAnswered bytes n
 unfolding nextTrimClass nextOf nextWith nextFrom
 answered bytes n e = go (readRecord false bytes) refl e
   where
     by-entries : (r : Readings) (m : ℕ) (t p : Entry) → readRecord false bytes ≡ accepted r → classOf r ≡ accepted m
-        → entryOf r temperature ≡ t → entryOf r measuredPressure ≡ p → (startOf r m t p ⟫ nextFrom) ≡ accepted n → Answered bytes n
+        → entryOf r temperature ≡ t → entryOf r measuredPressure ≡ p → (startOf r m t p ⟫ nextFrom) ≡ accepted n → ClassAnswered bytes n
     by-entries r m (Present t) (Present p) read class there there′ e =
         record {
           start = record { readings = r; «temperature_c» = t; «pressure_hpa» = p; class = m };
@@ -114,11 +110,11 @@ answered bytes n e = go (readRecord false bytes) refl e
     by-entries r m (Present t) Absent read class there there′ e = absurd (refused-or e)
     by-entries r m Absent p read class there there′ e = absurd (refused-or e)
 
-    by-class : (r : Readings) (o : Outcome ℕ) → readRecord false bytes ≡ accepted r → classOf r ≡ o → (o ⟫ nextWith r) ≡ accepted n → Answered bytes n
+    by-class : (r : Readings) (o : Outcome ℕ) → readRecord false bytes ≡ accepted r → classOf r ≡ o → (o ⟫ nextWith r) ≡ accepted n → ClassAnswered bytes n
     by-class r (accepted m) read class e = by-entries r m (entryOf r temperature) (entryOf r measuredPressure) read class refl refl e
     by-class r (refused k vs) read class e = absurd (refused-or e)
 
-    go : (o : Outcome Readings) → readRecord false bytes ≡ o → (o ⟫ nextOf) ≡ accepted n → Answered bytes n
+    go : (o : Outcome Readings) → readRecord false bytes ≡ o → (o ⟫ nextOf) ≡ accepted n → ClassAnswered bytes n
     go (accepted r) read e = by-class r (classOf r) read refl e
     go (refused k vs) read e = absurd (refused-or e)
 

@@ -1,25 +1,22 @@
 -- Each number of the answer has exactly its cause, and the class is a count of six limits. Assumes nothing.
-use mathlib.Core.Path.{_≡_, refl, sym, ap, ap₂, _∙_}
-use mathlib.Core.Bool.{false, not, _||_}
-use mathlib.Core.List.{List, [], _∷_}
-use Prim.Native.Nat.{ℕ}
-use native.Mathlib.Omega.{arith}
+use Rattle.arithmetic.proofs.Kit.{_≡_, refl, sym, ap, ap₂, _∙_, false, not, _||_, List, [], _∷_, ℕ, arith}
 use Rattle.refusal.specs.Outcomes.{Outcome, accepted, _⟫_, row, _then_}
 use Rattle.refusal.proofs.Rows.{then-append, then-next, none-both, exactly-by}
-use Rattle.entries.specs.declared.Entry.{Entry}
-use Rattle.entries.specs.declared.Entry.the-variants.{Absent, Present}
-use Rattle.entries.specs.declared.Readings.{Readings}
-use Rattle.entries.specs.Entries.{entryOf, isPresent, valueOrZero}
+use Rattle.record.specs.declared.entries.Entry.{Entry}
+use Rattle.record.specs.declared.entries.Entry.the-variants.{Absent, Present}
+use Rattle.record.specs.declared.entries.Readings.{Readings}
+use Rattle.record.specs.Entries.{entryOf, isPresent, valueOrZero}
 use Rattle.fields.specs.Fields.{temperature, measuredPressure}
 use Rattle.record.specs.Readings.{readRows, readings}
-use Rattle.answered.specs.declared.judge.Figures.{Figures}
+use Rattle.refusal.specs.declared.judge.Figures.{Figures}
 use Rattle.station.specs.Figures.{figuresOf}
 use Rattle.mast.specs.Judge.{resolved, readingRows, recordRows, judged, judge}
 use Rattle.mast.proofs.Causes as mast
-use Rattle.trim_class.specs.Classes.{classDensities, countAtOrBelow, trimClass, classOf}
+use Rattle.trim.specs.Classes.{classDensities, countAtOrBelow, trimClass, classOf}
 use Rattle.trim.specs.InOrder.{changes, firstOf}
 use Rattle.trim.specs.Search.{Next, nextFrom, startOf, nextWith, nextOf, nextTrimClass}
-use Rattle.trim.specs.Laws.{trimRows, nextAt, Caused, NeverRefused, ClassCounts}
+use Rattle.trim.specs.Laws.{nextFor}
+use Rattle.trim.proofs.Stated.{trimRows, Caused, NeverRefused, ClassCounts}
 
 -- 22 by the two readings
 by-readings : (r : Readings) (c : ℕ) (t p : Entry)
@@ -37,7 +34,7 @@ caused bytes =
     let r = readings bytes in
     let f = figuresOf (resolved r) in
     let c = trimClass (f .«density_kg_m3») in
-    let n = nextAt bytes in
+    let n = nextFor bytes in
     let own = readingRows r in
     let last = row (not (isPresent (entryOf r temperature)) || not (isPresent (entryOf r measuredPressure))) 22 [] ∷ [] in
     let next-is : nextOf r ≡ (own then last then accepted n) =
@@ -52,7 +49,7 @@ unfolding judge
 never-refused bytes f t p e temperature-there pressure-there =
     let both : (not (isPresent (entryOf (readings bytes) temperature)) || not (isPresent (entryOf (readings bytes) measuredPressure))) ≡ false =
     ap₂ (λ (x y : Entry). not (isPresent x) || not (isPresent y)) temperature-there pressure-there in
-    (nextAt bytes, caused bytes .accepted-where (none-both (recordRows false bytes) (row (not (isPresent (entryOf (readings bytes) temperature)) || not (isPresent (entryOf (readings bytes) measuredPressure))) 22 [] ∷ []) (mast.caused false bytes .accepted-because e .0) (both, tt)))
+    (nextFor bytes, caused bytes .accepted-where (none-both (recordRows false bytes) (row (not (isPresent (entryOf (readings bytes) temperature)) || not (isPresent (entryOf (readings bytes) measuredPressure))) 22 [] ∷ []) (mast.caused false bytes .accepted-because e .0) (both, tt)))
 
 pub class-counts : ClassCounts
 unfolding classOf trimClass classDensities countAtOrBelow

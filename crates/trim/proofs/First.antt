@@ -1,12 +1,11 @@
 -- The first of some changes that gives another class: change by change, and one list after the other. Assumes nothing.
-use mathlib.Core.Path.{_≡_, refl, sym, ap, _∙_}
-use mathlib.Core.List.{List, [], _∷_, _++_}
-use Rattle.trim_change.specs.declared.changes.Change.{Change}
-use Rattle.trim_change.specs.declared.changes.Turn.{Turn}
-use Rattle.trim_change.specs.declared.changes.Found.{Found}
-use Rattle.trim_change.specs.declared.changes.Found.the-variants as found
-use Rattle.trim_change.specs.declared.changes.Start.{Start}
-use Rattle.trim_change.specs.Changes.{tried}
+use Rattle.arithmetic.proofs.Kit.{_≡_, refl, sym, ap, _∙_, List, [], _∷_, _++_}
+use Rattle.trim.specs.declared.changes.Change.{Change}
+use Rattle.trim.specs.declared.changes.Turn.{Turn}
+use Rattle.trim.specs.declared.changes.Found.{Found}
+use Rattle.trim.specs.declared.changes.Found.the-variants as found
+use Rattle.trim.specs.declared.changes.Start.{Start}
+use Rattle.trim.specs.Changes.{tried}
 use Rattle.trim.specs.InOrder.{orElse, firstOf}
 
 module _ (s : Start) (x : Change) (xs : List Change) where

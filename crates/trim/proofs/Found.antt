@@ -1,23 +1,16 @@
 -- What the search finds: of one change, of the four changes by one count, and of the counts from k on. Assumes nothing.
-use mathlib.Core.Path.{_≡_, refl, sym, ap, subst, _∙_}
-use mathlib.Core.Bool.{Bool, true, false, cond}
-use mathlib.Core.Logic.{⊎-elim}
-use Prim.Native.Nat.{ℕ, zero, suc, _+_, _≤_, _<_}
-use native.Mathlib.Nat.{eq-or-lt-of-le}
-use native.Mathlib.Omega.{arith}
-use borrow.Author.Tests.{eqb-true, eqb-false}
-use lib.Dec.{T, leb, eqb, leb→le}
+use Rattle.arithmetic.proofs.Kit.{_≡_, refl, sym, ap, subst, _∙_, Bool, true, false, cond, ⊎-elim, ℕ, zero, suc, _+_, _≤_, _<_, eq-or-lt-of-le, arith, eqb-true, eqb-false, T, leb, eqb, leb→le}
 use Rattle.refusal.specs.Outcomes.{Outcome, accepted, refused}
-use Rattle.trim_change.specs.declared.changes.Quantity.{Quantity}
-use Rattle.trim_change.specs.declared.changes.Quantity.the-variants.{Temperature, MeasuredPressure}
-use Rattle.trim_change.specs.declared.changes.Direction.{Direction}
-use Rattle.trim_change.specs.declared.changes.Direction.the-variants.{Up, Down}
-use Rattle.trim_change.specs.declared.changes.Change.{Change}
-use Rattle.trim_change.specs.declared.changes.Found.{Found}
-use Rattle.trim_change.specs.declared.changes.Found.the-variants as found
-use Rattle.trim_change.specs.declared.changes.Start.{Start}
-use Rattle.trim_class.specs.Classes.{classOf}
-use Rattle.trim_change.specs.Changes.{changed, change, another, tried}
+use Rattle.trim.specs.declared.changes.Quantity.{Quantity}
+use Rattle.trim.specs.declared.changes.Quantity.the-variants.{Temperature, MeasuredPressure}
+use Rattle.trim.specs.declared.changes.Direction.{Direction}
+use Rattle.trim.specs.declared.changes.Direction.the-variants.{Up, Down}
+use Rattle.trim.specs.declared.changes.Change.{Change}
+use Rattle.trim.specs.declared.changes.Found.{Found}
+use Rattle.trim.specs.declared.changes.Found.the-variants as found
+use Rattle.trim.specs.declared.changes.Start.{Start}
+use Rattle.trim.specs.Classes.{classOf}
+use Rattle.trim.specs.Changes.{changed, change, another, tried}
 use Rattle.trim.specs.InOrder.{changesOf, changesFrom, firstOf}
 use Rattle.trim.specs.Laws.{rank, place, Gives}
 use Rattle.trim.proofs.First.{first-append}

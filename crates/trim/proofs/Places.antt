@@ -1,11 +1,11 @@
 -- The places of the changes are in their order. Assumes nothing.
-use Prim.Native.Nat.{ℕ, _<_}
-use native.Mathlib.Omega.{arith}
-use Rattle.trim_change.specs.declared.changes.Quantity.{Quantity}
-use Rattle.trim_change.specs.declared.changes.Quantity.the-variants.{Temperature, MeasuredPressure}
-use Rattle.trim_change.specs.declared.changes.Direction.the-variants.{Up, Down}
-use Rattle.trim_change.specs.Changes.{change}
-use Rattle.trim.specs.Laws.{place, InTheirOrder}
+use Rattle.arithmetic.proofs.Kit.{ℕ, _<_, arith}
+use Rattle.trim.specs.declared.changes.Quantity.{Quantity}
+use Rattle.trim.specs.declared.changes.Quantity.the-variants.{Temperature, MeasuredPressure}
+use Rattle.trim.specs.declared.changes.Direction.the-variants.{Up, Down}
+use Rattle.trim.specs.Changes.{change}
+use Rattle.trim.specs.Laws.{place}
+use Rattle.trim.proofs.Stated.{InTheirOrder}
 
 up-before-down : (q : Quantity) (k : ℕ) → place (change q Up k) < place (change q Down k)
 up-before-down Temperature k = omega arith

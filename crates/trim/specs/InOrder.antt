@@ -1,13 +1,13 @@
 -- The 800 changes in their order, document 02, and the first of some that gives another class. Definitions only.
 use Prim.Native.Nat.{ℕ, zero, suc}
 use mathlib.Core.List.{List, [], _∷_, _++_}
-use Rattle.trim_change.specs.declared.changes.Quantity.the-variants.{Temperature, MeasuredPressure}
-use Rattle.trim_change.specs.declared.changes.Direction.the-variants.{Up, Down}
-use Rattle.trim_change.specs.declared.changes.Change.{Change}
-use Rattle.trim_change.specs.declared.changes.Found.{Found}
-use Rattle.trim_change.specs.declared.changes.Found.the-variants.{Turn, Nothing}
-use Rattle.trim_change.specs.declared.changes.Start.{Start}
-use Rattle.trim_change.specs.Changes.{change, tried}
+use Rattle.trim.specs.declared.changes.Quantity.the-variants.{Temperature, MeasuredPressure}
+use Rattle.trim.specs.declared.changes.Direction.the-variants.{Up, Down}
+use Rattle.trim.specs.declared.changes.Change.{Change}
+use Rattle.trim.specs.declared.changes.Found.{Found}
+use Rattle.trim.specs.declared.changes.Found.the-variants.{Turn, Nothing}
+use Rattle.trim.specs.declared.changes.Start.{Start}
+use Rattle.trim.specs.Changes.{change, tried}
 
 -- ---- the 800 changes in their order: k rising, temperature before pressure, up before down
 abbrev pub changesOf : ℕ → List Change

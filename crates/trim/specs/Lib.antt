@@ -2,3 +2,5 @@
 pub mod InOrder
 pub mod Search
 pub mod Laws
+pub mod Classes
+pub mod Changes

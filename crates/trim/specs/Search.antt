@@ -3,18 +3,18 @@ use Prim.Native.Nat.{ℕ}
 use mathlib.Core.Bool.{false}
 use mathlib.Core.List.{List, []}
 use Rattle.refusal.specs.Outcomes.{Outcome, accepted, refused, refusal, _⟫_}
-use Rattle.entries.specs.declared.Entry.{Entry}
-use Rattle.entries.specs.declared.Entry.the-variants.{Absent, Present}
-use Rattle.entries.specs.declared.Readings.{Readings}
+use Rattle.record.specs.declared.entries.Entry.{Entry}
+use Rattle.record.specs.declared.entries.Entry.the-variants.{Absent, Present}
+use Rattle.record.specs.declared.entries.Readings.{Readings}
 use Rattle.fields.specs.Fields.{temperature, measuredPressure}
 use Rattle.record.specs.Readings.{readRecord}
-use Rattle.entries.specs.Entries.{entryOf}
-use Rattle.trim_change.specs.declared.changes.Found.{Found}
-use Rattle.trim_change.specs.declared.changes.Found.the-variants as found
-use Rattle.trim_change.specs.declared.changes.Start.{Start}
+use Rattle.record.specs.Entries.{entryOf}
+use Rattle.trim.specs.declared.changes.Found.{Found}
+use Rattle.trim.specs.declared.changes.Found.the-variants as found
+use Rattle.trim.specs.declared.changes.Start.{Start}
 use Rattle.trim.specs.declared.search.Trim.{Trim}
 use Rattle.trim.specs.declared.search.Trim.the-variants.{Turns, NoChange, Refused}
-use Rattle.trim_class.specs.Classes.{classOf}
+use Rattle.trim.specs.Classes.{classOf}
 use Rattle.trim.specs.InOrder.{changes, firstOf}
 
 -- the class, and the first change that gives another, if there is one
@@ -23,10 +23,10 @@ pub record Next : Type 0 where
   pub turn : Found
 
 -- what each case of the code's answer stands for
-abbrev pub outcome : Trim → Outcome Next
-outcome (Turns c t) = accepted (record { class = c; turn = found.Turn t })
-outcome (NoChange c) = accepted (record { class = c; turn = found.Nothing })
-outcome (Refused c) = refusal c
+abbrev pub trimOutcome : Trim → Outcome Next
+trimOutcome (Turns c t) = accepted (record { class = c; turn = found.Turn t })
+trimOutcome (NoChange c) = accepted (record { class = c; turn = found.Nothing })
+trimOutcome (Refused c) = refusal c
 
 -- ---- of accepted readings with temperature and measured pressure
 unfoldable pub nextFrom : Start → Outcome Next

@@ -1,23 +1,23 @@
 // The smallest change of a record's temperature or measured pressure that gives another trim class.
 ghost use mathlib.Core.Path.{_≡_};
 ghost use Rattle.trim.specs.InOrder.{changesOf, firstOf};
-ghost use Rattle.trim.specs.Search.{outcome, nextFrom, nextWith, nextOf, nextTrimClass};
-use entries::Entry;
-use entries::Readings;
-use entries::entry_of;
+ghost use Rattle.trim.specs.Search.{trimOutcome, nextFrom, nextWith, nextOf, nextTrimClass};
+use crate::changes::Direction;
+use crate::changes::Found;
+use crate::changes::Quantity;
+use crate::changes::Start;
+use crate::changes::Turn;
+use crate::changes::tried;
+use crate::classes::Class;
+use crate::classes::class_of;
 use fields::fields::MEASURED_PRESSURE;
 use fields::fields::TEMPERATURE;
+use record::entries::Entry;
+use record::entries::Readings;
+use record::entries::entry_of;
 use record::readings::read_record;
 use refusal::Check;
 use refusal::Refusal;
-use trim_change::changes::Direction;
-use trim_change::changes::Found;
-use trim_change::changes::Quantity;
-use trim_change::changes::Start;
-use trim_change::changes::Turn;
-use trim_change::changes::tried;
-use trim_class::classes::Class;
-use trim_class::classes::class_of;
 
 // the largest number of tenths that is tried
 const MOST_TENTHS: u8 = 200;
@@ -51,7 +51,7 @@ fn first_by(start: Start, tenths: u8) -> Found
 
 // The first change of all that gives another class.
 fn next_from(start: Start) -> Trim
-    ensures { λ r. ⌜ outcome r ≡ nextFrom start ⌝ }
+    ensures { λ r. ⌜ trimOutcome r ≡ nextFrom start ⌝ }
 {
     let mut tenths = 1;
     while tenths <= MOST_TENTHS {
@@ -64,7 +64,7 @@ fn next_from(start: Start) -> Trim
 }
 
 fn next_with(readings: Readings, class: u8) -> Trim
-    ensures { λ r. ⌜ outcome r ≡ nextWith readings class ⌝ }
+    ensures { λ r. ⌜ trimOutcome r ≡ nextWith readings class ⌝ }
 {
     match entry_of(readings, TEMPERATURE) {
         Entry::Absent => Trim::Refused(Refusal::NoReadingToChange),
@@ -84,7 +84,7 @@ fn next_with(readings: Readings, class: u8) -> Trim
 
 // What `next_trim_class` says of readings.
 pub fn next_trim_class_of_readings(readings: Readings) -> Trim
-    ensures { λ r. ⌜ outcome r ≡ nextOf readings ⌝ }
+    ensures { λ r. ⌜ trimOutcome r ≡ nextOf readings ⌝ }
 {
     match class_of(readings) {
         Class::Refused(refusal) => Trim::Refused(refusal),
@@ -96,7 +96,7 @@ pub fn next_trim_class_of_readings(readings: Readings) -> Trim
 // another class; the record's own refusal, or 22 where one of the two is absent. The record is left as it
 // was.
 pub fn next_trim_class(record: &[u8]) -> Trim
-    ensures { λ r. ⌜ outcome r ≡ nextTrimClass (now («record» .entry)) ⌝ }
+    ensures { λ r. ⌜ trimOutcome r ≡ nextTrimClass (now («record» .entry)) ⌝ }
     ensures kept { λ _. ⌜ now («record» .exit) ≡ now («record» .entry) ⌝ }
 {
     let read = read_record(record);

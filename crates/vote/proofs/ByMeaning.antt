@@ -1,18 +1,15 @@
 -- The voted readings by meaning: each meaning that is in all three has the middle, and no other is there. Assumes nothing.
-use mathlib.Core.Path.{_≡_, refl, sym, subst, _∙_}
-use mathlib.Core.Logic.{_≢_, _⊎_, inl, inr}
-use Prim.Native.Nat.{ℕ, zero, suc, _≤_, _<_}
-use native.Mathlib.Nat.{eq-or-lt-of-le, le-of-suc-le-suc}
-use native.Mathlib.Omega.{arith}
-use Rattle.entries.specs.declared.Entry.{Entry}
-use Rattle.entries.specs.declared.Entry.the-variants.{Absent, Present}
-use Rattle.entries.specs.declared.Readings.{Readings}
+use Rattle.arithmetic.proofs.Kit.{_≡_, refl, sym, subst, _∙_, _≢_, _⊎_, inl, inr, ℕ, zero, suc, _≤_, _<_, eq-or-lt-of-le, le-of-suc-le-suc, arith}
+use Rattle.record.specs.declared.entries.Entry.{Entry}
+use Rattle.record.specs.declared.entries.Entry.the-variants.{Absent, Present}
+use Rattle.record.specs.declared.entries.Readings.{Readings}
 use Rattle.fields.specs.Fields.{meanings}
-use Rattle.entries.specs.Entries.{entryOf}
+use Rattle.record.specs.Entries.{entryOf}
 use Rattle.record.proofs.ByMeaning.{Whole, none-whole, with-whole, none-there, entry-set, entry-left}
-use Rattle.middle.specs.Middle.{middle}
-use Rattle.voted.specs.Fields.{withMiddle, votedOf}
-use Rattle.vote.specs.Laws.{middleEntry, VotedByMeaning}
+use Rattle.arithmetic.specs.Middle.{middle}
+use Rattle.vote.specs.Fields.{withMiddle, votedOf}
+use Rattle.vote.specs.Laws.{middleEntry}
+use Rattle.vote.proofs.Stated.{VotedByMeaning}
 
 -- ---- one meaning more
 with-middle-whole : (r : Readings) (m : ℕ) (e f g : Entry) → Whole r → Whole (withMiddle r m e f g)

@@ -1,27 +1,22 @@
 -- Each number of a vote has exactly its cause, and a mast is named exactly if it is the first that is refused. Assumes nothing.
-use mathlib.Core.Path.{_≡_, refl, sym, ap, _∙_}
-use mathlib.Core.Bool.{Bool, true, false, not, _&&_, _||_, cond, false≢true, or-true}
-use mathlib.Core.Logic.{_⊎_, inl, inr}
-use mathlib.Core.List.{List, [], _∷_, _++_}
-use Prim.Native.Nat.{ℕ, zero, suc, _+_, _≤_, _<_}
-use native.Mathlib.Nat.{eq-or-lt-of-le, le-of-suc-le-suc}
-use native.Mathlib.Omega.{arith}
-use lib.Ieee.{Float}
+use Rattle.arithmetic.proofs.Kit.{_≡_, refl, sym, ap, _∙_, Bool, true, false, not, _&&_, _||_, cond, false≢true, _⊎_, inl, inr, List, [], _∷_, _++_, ℕ, zero, suc, _+_, _≤_, _<_, eq-or-lt-of-le, le-of-suc-le-suc, arith, Float}
+use mathlib.Core.Bool.{or-true}
 use Rattle.refusal.specs.Outcomes.{Outcome, accepted, refused, _⟫_, Row, _then_}
 use Rattle.refusal.proofs.Rows.{then-append, then-next, then-rows, then-none, exactly-by, never-refused}
-use Rattle.entries.specs.declared.Readings.{Readings}
-use Rattle.entries.specs.Entries.{entryOf, isPresent}
+use Rattle.record.specs.declared.entries.Readings.{Readings}
+use Rattle.record.specs.Entries.{entryOf, isPresent}
 use Rattle.fields.specs.Fields.{meanings}
 use Rattle.record.specs.Readings.{readRows, readings}
-use Rattle.answered.specs.declared.judge.Figures.{Figures}
+use Rattle.refusal.specs.declared.judge.Figures.{Figures}
 use Rattle.station.specs.Figures.{figuresOf}
 use Rattle.mast.specs.Judge.{resolved, readingRows, recordRows, judged, judge}
 use Rattle.mast.proofs.Causes as mast
 use Rattle.mast.proofs.Numbers.{readings-never, record-never}
-use Rattle.middle.specs.Middle.{count}
-use Rattle.voted.specs.Fields.{isNotInAll, notInAllOf, anyNotInAll, sharedRows, voted}
+use Rattle.arithmetic.specs.Middle.{oneIf}
+use Rattle.vote.specs.Fields.{isNotInAll, notInAllOf, anyNotInAll, sharedRows, voted}
 use Rattle.vote.specs.Vote.{VoteOutcome, byMast, byNoMast, acceptedReadings, afterMast, votedOutcome, vote}
-use Rattle.vote.specs.Laws.{Accepts, MastsNamed, NoMastNamed, votedReadings, voteRows, Caused, InOneOrTwo, FieldMissing}
+use Rattle.vote.specs.Laws.{Accepts}
+use Rattle.vote.proofs.Stated.{MastsNamed, NoMastNamed, votedReadings, voteRows, Caused, InOneOrTwo, FieldMissing}
 use Rattle.vote.proofs.Laws.{masts-in-order}
 
 -- ---- the outcome is one list of rows
@@ -121,7 +116,7 @@ pub no-mast-named : NoMastNamed
 no-mast-named a b c p q r = ap (λ (v : VoteOutcome). v .mast) (masts-accepted a b c p q r)
 
 -- ---- 21
-missing-where : (p q r : Bool) → 1 ≤ count p + count q + count r → count p + count q + count r ≤ 2 → ((p || q || r) && not (p && q && r)) ≡ true
+missing-where : (p q r : Bool) → 1 ≤ oneIf p + oneIf q + oneIf r → oneIf p + oneIf q + oneIf r ≤ 2 → ((p || q || r) && not (p && q && r)) ≡ true
 missing-where true true true l h = absurd (omega arith)
 missing-where true true false l h = refl
 missing-where true false r l h = refl
@@ -129,7 +124,7 @@ missing-where false true r l h = refl
 missing-where false false true l h = refl
 missing-where false false false l h = absurd (omega arith)
 
-missing-because : (p q r : Bool) → ((p || q || r) && not (p && q && r)) ≡ true → (1 ≤ count p + count q + count r) × (count p + count q + count r ≤ 2)
+missing-because : (p q r : Bool) → ((p || q || r) && not (p && q && r)) ≡ true → (1 ≤ oneIf p + oneIf q + oneIf r) × (oneIf p + oneIf q + oneIf r ≤ 2)
 missing-because true true true e = absurd (false≢true e)
 missing-because true true false e = (omega arith, omega arith)
 missing-because true false true e = (omega arith, omega arith)

@@ -1,15 +1,13 @@
 -- The laws of a vote: the first mast that is refused is named, the masts may change places, three equal records vote as the one, and two equal ones outvote the third. Assumes nothing.
-use mathlib.Core.Path.{_≡_, refl, sym, ap, _∙_}
-use mathlib.Core.List.{List}
-use Prim.Native.Nat.{ℕ}
-use native.Mathlib.Omega.{arith}
-use lib.Ieee.{Float}
+use Rattle.arithmetic.proofs.Kit.{_≡_, refl, sym, ap, _∙_, List, ℕ, arith, Float}
 use Rattle.refusal.specs.Outcomes.{Outcome, accepted, refused, _⟫_}
-use Rattle.entries.specs.declared.Readings.{Readings}
-use Rattle.answered.specs.declared.judge.Figures.{Figures}
+use Rattle.record.specs.declared.entries.Readings.{Readings}
+use Rattle.refusal.specs.declared.judge.Figures.{Figures}
 use Rattle.mast.specs.Judge.{judged, judge}
 use Rattle.vote.specs.Vote.{VoteOutcome, byNoMast, acceptedReadings, afterMast, vote, votedOutcome}
-use Rattle.vote.specs.Laws.{Accepts, MastsInOrder, Votes, ExchangeOfMasts, ThreeEqual, TwoEqual}
+use Rattle.vote.specs.Laws.{Accepts}
+use Rattle.vote.proofs.Stated.{Votes}
+use Rattle.vote.proofs.Stated.{MastsInOrder, ExchangeOfMasts, ThreeEqual, TwoEqual}
 use Rattle.vote.proofs.Readings.{after, is-accepted, by-the-judge, numbers, exchange-first, exchange-last, outvoted}
 
 -- ---- an accepted vote: three accepted records, and what their readings give together

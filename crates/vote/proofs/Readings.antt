@@ -1,28 +1,25 @@
 -- What is known of the readings of accepted records: each value is a double that is not NaN. So the vote on them is the same in every order. Assumes nothing.
-use mathlib.Core.Path.{_≡_, refl, sym, ap, ap₂, _∙_}
-use mathlib.Core.Bool.{Bool, true, false, not, _&&_, _||_, cond, false≢true}
-use mathlib.Core.List.{List, []}
-use Prim.Native.Nat.{ℕ, zero, suc, _≤_, _<_}
-use native.Mathlib.Omega.{arith}
+use Rattle.arithmetic.proofs.Kit.{_≡_, refl, sym, ap, ap₂, _∙_, Bool, true, false, not, _&&_, _||_, cond, false≢true, List, [], ℕ, zero, suc, _≤_, _<_, arith}
 use Rattle.refusal.specs.Outcomes.{Outcome, accepted, refused, _⟫_}
-use Rattle.entries.specs.declared.Entry.{Entry}
-use Rattle.entries.specs.declared.Entry.the-variants.{Absent, Present}
-use Rattle.entries.specs.declared.Readings.{Readings}
+use Rattle.record.specs.declared.entries.Entry.{Entry}
+use Rattle.record.specs.declared.entries.Entry.the-variants.{Absent, Present}
+use Rattle.record.specs.declared.entries.Readings.{Readings}
 use Rattle.fields.specs.Fields.{meanings}
 use Rattle.record.specs.Readings.{readRecord}
-use Rattle.entries.specs.Entries.{entryOf, withEntry, isPresent}
+use Rattle.record.specs.Entries.{entryOf, withEntry, isPresent}
 use Rattle.record.proofs.ByMeaning.{reads-doubles}
-use Rattle.answered.specs.declared.judge.Figures.{Figures}
-use Rattle.mast.specs.Entries.{FiniteEntry}
+use Rattle.refusal.specs.declared.judge.Figures.{Figures}
+use Rattle.mast.proofs.Stated.{FiniteEntry}
 use Rattle.mast.specs.Judge.{judged, judge}
 use Rattle.mast.proofs.Entries.{judged-by-entries, accepted-is-finite}
-use Rattle.doubles.proofs.NotANumber.{is-number}
-use Rattle.middle.specs.Middle.{IsNumber}
-use Rattle.voted.specs.Fields.{isNotInAll, notInAllOf, withMiddle, votedOf, voted}
+use Rattle.arithmetic.proofs.NotANumber.{is-number}
+use Rattle.vote.specs.Fields.{isNotInAll, notInAllOf, withMiddle, votedOf, voted}
 use Rattle.vote.specs.Vote.{acceptedReadings, votedOutcome}
-use Rattle.vote.specs.Laws.{ByTheJudge, middleEntry, SameFields, TwoEqualValues}
-use Rattle.middle.proofs.OfThree.{middle-in-every-order, two-equal}
+use Rattle.vote.specs.Laws.{middleEntry, SameFields}
+use Rattle.vote.proofs.Stated.{ByTheJudge, TwoEqualValues}
+use Rattle.arithmetic.proofs.OfThree.{middle-in-every-order, two-equal}
 use Rattle.vote.proofs.ByMeaning.{voted-by-meaning}
+use Rattle.arithmetic.proofs.ThreeInOrder.{IsNumber}
 
 -- ---- an accepted record
 pub after : {A B : Type 0} (o : Outcome A) (next : A → Outcome B) {y : B} → (o ⟫ next) ≡ accepted y → (x : A) × (o ≡ accepted x) × (next x ≡ accepted y)

@@ -1,73 +1,25 @@
 -- What may be relied on of a vote beyond its contract, document 02. Definitions only.
-use Prim.Native.Nat.{ℕ, _+_, _≤_, _<_}
+use Prim.Native.Nat.{ℕ, _+_, _<_}
 use mathlib.Core.Path.{_≡_}
-use mathlib.Core.Bool.{false}
-use mathlib.Core.List.{List, [], _++_}
-use lib.Ieee.{Float}
-use Rattle.refusal.specs.Outcomes.{accepted, refused, _⟫_, Row}
-use Rattle.refusal.specs.Causes.{ExactlyCaused}
-use Rattle.entries.specs.declared.Entry.{Entry}
-use Rattle.entries.specs.declared.Entry.the-variants.{Absent, Present}
-use Rattle.entries.specs.declared.Readings.{Readings}
+use mathlib.Core.List.{List}
+use Rattle.refusal.specs.Outcomes.{accepted}
+use Rattle.record.specs.declared.entries.Entry.{Entry}
+use Rattle.record.specs.declared.entries.Entry.the-variants.{Absent, Present}
+use Rattle.record.specs.declared.entries.Readings.{Readings}
 use Rattle.fields.specs.Fields.{meanings}
-use Rattle.entries.specs.Entries.{entryOf, isPresent}
-use Rattle.answered.specs.declared.judge.Figures.{Figures}
+use Rattle.record.specs.Entries.{entryOf, isPresent}
+use Rattle.refusal.specs.declared.judge.Figures.{Figures}
 use Rattle.record.specs.Readings.{readings}
-use Rattle.station.specs.Figures.{figuresOf}
-use Rattle.mast.specs.Judge.{resolved, readingRows, recordRows, judged, judge}
-use Rattle.middle.specs.Middle.{middle, count}
-use Rattle.voted.specs.Fields.{sharedRows, voted}
-use Rattle.vote.specs.Vote.{byMast, byNoMast, acceptedReadings, afterMast, vote}
-
--- ---- a mast's record is accepted and refused as the judge does it
-abbrev pub ByTheJudge : Type 0
-ByTheJudge = (s : List ℕ) → judge s ≡ (acceptedReadings s ⟫ judged)
+use Rattle.mast.specs.Judge.{judge}
+use Rattle.arithmetic.specs.Middle.{middle, oneIf}
 
 -- the first mast that the judge refuses gives its refusal and its number, whatever the masts after it say
 abbrev pub Accepts : List ℕ → Type 0
 Accepts s = (f : Figures) × (judge s ≡ accepted f)
 
-pub record FirstRefused (a b c : List ℕ) (number : ℕ) (values : List Float) : Type 0 where
-  pub mast-1 : judge a ≡ refused number values → vote a b c ≡ byMast 1 (refused number values)
-  pub mast-2 : Accepts a → judge b ≡ refused number values → vote a b c ≡ byMast 2 (refused number values)
-  pub mast-3 : Accepts a → Accepts b → judge c ≡ refused number values → vote a b c ≡ byMast 3 (refused number values)
-
-abbrev pub MastsInOrder : Type 0
-MastsInOrder = (a b c : List ℕ) (number : ℕ) (values : List Float) → FirstRefused a b c number values
-
--- and a mast is named only so
-pub record NamedBecause (a b c : List ℕ) (number : ℕ) (values : List Float) : Type 0 where
-  pub mast-1 : vote a b c ≡ byMast 1 (refused number values) → judge a ≡ refused number values
-  pub mast-2 : vote a b c ≡ byMast 2 (refused number values) → Accepts a × (judge b ≡ refused number values)
-  pub mast-3 : vote a b c ≡ byMast 3 (refused number values) → Accepts a × (Accepts b × (judge c ≡ refused number values))
-
-abbrev pub MastsNamed : Type 0
-MastsNamed = (a b c : List ℕ) (number : ℕ) (values : List Float) → NamedBecause a b c number values
-
-abbrev pub NoMastNamed : Type 0
-NoMastNamed = (a b c : List ℕ) → Accepts a → Accepts b → Accepts c → vote a b c .mast ≡ 0
-
--- ---- each number has exactly its cause: those of the three records, one after the other, then 21, then those of the voted readings
-abbrev pub votedReadings : List ℕ → List ℕ → List ℕ → Readings
-votedReadings a b c = voted (readings a) (readings b) (readings c)
-
-abbrev pub voteRows : List ℕ → List ℕ → List ℕ → List Row
-voteRows a b c =
-    recordRows false a ++ (recordRows false b ++ (recordRows false c ++ (sharedRows (readings a) (readings b) (readings c) ++ readingRows (votedReadings a b c))))
-
-abbrev pub Caused : List ℕ → List ℕ → List ℕ → Type 0
-Caused a b c = ExactlyCaused (voteRows a b c) (figuresOf (resolved (votedReadings a b c))) (vote a b c .outcome)
-
 -- ---- 21 is answered exactly if the three masts are accepted and a field, by meaning and in either form, is in one or two of them
 abbrev pub inHowMany : List ℕ → List ℕ → List ℕ → ℕ → ℕ
-inHowMany a b c m = count (isPresent (entryOf (readings a) m)) + count (isPresent (entryOf (readings b) m)) + count (isPresent (entryOf (readings c) m))
-
-abbrev pub InOneOrTwo : List ℕ → List ℕ → List ℕ → Type 0
-InOneOrTwo a b c = (m : ℕ) × ((m < meanings) × ((1 ≤ inHowMany a b c m) × (inHowMany a b c m ≤ 2)))
-
-pub record FieldMissing (a b c : List ℕ) : Type 0 where
-  pub refused-because : (values : List Float) → vote a b c .outcome ≡ refused 21 values → (Accepts a × (Accepts b × Accepts c)) × InOneOrTwo a b c
-  pub refused-where : Accepts a → Accepts b → Accepts c → InOneOrTwo a b c → vote a b c ≡ byNoMast (refused 21 [])
+inHowMany a b c m = oneIf (isPresent (entryOf (readings a) m)) + oneIf (isPresent (entryOf (readings b) m)) + oneIf (isPresent (entryOf (readings c) m))
 
 -- ---- each meaning that is in all three takes the middle of the three values, and no other is there
 abbrev pub middleEntry : Entry → Entry → Entry → Entry
@@ -76,38 +28,6 @@ middleEntry (Present x) (Present y) Absent = Absent
 middleEntry (Present x) Absent c = Absent
 middleEntry Absent b c = Absent
 
-abbrev pub VotedByMeaning : Type 0
-VotedByMeaning = (a b c : Readings) (m : ℕ) → m < meanings → entryOf (voted a b c) m ≡ middleEntry (entryOf a m) (entryOf b m) (entryOf c m)
-
--- ---- "exchanging the masts changes no accepted figures": a vote that is accepted is accepted in every order, with the same figures
-abbrev pub Votes : List ℕ → List ℕ → List ℕ → Figures → Type 0
-Votes a b c f = vote a b c ≡ byNoMast (accepted f)
-
-pub record VotesInEveryOrder (a b c : List ℕ) (f : Figures) : Type 0 where
-  pub acb : Votes a c b f
-  pub bac : Votes b a c f
-  pub bca : Votes b c a f
-  pub cab : Votes c a b f
-  pub cba : Votes c b a f
-
-abbrev pub ExchangeOfMasts : Type 0
-ExchangeOfMasts = (a b c : List ℕ) (f : Figures) → Votes a b c f → VotesInEveryOrder a b c f
-
--- ---- three equal records vote as the one
-abbrev pub ThreeEqual : Type 0
-ThreeEqual = (s : List ℕ) → vote s s s ≡ afterMast 1 (judge s) (λ f. byNoMast (accepted f))
-
 -- ---- two equal records outvote a third with the same fields: each field takes their value, so the figures are theirs
 abbrev pub SameFields : Readings → Readings → Type 0
 SameFields r q = (m : ℕ) → m < meanings → isPresent (entryOf r m) ≡ isPresent (entryOf q m)
-
-abbrev pub TwoEqualValues : Type 0
-TwoEqualValues = (r q : Readings) → SameFields r q → (m : ℕ) → m < meanings → entryOf (voted r r q) m ≡ entryOf r m
-
-pub record Outvoted (s t : List ℕ) (f : Figures) : Type 0 where
-  pub first : Votes t s s f
-  pub second : Votes s t s f
-  pub third : Votes s s t f
-
-abbrev pub TwoEqual : Type 0
-TwoEqual = (s t : List ℕ) (r q : Readings) (f : Figures) → acceptedReadings s ≡ accepted r → acceptedReadings t ≡ accepted q → SameFields r q → judge s ≡ accepted f → Outvoted s t f

@@ -4,13 +4,13 @@ use Prim.Native.Nat.{ℕ}
 use mathlib.Core.Bool.{false}
 use mathlib.Core.List.{List}
 use Rattle.refusal.specs.Outcomes.{Outcome, accepted, refused, refusal, _then_, _⟫_}
-use Rattle.entries.specs.declared.Readings.{Readings}
+use Rattle.record.specs.declared.entries.Readings.{Readings}
 use Rattle.record.specs.Readings.{readRecord}
-use Rattle.answered.specs.declared.judge.Figures.{Figures}
+use Rattle.refusal.specs.declared.judge.Figures.{Figures}
 use Rattle.mast.specs.Judge.{judged}
 use Rattle.vote.specs.declared.answer.Vote.{Vote}
 use Rattle.vote.specs.declared.answer.Vote.the-variants as answer
-use Rattle.voted.specs.Fields.{sharedRows, voted}
+use Rattle.vote.specs.Fields.{sharedRows, voted}
 
 -- ---- an outcome with the mast whose record is refused, 1 to 3, and 0 where there is none
 pub record VoteOutcome : Type 0 where

@@ -1,6 +1,6 @@
 // The answer of a vote.
-use answered::judge::Figures;
 use refusal::Refusal;
+use refusal::judge::Figures;
 
 pub enum Vote {
     Figures(Figures),

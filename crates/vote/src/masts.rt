@@ -1,19 +1,19 @@
 // The vote of three masts: the masts one after the other, then the fields that they share, then the
 // judge.
 ghost use mathlib.Core.Path.{_≡_};
-ghost use Rattle.answered.specs.Judged.{outcome};
+ghost use Rattle.refusal.specs.Judged.{outcome};
 ghost use Rattle.record.specs.Readings.{readOutcome};
 ghost use Rattle.vote.specs.Vote.{acceptedReadings, votedOutcome, voteOutcome, vote};
 use super::answer::Vote;
-use answered::judge::Answer;
-use entries::Readings;
+use crate::by_field::any_not_in_all;
+use crate::by_field::voted;
 use mast::judge::judge_readings;
+use record::entries::Readings;
 use record::readings::Read;
 use record::readings::read_record;
 use refusal::Check;
 use refusal::Refusal;
-use voted::by_field::any_not_in_all;
-use voted::by_field::voted;
+use refusal::judge::Answer;
 
 // The readings of a record that is accepted by itself, or its refusal.
 fn accepted_readings(bytes: &[u8]) -> Read

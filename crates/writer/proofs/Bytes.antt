@@ -1,12 +1,5 @@
 -- The bytes of a number: how many they are, and one shift for each. Assumes nothing.
-use mathlib.Core.Path.{_≡_, refl, sym, ap, _∙_}
-use mathlib.Core.List.{List, [], _∷_, _++_}
-use Prim.Native.Nat.{ℕ, zero, suc, _+_, _*_, _^_}
-use native.Mathlib.Nat.{add-zero, mul-suc, pow-suc}
-use native.Mathlib.Omega.{arith}
-use lib.ListN.{length, set}
-use lib.Pow.{pow-add}
-use lib.Seq.{sets}
+use Rattle.arithmetic.proofs.Kit.{_≡_, refl, sym, ap, _∙_, List, [], _∷_, _++_, ℕ, zero, suc, _+_, _*_, _^_, add-zero, mul-suc, pow-suc, arith, length, set, pow-add, sets}
 use Rattle.writer.specs.Records.{bytes}
 
 pub length-bytes : (k n : ℕ) → length (bytes k n) ≡ k

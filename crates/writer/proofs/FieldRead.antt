@@ -1,24 +1,15 @@
 -- A field that is written, as the readers see it: no row of a field refuses it, and its value is the one that was written. Assumes nothing.
-use mathlib.Core.Path.{_≡_, sym, ap, ap₂, _∙_}
-use mathlib.Core.Bool.{Bool, true, false, not, _&&_, cond}
-use mathlib.Core.List.{List, [], _++_, append-nil, append-assoc}
-use Prim.Native.Nat.{ℕ, _+_, _%_, _^_, _<_}
-use native.Mathlib.Nat.{mod-eq-of-lt}
-use native.Mathlib.Omega.{arith}
-use borrow.Author.Tests.{le-ltb, eq-eqb, not-true}
-use lib.Dec.{ltb}
-use lib.Ieee.{binary64, ofBits}
-use lib.Ieee.Bits.{ofBits-toBits, toBits-lt}
-use lib.ListN.{length, length-append, drop-of-length-le}
+use Rattle.arithmetic.proofs.Kit.{_≡_, sym, ap, ap₂, _∙_, Bool, true, false, not, _&&_, cond, List, [], _++_, append-nil, append-assoc, ℕ, _+_, _%_, _^_, _<_, mod-eq-of-lt, arith, le-ltb, eq-eqb, not-true, ltb, binary64, ofBits, ofBits-toBits, length, length-append, drop-of-length-le}
+use lib.Ieee.Bits.{toBits-lt}
 use Rattle.refusal.specs.Causes.{NoneHolds}
 use Rattle.refusal.proofs.Rows.{then-none, none-both}
 use Rattle.fields.specs.declared.fields.Value.{Value}
 use Rattle.fields.specs.declared.fields.Value.the-variants.{Double, Count}
-use Rattle.entries.specs.declared.Readings.{Readings}
-use Rattle.fields.specs.Bytes.{wordAt, doubleAt}
+use Rattle.record.specs.declared.entries.Readings.{Readings}
+use Rattle.fields.specs.Bytes.{numberAt, doubleAt}
 use Rattle.fields.specs.Fields.{isCountTag, isTag, meaningOf, isCount, dataSize, tagOf, lengthOf, sizeOf, valueOf, field, headRows}
 use Rattle.record.specs.Readings.{orderRows, noted}
-use Rattle.entries.specs.Entries.{withValue, entryOf, isPresent}
+use Rattle.record.specs.Entries.{withValue, entryOf, isPresent}
 use Rattle.fields.proofs.Forms.{size-by, at-most}
 use Rattle.record.proofs.Walk.{fieldRows, read}
 use Rattle.record.proofs.Followed.{read-whole}
@@ -38,12 +29,12 @@ data-held : (v : Value) → IsHeld v → dataOf v < 256 ^ cond (isCount v) 4 8
 data-held (Double x) held = toBits-lt binary64 x held
 data-held (Count word) held = held
 
-of-form : (s : List ℕ) (v : Value) → isCountTag (tagOf s) ≡ isCount v → wordAt s 3 (cond (isCount v) 4 8) ≡ dataOf v → IsHeld v → valueOf s ≡ v
+of-form : (s : List ℕ) (v : Value) → isCountTag (tagOf s) ≡ isCount v → numberAt s 3 (cond (isCount v) 4 8) ≡ dataOf v → IsHeld v → valueOf s ≡ v
 of-form s (Double x) form number held =
-    ap (λ (b : Bool). cond b (Count (wordAt s 3 4)) (Double (doubleAt s 3))) form
+    ap (λ (b : Bool). cond b (Count (numberAt s 3 4)) (Double (doubleAt s 3))) form
     ∙ ap (λ (w : ℕ). Double (ofBits binary64 w)) number
     ∙ ap Double (ofBits-toBits binary64 x held)
-of-form s (Count word) form number held = ap (λ (b : Bool). cond b (Count (wordAt s 3 4)) (Double (doubleAt s 3))) form ∙ ap Count number
+of-form s (Count word) form number held = ap (λ (b : Bool). cond b (Count (numberAt s 3 4)) (Double (doubleAt s 3))) form ∙ ap Count number
 
 module _ (tag : ℕ) (v : Value) (known : isTag tag ≡ true) (small : tag < 256) (form : hasForm tag v ≡ true) where
   abbrev f : List ℕ
@@ -59,25 +50,25 @@ module _ (tag : ℕ) (v : Value) (known : isTag tag ≡ true) (small : tag < 256
       let a = bytes 1 tag in
       let b = bytes 2 (dataSize tag) in
       let d = bytes (dataSize tag) (dataOf v) in
-      ap₂ (λ (s : List ℕ) (i : ℕ). wordAt s i 2) (append-assoc a b d) (sym (length-bytes 1 tag)) ∙ spelled a d 2 (dataSize tag) ∙ mod-eq-of-lt (omega (arith, at-most tag))
+      ap₂ (λ (s : List ℕ) (i : ℕ). numberAt s i 2) (append-assoc a b d) (sym (length-bytes 1 tag)) ∙ spelled a d 2 (dataSize tag) ∙ mod-eq-of-lt (omega (arith, at-most tag))
 
   pub size-read : sizeOf f ≡ length f
   size-read = ap (λ (t : ℕ). 3 + dataSize t) tag-read ∙ sym (length-field tag v)
 
-  data-read : wordAt f 3 (dataSize tag) ≡ dataOf v % 256 ^ dataSize tag
+  data-read : numberAt f 3 (dataSize tag) ≡ dataOf v % 256 ^ dataSize tag
   unfolding fieldWith
   data-read =
       let n = dataSize tag in
       let p = bytes 1 tag ++ bytes 2 n in
       let header : length p ≡ 3 = omega (arith, length-append (bytes 1 tag) (bytes 2 n), length-bytes 1 tag, length-bytes 2 n) in
-      ap₂ (λ (d : List ℕ) (i : ℕ). wordAt (p ++ d) i n) (sym (append-nil (bytes n (dataOf v)))) (sym header) ∙ spelled p [] n (dataOf v)
+      ap₂ (λ (d : List ℕ) (i : ℕ). numberAt (p ++ d) i n) (sym (append-nil (bytes n (dataOf v)))) (sym header) ∙ spelled p [] n (dataOf v)
 
   pub value-read : IsHeld v → valueOf f ≡ v
   value-read held =
       let counts = one-form tag v form in
       let size : dataSize tag ≡ cond (isCount v) 4 8 = size-by tag (isCount v) counts in
       of-form f v (ap isCountTag tag-read ∙ counts)
-      (ap (wordAt f 3) (sym size) ∙ data-read ∙ ap (λ (n : ℕ). dataOf v % 256 ^ n) size ∙ mod-eq-of-lt (data-held v held)) held
+      (ap (numberAt f 3) (sym size) ∙ data-read ∙ ap (λ (n : ℕ). dataOf v % 256 ^ n) size ∙ mod-eq-of-lt (data-held v held)) held
 
   pub none-refuses : NoneHolds (headRows f)
   unfolding headRows

@@ -1,23 +1,16 @@
 -- A field that no row of a field refuses is byte for byte what is written of its tag and its value, where that is not NaN, which has other patterns too. Assumes
 -- nothing.
-use mathlib.Core.Path.{_≡_, refl, sym, ap, ap₂, subst, _∙_}
-use mathlib.Core.Bool.{Bool, true, false, not, cond}
-use mathlib.Core.List.{List, _++_}
-use Prim.Native.Nat.{ℕ, _+_, _≤_}
-use native.Mathlib.Omega.{arith}
-use borrow.Author.Tests.{ltb-false, eqb-true, not-false}
-use lib.Dec.{T}
-use lib.Ieee.{binary64}
+use Rattle.arithmetic.proofs.Kit.{_≡_, refl, sym, ap, ap₂, subst, _∙_, Bool, true, false, not, cond, List, _++_, ℕ, _≤_, arith, ltb-false, eqb-true, not-false, T, binary64, length, take, drop}
 use lib.Ieee.Bits.{toBits-ofBits}
-use lib.ListN.{length, take, drop}
 use lib.Seq.{take-add}
 use Rattle.refusal.specs.Causes.{NoneHolds}
 use Rattle.fields.specs.declared.fields.Value.the-variants.{Double, Count}
-use Rattle.fields.specs.Bytes.{wordAt, doubleAt}
+use Rattle.fields.specs.Bytes.{numberAt, doubleAt}
 use Rattle.fields.specs.Fields.{isCountTag, isCount, dataSize, tagOf, lengthOf, sizeOf, valueOf, headRows}
 use Rattle.fields.proofs.Forms.{Tagged, tagged}
 use Rattle.writer.specs.Records.{bytes, dataOf, fieldWith, hasForm}
-use Rattle.writer.specs.Laws.{AreBytes, NotNan}
+use Rattle.writer.specs.Laws.{AreBytes}
+use Rattle.writer.proofs.Stated.{NotNan}
 use Rattle.writer.proofs.Spelled.{word-lt, spells}
 
 -- ---- the value of any bytes is in the form of their tag
@@ -25,24 +18,24 @@ module _ (s : List ℕ) where
   pub value-form : isCount (valueOf s) ≡ isCountTag (tagOf s)
   value-form = go (isCountTag (tagOf s))
     where
-      go : (b : Bool) → isCount (cond b (Count (wordAt s 3 4)) (Double (doubleAt s 3))) ≡ b
+      go : (b : Bool) → isCount (cond b (Count (numberAt s 3 4)) (Double (doubleAt s 3))) ≡ b
       go true = refl
       go false = refl
 
   pub has-its-form : hasForm (tagOf s) (valueOf s) ≡ true
   has-its-form = go (isCountTag (tagOf s)) refl
     where
-      go : (b : Bool) → isCountTag (tagOf s) ≡ b → hasForm (tagOf s) (cond b (Count (wordAt s 3 4)) (Double (doubleAt s 3))) ≡ true
+      go : (b : Bool) → isCountTag (tagOf s) ≡ b → hasForm (tagOf s) (cond b (Count (numberAt s 3 4)) (Double (doubleAt s 3))) ≡ true
       go true e = e
       go false e = ap not e
 
 module _ (s : List ℕ) (all : AreBytes s) where
-  pub data-same : NotNan (valueOf s) → dataOf (valueOf s) ≡ wordAt s 3 (dataSize (tagOf s))
+  pub data-same : NotNan (valueOf s) → dataOf (valueOf s) ≡ numberAt s 3 (dataSize (tagOf s))
   data-same = go (isCountTag (tagOf s))
     where
-      go : (b : Bool) → NotNan (cond b (Count (wordAt s 3 4)) (Double (doubleAt s 3))) → dataOf (cond b (Count (wordAt s 3 4)) (Double (doubleAt s 3))) ≡ wordAt s 3 (cond b 4 8)
+      go : (b : Bool) → NotNan (cond b (Count (numberAt s 3 4)) (Double (doubleAt s 3))) → dataOf (cond b (Count (numberAt s 3 4)) (Double (doubleAt s 3))) ≡ numberAt s 3 (cond b 4 8)
       go true number = refl
-      go false number = toBits-ofBits binary64 (wordAt s 3 8) (word-lt s all 3 8) (subst (λ (b : Bool). T (not b)) (sym number) tt)
+      go false number = toBits-ofBits binary64 (numberAt s 3 8) (word-lt s all 3 8) (subst (λ (b : Bool). T (not b)) (sym number) tt)
 
   module _ (none : NoneHolds (headRows s)) where
     pub tag-is : Tagged (tagOf s)
@@ -59,7 +52,7 @@ module _ (s : List ℕ) (all : AreBytes s) where
 
     -- its bytes
     first-byte : bytes 1 (tagOf s) ≡ take 1 s
-    unfolding wordAt
+    unfolding numberAt
     first-byte = ap (bytes 1) (omega arith) ∙ spells s all 0 1 (omega (arith, whole))
 
     pub same-bytes : NotNan (valueOf s) → fieldWith (tagOf s) (valueOf s) ≡ take (sizeOf s) s

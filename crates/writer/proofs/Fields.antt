@@ -1,19 +1,11 @@
 -- The bytes of a field and of the fields from a tag on: how many they are, and one field after the other. Assumes nothing.
-use mathlib.Core.Path.{_≡_, sym, ap, _∙_}
-use mathlib.Core.Bool.{Bool, true, false, cond}
-use mathlib.Core.List.{List, [], _++_}
-use Prim.Native.Nat.{ℕ, zero, suc, _+_, _-_, _*_, _≤_, _<_}
-use native.Mathlib.Omega.{arith}
-use native.Mathlib.Numerals.{add-one}
-use borrow.Author.Tests.{lt-ltb, le-ltb}
-use lib.Dec.{ltb}
-use lib.ListN.{length, length-append}
+use Rattle.arithmetic.proofs.Kit.{_≡_, sym, ap, _∙_, Bool, true, false, cond, List, [], _++_, ℕ, zero, suc, _+_, _-_, _*_, _≤_, _<_, arith, add-one, lt-ltb, le-ltb, ltb, length, length-append}
 use Rattle.fields.specs.declared.fields.Value.{Value}
-use Rattle.entries.specs.declared.Stored.{Stored}
-use Rattle.entries.specs.declared.Stored.the-variants.{Absent, Present}
-use Rattle.entries.specs.declared.Readings.{Readings}
+use Rattle.record.specs.declared.entries.Stored.{Stored}
+use Rattle.record.specs.declared.entries.Stored.the-variants.{Absent, Present}
+use Rattle.record.specs.declared.entries.Readings.{Readings}
 use Rattle.fields.specs.Fields.{meanings, meaningOf, tagIn, dataSize, isCount}
-use Rattle.entries.specs.Entries.{storedOf}
+use Rattle.record.specs.Entries.{storedOf}
 use Rattle.fields.proofs.Forms.{at-most}
 use Rattle.writer.specs.Records.{bytes, dataOf, fieldWith, fieldFor, hasForm, storedField, fieldsFrom}
 use Rattle.writer.proofs.Bytes.{length-bytes}

@@ -1,9 +1,9 @@
 -- The bytes of a number and of a field, and a run of stores.
+pub mod Stated
+pub mod ConversionStated
 pub mod Bytes
 pub mod Fields
--- Bytes at the start of a buffer.
 pub mod Room
--- What is read of bytes that are written, and written of bytes that are read.
 pub mod Spelled
 pub mod FieldRead
 pub mod Passed
@@ -11,5 +11,13 @@ pub mod OneRun
 pub mod ReadBack
 pub mod FieldWritten
 pub mod WrittenAgain
--- When each number is answered.
 pub mod Causes
+pub mod Split
+pub mod Place
+pub mod Outcome
+pub mod Values
+pub mod FieldTurned
+pub mod ReadAlike
+pub mod ComesBack
+pub mod OnlyToCounts
+pub mod ConversionCauses

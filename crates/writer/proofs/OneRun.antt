@@ -1,16 +1,10 @@
 -- A record as one run of tags, 01 to 17 (hex): those between the two forms have no field. Assumes nothing.
-use mathlib.Core.Path.{_≡_, refl, sym, ap, _∙_}
-use mathlib.Core.Bool.{Bool, true, false, cond}
-use mathlib.Core.List.{List, [], _++_, append-assoc}
-use Prim.Native.Nat.{ℕ, zero, suc, _+_, _≤_, _<_}
-use native.Mathlib.Omega.{arith}
-use native.Mathlib.Numerals.{add-one}
-use lib.ListN.{length}
-use Rattle.entries.specs.declared.Stored.{Stored}
-use Rattle.entries.specs.declared.Stored.the-variants.{Absent, Present}
-use Rattle.entries.specs.declared.Readings.{Readings}
+use Rattle.arithmetic.proofs.Kit.{_≡_, refl, sym, ap, _∙_, Bool, true, false, cond, List, [], _++_, append-assoc, ℕ, zero, suc, _+_, _≤_, _<_, arith, add-one, length}
+use Rattle.record.specs.declared.entries.Stored.{Stored}
+use Rattle.record.specs.declared.entries.Stored.the-variants.{Absent, Present}
+use Rattle.record.specs.declared.entries.Readings.{Readings}
 use Rattle.fields.specs.Fields.{meanings, meaningOf, isCount, tagIn}
-use Rattle.entries.specs.Entries.{storedOf}
+use Rattle.record.specs.Entries.{storedOf}
 use Rattle.writer.specs.Records.{fieldWith, hasForm, storedField, fieldsFrom, recordOf}
 use Rattle.writer.proofs.Fields.{rest, next-field}
 use Rattle.writer.proofs.Passed.{NoField, is-meant, form-tag}

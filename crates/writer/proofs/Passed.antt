@@ -1,21 +1,15 @@
 -- What is stored of readings for the tags below one: how far a record is written or read, field by field in the order of its tags. Assumes nothing.
-use mathlib.Core.Path.{_≡_, refl, sym, ap, subst, _∙_}
-use mathlib.Core.Bool.{Bool, true, false, not, cond}
-use mathlib.Core.List.{List}
-use Prim.Native.Nat.{ℕ, suc, _+_, _-_, _≤_, _<_}
-use native.Mathlib.Omega.{arith}
-use borrow.Author.Tests.{lt-ltb, le-ltb, ltb-true, ltb-false, leb-true, leb-false, eqb-true, eqb-false}
-use lib.Dec.{ltb, leb, eqb}
-use lib.ListN.{length, length-set, getD-replicate, List·getD-eq-default}
+use Rattle.arithmetic.proofs.Kit.{_≡_, refl, sym, ap, subst, _∙_, Bool, true, false, not, cond, List, ℕ, suc, _+_, _-_, _≤_, _<_, arith, lt-ltb, le-ltb, ltb-true, ltb-false, leb-true, leb-false, eqb-true, eqb-false, ltb, leb, eqb, length, length-set, List·getD-eq-default}
+use lib.ListN.{getD-replicate}
 use lib.Seq.{getD-set-same, getD-set-other, ext-getD}
 use Rattle.fields.specs.declared.fields.Value.{Value}
 use Rattle.fields.specs.declared.fields.Value.the-variants.{Double, Count}
-use Rattle.entries.specs.declared.Stored.{Stored}
-use Rattle.entries.specs.declared.Stored.the-variants.{Absent, Present}
-use Rattle.entries.specs.declared.Slot.{Slot}
-use Rattle.entries.specs.declared.Readings.{Readings}
+use Rattle.record.specs.declared.entries.Stored.{Stored}
+use Rattle.record.specs.declared.entries.Stored.the-variants.{Absent, Present}
+use Rattle.record.specs.declared.entries.Slot.{Slot}
+use Rattle.record.specs.declared.entries.Readings.{Readings}
 use Rattle.fields.specs.Fields.{meanings, isCountTag, meaningOf, tagIn, isCount}
-use Rattle.entries.specs.Entries.{slotOf, noReadings, storedOf, withValue}
+use Rattle.record.specs.Entries.{slotOf, noReadings, storedOf, withValue}
 use Rattle.fields.proofs.Forms.{from-first, tag-form, tag-meaning}
 use Rattle.writer.specs.Records.{hasForm}
 use Rattle.writer.proofs.FieldRead.{one-form}

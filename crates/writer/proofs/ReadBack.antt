@@ -1,22 +1,18 @@
 -- What is written is read back: field by field, the readings so far are those of the tags passed. Assumes nothing.
-use mathlib.Core.Path.{_≡_, refl, sym, ap, subst, _∙_}
-use mathlib.Core.Bool.{Bool, true, false, cond, true≢false}
-use mathlib.Core.List.{List, [], _++_}
-use Prim.Native.Nat.{ℕ, zero, suc, _+_, _≤_, _<_}
-use native.Mathlib.Omega.{arith}
-use borrow.Author.Tests.{le-ltb}
+use Rattle.arithmetic.proofs.Kit.{_≡_, refl, sym, ap, subst, _∙_, Bool, true, false, cond, true≢false, List, [], _++_, ℕ, zero, suc, _+_, _≤_, _<_, arith, le-ltb}
 use Rattle.refusal.specs.Outcomes.{accepted}
 use Rattle.fields.specs.declared.fields.Value.{Value}
-use Rattle.entries.specs.declared.Stored.{Stored}
-use Rattle.entries.specs.declared.Stored.the-variants.{Absent, Present}
-use Rattle.entries.specs.declared.Readings.{Readings}
+use Rattle.record.specs.declared.entries.Stored.{Stored}
+use Rattle.record.specs.declared.entries.Stored.the-variants.{Absent, Present}
+use Rattle.record.specs.declared.entries.Readings.{Readings}
 use Rattle.fields.specs.Fields.{meanings, isTag, meaningOf, isCount}
 use Rattle.record.specs.Readings.{readRecord}
-use Rattle.entries.specs.Entries.{noReadings, storedOf, withValue, entryFor, entryOf, isPresent}
+use Rattle.record.specs.Entries.{noReadings, storedOf, withValue, entryFor, entryOf, isPresent}
 use Rattle.fields.proofs.Forms.{tag-known}
 use Rattle.record.proofs.Walk.{no-bytes, read}
 use Rattle.writer.specs.Records.{fieldWith, hasForm, storedField, fieldsFrom}
-use Rattle.writer.specs.Laws.{AreHeld, ReadBack}
+use Rattle.writer.specs.Laws.{AreHeld}
+use Rattle.writer.proofs.Stated.{ReadBack}
 use Rattle.writer.proofs.FieldRead.{read-field}
 use Rattle.writer.proofs.Passed.{is-meant, form-tag, upTo, is-not-below, Below, none-passed, all-passed, no-field-passed, field-passed}
 use Rattle.writer.proofs.OneRun.{one-run}
@@ -43,7 +39,7 @@ module _ (r : Readings) (known : AreHeld r) where
   unfolding fieldsFrom
   read-rest zero tag q last all some less h =
       let end : tag ≡ 17 + meanings = omega arith in
-      no-bytes true 0 q last ∙ ap accepted (all-passed q r (known .all) (subst (λ (t : ℕ). Below t q r) end h))
+      no-bytes true q last ∙ ap accepted (all-passed q r (known .all) (subst (λ (t : ℕ). Below t q r) end h))
   read-rest (suc k) tag q last all some less h = go (storedOf r (meaningOf tag)) refl (λ p n lt below. read-rest k (suc tag) p n (omega arith) (omega arith) lt below)
     where
       Rest : Type 0

@@ -1,12 +1,6 @@
 -- Bytes at the start of a buffer, by whether they have room there. Assumes nothing.
-use mathlib.Core.Path.{_≡_, _∙_}
-use mathlib.Core.List.{List, []}
-use Prim.Native.Nat.{ℕ, _≤_, _<_}
-use native.Mathlib.Nat.{zero-add}
-use native.Mathlib.Omega.{arith}
-use borrow.Author.Tests.{lt-ltb, le-ltb}
-use lib.ListN.{length}
-use lib.Seq.{sets, sets-eq}
+use Rattle.arithmetic.proofs.Kit.{_≡_, _∙_, List, [], ℕ, _≤_, _<_, zero-add, arith, lt-ltb, le-ltb, length, sets}
+use lib.Seq.{sets-eq}
 use Rattle.refusal.specs.Outcomes.{accepted, refused}
 use Rattle.writer.specs.Written.{lengthWritten, overwritten}
 

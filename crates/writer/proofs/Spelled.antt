@@ -1,14 +1,9 @@
 -- The bytes of a number and the number that bytes spell: each undoes the other. Assumes nothing.
-use mathlib.Core.Path.{_≡_, refl, sym, ap, ap₂, _∙_}
-use mathlib.Core.List.{List, [], _∷_, _++_, append-assoc}
-use Prim.Native.Nat.{ℕ, zero, suc, _+_, _*_, _/_, _%_, _^_, _≤_, _<_}
-use native.Mathlib.Nat.{pow-suc, pow-succ', one-le-pow, mod-one, div-div-eq-div-mul}
-use native.Mathlib.Omega.{arith}
-use lib.Arith.{mod-mul, digits-lt, digits-div, digits-mod}
-use lib.Dec.{lit<}
-use lib.ListN.{length, take, drop, getD, length-drop}
-use lib.Seq.{getD-append-add, getD-at, getD-drop, take-suc}
-use Rattle.fields.specs.Bytes.{wordAt}
+use Rattle.arithmetic.proofs.Kit.{_≡_, refl, sym, ap, ap₂, _∙_, List, [], _∷_, _++_, append-assoc, ℕ, zero, suc, _+_, _*_, _/_, _%_, _^_, _≤_, _<_, pow-suc, pow-succ', one-le-pow, div-div-eq-div-mul, arith, digits-lt, digits-div, lit<, length, take, drop, getD, length-drop, getD-drop}
+use native.Mathlib.Nat.{mod-one}
+use lib.Arith.{mod-mul, digits-mod}
+use lib.Seq.{getD-append-add, getD-at, take-suc}
+use Rattle.fields.specs.Bytes.{numberAt}
 use Rattle.writer.specs.Records.{bytes}
 use Rattle.writer.specs.Laws.{AreBytes}
 use Rattle.writer.proofs.Bytes.{length-bytes}
@@ -20,11 +15,11 @@ lowest zero n = ap (λ (b : ℕ). b ∷ []) (omega arith)
 lowest (suc k) n = ap₂ (λ (b : ℕ) (rest : List ℕ). b % 256 ∷ rest) (ap (λ (p : ℕ). n / p) (pow-succ' 256 k) ∙ sym (div-div-eq-div-mul n 256 (256 ^ k))) (lowest k n)
 
 -- ---- what the bytes of n spell, wherever they stand
-pub spelled : (p q : List ℕ) (k n : ℕ) → wordAt (p ++ (bytes k n ++ q)) (length p) k ≡ n % 256 ^ k
-unfolding wordAt
+pub spelled : (p q : List ℕ) (k n : ℕ) → numberAt (p ++ (bytes k n ++ q)) (length p) k ≡ n % 256 ^ k
+unfolding numberAt
 spelled p q zero n = sym (mod-one n)
 spelled p q (suc k) n =
-    ap (λ (s : List ℕ). wordAt (p ++ s) (length p) (suc k)) (ap (λ (s : List ℕ). s ++ q) (lowest k n) ∙ append-assoc a (b ∷ []) q)
+    ap (λ (s : List ℕ). numberAt (p ++ s) (length p) (suc k)) (ap (λ (s : List ℕ). s ++ q) (lowest k n) ∙ append-assoc a (b ∷ []) q)
     ∙ ap₂ (λ (w c : ℕ). w * 256 + c) (spelled p (b ∷ q) k (n / 256)) (getD-append-add p (a ++ b ∷ q) k 0 ∙ getD-at a b q 0 k (length-bytes k (n / 256)))
     ∙ sym (mod-mul n {m = 256 ^ k} {c = 256} (one-le-pow k 256 (lit< tt)) (lit< tt))
     ∙ ap (λ (m : ℕ). n % m) (sym (pow-suc 256 k))
@@ -37,16 +32,16 @@ spelled p q (suc k) n =
 
 -- ---- the bytes of what bytes spell
 module _ (s : List ℕ) (all : AreBytes s) (i : ℕ) where
-  pub word-lt : (k : ℕ) → wordAt s i k < 256 ^ k
-  unfolding wordAt
+  pub word-lt : (k : ℕ) → numberAt s i k < 256 ^ k
+  unfolding numberAt
   word-lt zero = lit< tt
   word-lt (suc k) = rw pow-suc (digits-lt (word-lt k) (all (i + k)))
 
-  pub spells : (k : ℕ) → i + k ≤ length s → bytes k (wordAt s i k) ≡ take k (drop i s)
-  unfolding wordAt bytes
+  pub spells : (k : ℕ) → i + k ≤ length s → bytes k (numberAt s i k) ≡ take k (drop i s)
+  unfolding numberAt bytes
   spells zero h = refl
   spells (suc k) h =
-      let w = wordAt s i k in
+      let w = numberAt s i k in
       let b = getD s (i + k) 0 in
       lowest k (w * 256 + b)
       ∙ ap₂ (λ (u v : ℕ). bytes k u ++ v ∷ []) (digits-div w (all (i + k))) (digits-mod w (all (i + k)))

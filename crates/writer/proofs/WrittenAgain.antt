@@ -1,29 +1,21 @@
 -- What the strict reader takes is what is written of its readings: its tags rise, so field by field the record is the fields of the tags passed. Assumes nothing.
-use mathlib.Core.Path.{_≡_, refl, sym, ap, ap₂, subst, _∙_}
-use mathlib.Core.Bool.{Bool, true, false, true≢false}
-use mathlib.Core.List.{List, [], _∷_, _++_}
-use mathlib.Core.Logic.{_⊎_, inl, inr, ⊎-elim}
-use Prim.Native.Nat.{ℕ, zero, suc, _+_, _-_, _≤_, _<_}
-use native.Mathlib.Omega.{arith}
-use native.Mathlib.Numerals.{add-one}
-use borrow.Author.Tests.{ltb-true, ltb-false, eqb-true, eqb-false}
-use lib.Dec.{ltb, eqb}
-use lib.ListN.{length, drop, length-drop, length-set, take-append-drop}
-use lib.Seq.{getD-drop}
+use Rattle.arithmetic.proofs.Kit.{_≡_, refl, sym, ap, ap₂, subst, _∙_, Bool, true, false, true≢false, List, [], _∷_, _++_, _⊎_, inl, inr, ⊎-elim, ℕ, suc, _+_, _-_, _≤_, _<_, arith, add-one, ltb-true, ltb-false, eqb-true, eqb-false, ltb, eqb, length, drop, length-set, take-append-drop, getD-drop}
 use Rattle.refusal.specs.Outcomes.{accepted}
 use Rattle.refusal.specs.Causes.{NoneHolds}
 use Rattle.refusal.proofs.Rows.{then-accepted, none-before}
 use Rattle.fields.specs.declared.fields.Value.{Value}
-use Rattle.entries.specs.declared.Stored.{Stored}
-use Rattle.entries.specs.declared.Stored.the-variants.{Present}
-use Rattle.entries.specs.declared.Readings.{Readings}
+use Rattle.record.specs.declared.entries.Stored.{Stored}
+use Rattle.record.specs.declared.entries.Stored.the-variants.{Present}
+use Rattle.record.specs.declared.entries.Readings.{Readings}
 use Rattle.fields.specs.Fields.{meanings, meaningOf, tagIn, isCount, tagOf, sizeOf, valueOf, field, headRows}
 use Rattle.record.specs.Readings.{orderRows, noted}
-use Rattle.entries.specs.Entries.{slotOf, noReadings, storedOf, withValue, entryFor, entryOf, isPresent}
+use Rattle.record.specs.Entries.{slotOf, noReadings, storedOf, withValue, entryFor, entryOf, isPresent}
 use Rattle.fields.proofs.Forms.{Tagged}
+use Rattle.fields.proofs.Heads.{Split, at-end, at-field, split}
 use Rattle.record.proofs.Walk.{fieldRows, no-bytes, read, read-step}
-use Rattle.record.proofs.Entries.{is-new, in-order}
-use Rattle.writer.specs.Laws.{AreBytes, NoNan, WrittenAgain}
+use Rattle.record.proofs.EntryLaws.{is-new, in-order}
+use Rattle.writer.specs.Laws.{AreBytes}
+use Rattle.writer.proofs.Stated.{NoNan, WrittenAgain}
 use Rattle.writer.proofs.Fields.{next-field, no-field, by-form}
 use Rattle.writer.proofs.FieldWritten.{value-form, has-its-form, tag-is, same-bytes}
 use Rattle.writer.proofs.Passed.{NoField, no-stored, stored-same, stored-other, tag-at-least, tag-at-most, form-tag}
@@ -145,25 +137,24 @@ module _ (s : List ℕ) (all : AreBytes s) (q : Readings) (last : ℕ) (none : N
         go m w told true e = absurd (not-there w (ap (storedOf q) (sym (eqb-true m m₀ e)) ∙ told))
         go m w told false e = after .kept m w (stored-other q m₀ v m (eqb-false m m₀ e) ∙ told)
 
-taken : (n : ℕ) (s : List ℕ) (q r : Readings) (last : ℕ) → length s < n → AreBytes s → NoNan r → Reached last q → read true q last s ≡ accepted r → Taken last q r s
+taken : {s : List ℕ} → Split s → (q r : Readings) (last : ℕ) → AreBytes s → NoNan r → Reached last q → read true q last s ≡ accepted r → Taken last q r s
 unfolding field
-taken zero s q r last few all numbers before e = absurd (omega arith)
-taken (suc n) [] q r last few all numbers before e =
-    let done = no-bytes true 0 q last in
+taken at-end q r last all numbers before e =
+    let done = no-bytes true q last in
     let same : q ≡ r = cc in
     subst (λ (p : Readings). Taken last q p []) same (taken-all q last before)
-taken (suc n) (c ∷ u) q r last few all numbers before e =
+taken (at-field c u on) q r last all numbers before e =
     let s = c ∷ u in
     let size = sizeOf s in
     let ok = then-accepted (fieldRows true q last s) (sym (read-step true q last s (omega arith)) ∙ e) in
     let bytes-after : AreBytes (drop size s) = λ i. subst (λ (b : ℕ). b < 256) (sym (getD-drop size s i 0)) (all (size + i)) in
     taken-more s all q last (ok .0) before r numbers
-    (taken n (drop size s) (noted q (field s)) r (tagOf s) (omega (arith, length-drop size s)) bytes-after numbers (reached s all q last (ok .0) before) (ok .1))
+    (taken on (noted q (field s)) r (tagOf s) bytes-after numbers (reached s all q last (ok .0) before) (ok .1))
 
 none-reached : Reached 0 noReadings
 none-reached = record { all = refl; few = omega arith; passed = λ m v told. let z : _≡_ {A = ℕ} 0 1 = cc (no-stored m) in absurd (omega arith); here = inl refl }
 
 pub written-again : WrittenAgain
 written-again s r all numbers e =
-    let whole = taken (suc (length s)) s noReadings r 0 (omega arith) all numbers none-reached e in
+    let whole = taken (split s) noReadings r 0 all numbers none-reached e in
     whole .same ∙ one-run r (whole .all)

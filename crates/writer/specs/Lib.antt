@@ -2,3 +2,4 @@
 pub mod Records
 pub mod Written
 pub mod Laws
+pub mod Conversion

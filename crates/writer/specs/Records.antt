@@ -1,16 +1,16 @@
 -- The bytes of readings as a mast record, document 02: any set of fields, each in its form, the tag bytes rising, absent fields skipped. Definitions only.
-use Prim.Native.Nat.{ℕ, zero, suc, _+_, _/_, _%_, _^_}
+use Prim.Native.Nat.{ℕ, zero, suc, _/_, _%_, _^_}
 use mathlib.Core.Bool.{Bool, not, cond}
 use mathlib.Core.List.{List, [], _∷_, _++_}
 use lib.Dec.{ltb}
 use lib.Ieee.{binary64, toBits}
 use Rattle.fields.specs.declared.fields.Value.{Value}
 use Rattle.fields.specs.declared.fields.Value.the-variants.{Double, Count}
-use Rattle.entries.specs.declared.Stored.{Stored}
-use Rattle.entries.specs.declared.Stored.the-variants.{Absent, Present}
-use Rattle.entries.specs.declared.Readings.{Readings}
+use Rattle.record.specs.declared.entries.Stored.{Stored}
+use Rattle.record.specs.declared.entries.Stored.the-variants.{Absent, Present}
+use Rattle.record.specs.declared.entries.Readings.{Readings}
 use Rattle.fields.specs.Fields.{meanings, isCountTag, meaningOf, tagIn, dataSize, isCount}
-use Rattle.entries.specs.Entries.{storedOf}
+use Rattle.record.specs.Entries.{storedOf}
 
 -- the last k bytes of n, the highest first
 unfoldable pub bytes : ℕ → ℕ → List ℕ

@@ -1,5 +1,7 @@
 // The writer of mast records: the fields of readings, each in its form and by rising tags, into a lent
 // buffer; and a field by itself.
+pub mod conversion;
+
 ghost use mathlib.Core.Path.{_≡_};
 ghost use Prim.Native.Nat.{_+_, _≤_, _<_};
 ghost use lib.ListN.{length};
@@ -7,9 +9,6 @@ ghost use lib.Seq.{sets};
 ghost use Rattle.fields.specs.Fields.{meanings, tagIn, isCount};
 ghost use Rattle.writer.specs.Records.{bytes, dataOf, fieldWith, fieldFor, hasForm, storedField, fieldsFrom, recordOf};
 ghost use Rattle.writer.specs.Written.{written, lengthWritten, overwritten};
-use entries::Readings;
-use entries::Stored;
-use entries::stored_of;
 use fields::bits::pattern;
 use fields::fields::FIRST_COUNT;
 use fields::fields::FIRST_DOUBLE;
@@ -19,6 +18,9 @@ use fields::fields::Value;
 use fields::fields::data_size;
 use fields::fields::is_count_tag;
 use fields::fields::meaning_of;
+use record::entries::Readings;
+use record::entries::Stored;
+use record::entries::stored_of;
 use refusal::Refusal;
 
 // How many bytes were written, or why none was.
@@ -154,7 +156,7 @@ fn tag_for(meaning: usize, value: Value) -> u8
 }
 
 // The length of the field of a meaning with a value, and 0 where there is no such meaning.
-pub fn field_size(meaning: usize, value: Value) -> usize
+pub(crate) fn field_size(meaning: usize, value: Value) -> usize
     ensures { λ r. ⌜ r ≡ length (fieldFor meaning value) ⌝ }
 {
     if MEANINGS <= meaning {
@@ -166,7 +168,7 @@ pub fn field_size(meaning: usize, value: Value) -> usize
 // The field of a meaning with a value, in the value's form, at the start of the buffer, and its length;
 // nothing where there is no such meaning. What is past it is left, and so is the whole of a buffer that is
 // shorter (cause 18).
-pub fn write_field(meaning: usize, value: Value, out: &mut [u8]) -> Written
+pub(crate) fn write_field(meaning: usize, value: Value, out: &mut [u8]) -> Written
     ensures answered { λ r. ⌜ written r ≡ lengthWritten (fieldFor meaning value) (now (out .entry)) ⌝ }
     ensures lent { λ _. ⌜ now (out .exit) ≡ overwritten (fieldFor meaning value) (now (out .entry)) ⌝ }
 {

@@ -1,11 +1,7 @@
 -- `load::write_records` meets its contract: a page has room for one record at least, so that each turn leaves fewer. Assumes nothing.
-use mathlib.Core.Path.{_≡_, sym, ap, _∙_}
-use Prim.Native.Nat.{ℕ, _-_, _/_, _≤_, _<_, min}
+use Rattle.arithmetic.proofs.Kit.{_≡_, sym, ap, _∙_, ℕ, _-_, _/_, _≤_, _<_, min, arith, needs, lit≤, length}
 use native.Mathlib.Nat.{min-le-left, le-min}
-use native.Mathlib.Omega.{arith}
-use borrow.Author.Needs.{needs}
-use lib.Dec.{lit≤}
-use lib.ListN.{length}
+use Rattle.pages.proofs.Growing.{holds}
 use Rattle.load.proofs.write_records.Statement.{statement}
 use Rattle.load.proofs.write_records.Tie as tie
 
@@ -22,30 +18,9 @@ some-written c =
     let turn = c .before .before .before in
     let left = turn .before .before .args .count - turn .loop .first in
     let written : c .put-records .result .records ≡ min left 316 =
-    c .put-records .ensures .0 .records ∙ ap (λ (n : ℕ). min left (n / 207)) (turn .loop .inv .1) in
+    c .put-records .ensures .records ∙ ap (λ (n : ℕ). min left (n / 207)) (turn .loop .inv .1) in
     let some : 1 ≤ min left 316 = le-min (omega arith) (lit≤ tt) in
     (omega arith, omega (arith, min-le-left left 316))
-
-loop-holds : tie.Need-loop-holds Inv-loop μ-loop
-loop-holds c = (omega arith, sym (c .large-buffer .ensures))
-
-slice-aggregate-put-records : tie.Need-slice-aggregate-put-records Inv-loop μ-loop
-slice-aggregate-put-records c = sym (c .before .before .loop .inv .1)
-
-sub-put-records : tie.Need-sub-put-records Inv-loop μ-loop
-sub-put-records c = omega arith
-
-array-share-prefix-page : tie.Need-array-share-prefix-page Inv-loop μ-loop
-array-share-prefix-page c = c .before .put-records .ensures .0 .within
-
-slice-aggregate-write-all : tie.Need-slice-aggregate-write-all Inv-loop μ-loop
-slice-aggregate-write-all c = c .before .before .put-records .ensures .0 .counted
-
-add-first : tie.Need-add-first Inv-loop μ-loop
-add-first c = omega (arith, some-written (c .before .before .before .before .before))
-
-loop-less : tie.Need-loop-less Inv-loop μ-loop
-loop-less c = omega (arith, some-written (c .before .before .before .before .before))
 
 loop-again : tie.Need-loop-again Inv-loop μ-loop
 loop-again c =
@@ -54,20 +29,8 @@ loop-again c =
 
 pub write-records-spec : {M : Type 1} → statement M
 write-records-spec =
-    tie.close
-    (tie.spec
-    Inv-loop
-    μ-loop
-    (λ c κs. search needs)
-    loop-holds
-    slice-aggregate-put-records
-    sub-put-records
-    (λ c κs. search needs)
-    array-share-prefix-page
-    slice-aggregate-write-all
-    (λ c κs. search needs)
-    (λ c. search needs)
-    add-first
-    loop-less
-    loop-again
-    (λ c. search needs))
+    tie.close (tie.spec Inv-loop μ-loop (λ c κs. search needs) (λ c. (omega arith, sym (c .large-buffer .ensures))) (λ c. sym (c .before .before .loop .inv .1))
+    (λ c. omega arith) (λ c κs. search needs) (λ c. let filled = c .before .put-records .ensures in holds (filled .text) (filled .room) .within)
+    (λ c. let filled = c .before .before .put-records .ensures in holds (filled .text) (filled .room) .counted) (λ c κs. search needs) (λ c. search needs)
+    (λ c. omega (arith, some-written (c .before .before .before .before .before)))
+    (λ c. omega (arith, some-written (c .before .before .before .before .before))) loop-again (λ c. search needs))

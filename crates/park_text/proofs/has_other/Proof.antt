@@ -1,8 +1,6 @@
 -- `park_text::has_other` meets its contract. Assumes nothing.
-use mathlib.Core.Path.{ap, _∙_}
-use mathlib.Core.Bool.{_||_}
-use Rattle.entries.specs.Entries.{isPresent}
-use borrow.Author.Needs.{needs}
+use Rattle.arithmetic.proofs.Kit.{ap, _∙_, _||_, needs}
+use Rattle.record.specs.Entries.{isPresent}
 use Rattle.park_text.proofs.has_other.Statement.{statement}
 use Rattle.park_text.proofs.has_other.Tie as tie
 
@@ -19,14 +17,5 @@ returns c =
 
 pub has-other-spec : {M : Type 1} → statement M
 has-other-spec =
-    tie.close
-    (tie.spec
-    (λ c κs. search needs)
-    (λ c κs. search needs)
-    (λ c κs. search needs)
-    (λ c κs. search needs)
-    (λ c κs. search needs)
-    (λ c κs. search needs)
-    (λ c κs. search needs)
-    (λ c κs. search needs)
-    returns)
+    tie.close (tie.spec (λ c κs. search needs) (λ c κs. search needs) (λ c κs. search needs) (λ c κs. search needs) (λ c κs. search needs)
+    (λ c κs. search needs) (λ c κs. search needs) (λ c κs. search needs) returns)

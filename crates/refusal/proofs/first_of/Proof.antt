@@ -1,13 +1,11 @@
 -- `refusal::first_of` meets its contract. Assumes nothing.
-use mathlib.Core.Path.{sym, ap}
-use borrow.Author.Needs.{needs}
+use Rattle.arithmetic.proofs.Kit.{sym, ap, needs}
 use Rattle.refusal.specs.declared.Check.{Check}
 use Rattle.refusal.specs.Outcomes.{checked, _⟫_}
 use Rattle.refusal.proofs.first_of.Statement.{statement}
 use Rattle.refusal.proofs.first_of.Tie as tie
 
-returns-2 : tie.Need-returns-2
-returns-2 c = let a = c .before .before .before .args in ap (λ (x : Check). checked x ⟫ (λ _. checked (a .b))) (sym (c .before .a .given .1))
-
 pub first-of-spec : {M : Type 1} → statement M
-first-of-spec = tie.close (tie.spec (λ c. search needs) (λ c. search needs) (λ c. search needs) returns-2)
+first-of-spec =
+    tie.close (tie.spec (λ c. search needs) (λ c. search needs) (λ c. search needs)
+    (λ c. let a = c .before .before .before .args in ap (λ (x : Check). checked x ⟫ (λ _. checked (a .b))) (sym (c .before .a .given .1))))

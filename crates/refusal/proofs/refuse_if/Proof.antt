@@ -2,11 +2,5 @@
 use Rattle.refusal.proofs.refuse_if.Statement.{statement}
 use Rattle.refusal.proofs.refuse_if.Tie as tie
 
-returns : tie.Need-returns
-returns c = simp (c .if1 .taken)
-
-returns-2 : tie.Need-returns-2
-returns-2 c = simp (c .if1 .left)
-
 pub refuse-if-spec : {M : Type 1} → statement M
-refuse-if-spec = tie.close (tie.spec returns returns-2)
+refuse-if-spec = tie.close (tie.spec (λ c. simp (c .if1 .taken)) (λ c. simp (c .if1 .left)))

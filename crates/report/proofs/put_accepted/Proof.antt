@@ -1,8 +1,7 @@
 -- `report::put_accepted` meets its contract. Assumes nothing.
-use mathlib.Core.Path.{ap}
-use borrow.Author.Needs.{needs}
-use Rattle.pieces.proofs.Growing.{and-then, same-more}
-use Rattle.trim_lines.specs.TrimLines.{trimLine, nextLine}
+use Rattle.arithmetic.proofs.Kit.{ap, needs}
+use Rattle.pages.proofs.Growing.{and-then, same-more}
+use Rattle.report.specs.TrimLines.{trimLine, nextClassLine}
 use Rattle.report.specs.Report.{acceptedLines}
 use Rattle.report.proofs.put_accepted.Statement.{statement}
 use Rattle.report.proofs.put_accepted.Tie as tie
@@ -18,19 +17,10 @@ returns c =
     and-then
     (and-then
     (and-then (and-then (station .put-station .ensures) (air .put-air .ensures)) (same-more (ap trimLine (class .before .trim-class .ensures)) (class .put-trim .ensures)))
-    (same-more (ap nextLine (next .before .next-trim-class-of-readings .ensures)) (next .put-next .ensures)))
+    (same-more (ap nextClassLine (next .before .next-trim-class-of-readings .ensures)) (next .put-next .ensures)))
     (mark .put-mark .ensures)
 
 pub put-accepted-spec : {M : Type 1} → statement M
 put-accepted-spec =
-    tie.close
-    (tie.spec
-    (λ c κs. search needs)
-    (λ c κs. search needs)
-    (λ c κs. search needs)
-    (λ c κs. search needs)
-    (λ c κs. search needs)
-    (λ c κs. search needs)
-    (λ c κs. search needs)
-    (λ c. search needs)
-    returns)
+    tie.close (tie.spec (λ c κs. search needs) (λ c κs. search needs) (λ c κs. search needs) (λ c κs. search needs) (λ c κs. search needs)
+    (λ c κs. search needs) (λ c κs. search needs) (λ c. search needs) returns)

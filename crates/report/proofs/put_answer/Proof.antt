@@ -1,8 +1,7 @@
 -- `report::put_answer` meets its contract. Assumes nothing.
-use mathlib.Core.Path.{sym, ap, _∙_}
-use borrow.Author.Needs.{needs}
-use Rattle.answered.specs.Judged.{outcome}
-use Rattle.pieces.proofs.Growing.{same-more}
+use Rattle.arithmetic.proofs.Kit.{sym, ap, _∙_, needs}
+use Rattle.refusal.specs.Judged.{outcome}
+use Rattle.pages.proofs.Growing.{same-more}
 use Rattle.report.specs.Report.{answerLines}
 use Rattle.report.proofs.put_answer.Statement.{statement}
 use Rattle.report.proofs.put_answer.Tie as tie
@@ -20,15 +19,4 @@ returns-2 c =
     same-more (ap (answerLines (judged .before .before .args .readings)) (ap outcome (sym (told .refusal .given .1)) ∙ judged .judge-readings .ensures)) (c .before .before .put-refused .ensures)
 
 pub put-answer-spec : {M : Type 1} → statement M
-put-answer-spec =
-    tie.close
-    (tie.spec
-    (λ c κs. search needs)
-    (λ c. search needs)
-    (λ c κs. search needs)
-    (λ c. search needs)
-    (λ c κs. search needs)
-    (λ c. search needs)
-    returns
-    (λ c. search needs)
-    returns-2)
+put-answer-spec = tie.close (tie.spec (λ c κs. search needs) (λ c. search needs) (λ c κs. search needs) (λ c. search needs) (λ c κs. search needs) (λ c. search needs) returns (λ c. search needs) returns-2)

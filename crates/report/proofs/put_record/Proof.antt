@@ -1,14 +1,9 @@
 -- `report::put_record` meets its contract: the buffer has room for any record. Assumes nothing.
-use mathlib.Core.Path.{_≡_, sym, ap, _∙_}
-use mathlib.Core.List.{List}
-use Prim.Native.Nat.{ℕ}
-use native.Mathlib.Omega.{arith}
-use borrow.Author.Needs.{needs}
-use lib.ListN.{length, take, replicate, length-replicate}
+use Rattle.arithmetic.proofs.Kit.{_≡_, sym, ap, _∙_, List, ℕ, arith, needs, length, take, replicate, length-replicate}
 use Rattle.writer.specs.Records.{recordOf}
 use Rattle.writer.specs.Written.{written}
-use Rattle.pieces.specs.Pieces.{hex}
-use Rattle.pieces.proofs.Growing.{and-then, same-more}
+use Rattle.pages.specs.Characters.{hex}
+use Rattle.pages.proofs.Growing.{and-then, same-more}
 use Rattle.report.specs.Report.{recordLine}
 use Rattle.report.proofs.Short.{record-short}
 use Rattle.report.proofs.Recorded.{not-refused, length-is, recorded}
@@ -32,9 +27,6 @@ whole-record c = recorded (c .before .before .before .before .before .before .ar
 array-share-prefix-record : tie.Need-array-share-prefix-record
 array-share-prefix-record c = let told = c .before .before .before .before .before .before .before in omega (arith, counted told, record-short (told .before .before .before .before .before .before .args .readings))
 
-slice-aggregate-put-hex : tie.Need-slice-aggregate-put-hex
-slice-aggregate-put-hex c = let told = c .before .before .before .before .before .before .before .before in counted told ∙ sym (ap length (whole-record told))
-
 returns : tie.Need-returns
 returns c =
     let told = c .before .before .before in
@@ -51,19 +43,7 @@ returns-2 c =
 
 pub put-record-spec : {M : Type 1} → statement M
 put-record-spec =
-    tie.close
-    (tie.spec
-    (λ c. search needs)
-    (λ c κs. search needs)
-    (λ c. search needs)
-    (λ c. search needs)
-    (λ c. search needs)
-    (λ c κs. search needs)
+    tie.close (tie.spec (λ c. search needs) (λ c κs. search needs) (λ c. search needs) (λ c. search needs) (λ c. search needs) (λ c κs. search needs)
     array-share-prefix-record
-    slice-aggregate-put-hex
-    (λ c κs. search needs)
-    (λ c. search needs)
-    (λ c κs. search needs)
-    returns
-    (λ c. search needs)
-    returns-2)
+    (λ c. let told = c .before .before .before .before .before .before .before .before in counted told ∙ sym (ap length (whole-record told)))
+    (λ c κs. search needs) (λ c. search needs) (λ c κs. search needs) returns (λ c. search needs) returns-2)

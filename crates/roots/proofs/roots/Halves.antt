@@ -1,11 +1,8 @@
 -- The floor of the root of a number to the base B, from the floor s of the root of its digits above the lowest two: what those leave over s * s, with the
 -- next digit, divided by 2 * s gives the root's lowest digit or one more than it. Assumes nothing.
-use mathlib.Core.Path.{_≡_, sym, ap, _∙_, subst}
-use Prim.Native.Nat.{ℕ, zero, suc, _+_, _-_, _*_, _/_, _%_, _≤_, _<_}
-use native.Mathlib.Nat.{le-trans, le-of-suc-le-suc, add-assoc, add-comm, add-left-comm, add-mul, mul-add, mul-assoc, mul-comm, mul-left-comm, mul-le-mul, mul-le-mul-right, mul-suc, suc-mul, two-mul, mod-lt, div-add-mod', div-lt-iff-lt-mul}
-use native.Mathlib.Omega.{arith}
-use lib.Arith.{digits-lt}
-use Rattle.wide.proofs.Root.{IsRoot}
+use Rattle.arithmetic.proofs.Kit.{_≡_, sym, ap, _∙_, subst, ℕ, zero, suc, _+_, _-_, _*_, _/_, _%_, _≤_, _<_, le-trans, le-of-suc-le-suc, add-assoc, add-comm, add-mul, mul-add, mul-assoc, mul-comm, mul-left-comm, mul-le-mul, mul-le-mul-right, mul-suc, suc-mul, mod-lt, div-add-mod', div-lt-iff-lt-mul, arith, digits-lt}
+use native.Mathlib.Nat.{add-left-comm, two-mul}
+use Rattle.roots.proofs.Root.{IsRoot}
 
 -- ---- the root of a number that is the square of x but for a little: w more and d less
 

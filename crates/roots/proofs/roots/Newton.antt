@@ -1,10 +1,7 @@
 -- Newton's iteration for the floor of a square root: a step from any guess leads to no less than the root, from a guess above it to less than the guess,
 -- and from a guess near it to one much nearer. Assumes nothing.
-use mathlib.Core.Path.{_≡_, ap, _∙_, subst}
-use Prim.Native.Nat.{ℕ, zero, suc, _+_, _*_, _/_, _^_, _≤_, _<_}
-use native.Mathlib.Nat.{le-intro, le-dest, le-of-lt, lt-of-not-le, lt-suc-self, not-suc-le-zero, zero-lt-suc, add-assoc, add-comm, add-left-comm, add-mul, mul-add, mul-assoc, mul-comm, mul-mul-mul-comm, mul-le-mul, mul-le-mul-right, mul-pos, le-of-mul-le-mul-right, div-mul-le-self, div-lt-iff-lt-mul}
-use native.Mathlib.Decide.{decLe}
-use native.Mathlib.Omega.{arith}
+use Rattle.arithmetic.proofs.Kit.{_≡_, ap, _∙_, subst, ℕ, zero, suc, _+_, _*_, _/_, _^_, _≤_, _<_, le-of-lt, lt-of-not-le, lt-suc-self, not-suc-le-zero, zero-lt-suc, add-assoc, add-comm, add-mul, mul-add, mul-assoc, mul-comm, mul-mul-mul-comm, mul-le-mul, mul-le-mul-right, mul-pos, le-of-mul-le-mul-right, div-mul-le-self, div-lt-iff-lt-mul, decLe, arith}
+use native.Mathlib.Nat.{le-intro, le-dest, add-left-comm}
 
 -- the guess after r
 abbrev pub step : ℕ → ℕ → ℕ

@@ -1,9 +1,6 @@
 -- The place of a number's highest binary digit, after a shift and below a word more, and what it tells of the upper of two words. Assumes nothing.
-use mathlib.Core.Path.{_≡_, sym, ap, _∙_}
-use Prim.Native.Nat.{ℕ, suc, _+_, _*_, _^_, _≤_, _<_}
-use native.Mathlib.Nat.{le-trans, le-of-eq, le-of-suc-le-suc, lt-of-lt-of-le, lt-of-le-of-lt, lt-suc-self, le-add-right, suc-add, mul-le-mul-right, mul-lt-mul-of-pos-right, lt-of-mul-lt-mul-right}
-use lib.Arith.{digits-lt}
-use lib.Pow.{pow-add, pow-mono, pow-pos}
+use Rattle.arithmetic.proofs.Kit.{_≡_, sym, ap, _∙_, ℕ, suc, _+_, _*_, _^_, _≤_, _<_, le-trans, le-of-eq, le-of-suc-le-suc, lt-of-lt-of-le, lt-of-le-of-lt, lt-suc-self, le-add-right, mul-le-mul-right, mul-lt-mul-of-pos-right, lt-of-mul-lt-mul-right, digits-lt, pow-add, pow-mono, pow-pos}
+use native.Mathlib.Nat.{suc-add}
 
 -- the highest digit of n is at the place p
 abbrev pub Top : (n p : ℕ) → Type 0

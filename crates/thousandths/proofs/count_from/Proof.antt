@@ -1,17 +1,9 @@
 -- `thousandths::count_from` meets its contract: the machine reads a signed number from its bits as `countOf` does. Assumes nothing.
-use mathlib.Core.Path.{_≡_, sym, ap, _∙_}
-use Prim.Native.Nat.{ℕ, suc, _-_}
-use native.Mathlib.Omega.{arith}
-use mir.Syntax.{w32}
-use mir.Val.{toZ}
+use Rattle.arithmetic.proofs.Kit.{_≡_, sym, ap, _∙_, ℕ, suc, _-_, arith, w32, toZ, needs}
 use mir.ValLaws.{toZ-pos, toZ-neg}
-use borrow.Author.Needs.{needs}
 use Rattle.thousandths.proofs.Words.{count-below, count-above}
 use Rattle.thousandths.proofs.count_from.Statement.{statement}
 use Rattle.thousandths.proofs.count_from.Tie as tie
-
-returns : tie.Need-returns
-returns c = let w : ℕ = c .before .args .word in toZ-pos w32 w (omega arith) ∙ sym (count-below w (c .if1 .taken))
 
 returns-2 : tie.Need-returns-2
 returns-2 c =
@@ -21,4 +13,6 @@ returns-2 c =
     ap (toZ w32) bits ∙ toZ-neg w32 k (omega arith) ∙ sym (count-above w (c .if1 .left) (omega arith))
 
 pub count-from-spec : {M : Type 1} → statement M
-count-from-spec = tie.close (tie.spec (λ c. search needs) (λ c. search needs) (λ c. search needs) returns returns-2)
+count-from-spec =
+    tie.close (tie.spec (λ c. search needs) (λ c. search needs) (λ c. search needs)
+    (λ c. let w : ℕ = c .before .args .word in toZ-pos w32 w (omega arith) ∙ sym (count-below w (c .if1 .taken))) returns-2)

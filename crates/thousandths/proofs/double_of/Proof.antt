@@ -1,20 +1,6 @@
 -- `thousandths::double_of` meets its contract: a count is a double exactly, so that its quotient by 1000 is rounded once. Assumes nothing.
-use mathlib.Core.Path.{_≡_, ap, _∙_}
-use mathlib.Core.Bool.{Bool, true, false}
-use Prim.Native.Nat.{ℕ, suc, _*_}
-use native.Mathlib.Nat.{mul-assoc, mul-comm, mul-pos}
-use native.Mathlib.Omega.{arith}
-use lib.IntN.{ℤ, pos, negsuc}
-use lib.Dec.{lit<}
-use lib.Ieee.{Float, nan, inf, fin, binary64, up, down, round, div, ofInt, ofBits}
-use lib.Ieee.Fits.{down-pos}
-use lib.Ieee.Exact.{HasValue}
+use Rattle.arithmetic.proofs.Kit.{_≡_, ap, _∙_, Bool, true, false, ℕ, suc, _*_, mul-assoc, mul-comm, mul-pos, arith, ℤ, pos, negsuc, lit<, Float, nan, inf, fin, binary64, up, down, round, div, ofInt, ofBits, down-pos, HasValue, round-same, w32, SFits, toZ-ofZ, needs}
 use lib.Ieee.Back.{round-whole}
-use lib.Ieee.Scale.{round-same}
-use mir.Syntax.{w32}
-use mir.Val.{SFits}
-use mir.ValLaws.{toZ-ofZ}
-use borrow.Author.Needs.{needs}
 use Rattle.arithmetic.proofs.Products.{unlike-plus}
 use Rattle.thousandths.specs.Thousandths.{thousandths}
 use Rattle.thousandths.proofs.double_of.Statement.{statement}

@@ -1,7 +1,5 @@
 -- `thousandths::double_of_word` meets its contract. Assumes nothing.
-use mathlib.Core.Path.{ap, _∙_}
-use native.Mathlib.Omega.{arith}
-use borrow.Author.Needs.{needs}
+use Rattle.arithmetic.proofs.Kit.{ap, _∙_, arith, needs}
 use Rattle.thousandths.specs.Thousandths.{thousandths}
 use Rattle.thousandths.proofs.Words.{reads-back}
 use Rattle.thousandths.proofs.double_of_word.Statement.{statement}

@@ -1,11 +1,5 @@
 -- `thousandths::nearest_count` meets its contract: the unit is even, so that its half is a whole number. Assumes nothing.
-use mathlib.Core.Path.{_≡_, sym, ap, _∙_}
-use Prim.Native.Nat.{ℕ, suc, _+_, _*_, _/_, _%_, _^_, _<_}
-use native.Mathlib.Nat.{one-mul, mod-eq-of-lt, mul-div-mul-right, pow-suc}
-use native.Mathlib.Omega.{arith}
-use lib.Dec.{lit<}
-use lib.Pow.{pow-pos, pow-lt}
-use borrow.Author.Needs.{needs}
+use Rattle.arithmetic.proofs.Kit.{_≡_, sym, ap, _∙_, ℕ, suc, _+_, _*_, _/_, _%_, _^_, _<_, one-mul, mod-eq-of-lt, mul-div-mul-right, pow-suc, arith, lit<, pow-pos, pow-lt, needs}
 use Rattle.thousandths.specs.Thousandths.{nearestWhole}
 use Rattle.thousandths.proofs.nearest_count.Statement.{statement}
 use Rattle.thousandths.proofs.nearest_count.Tie as tie
@@ -21,11 +15,8 @@ rounded : (a p : ℕ) → 0 < p → (a + 2 ^ p / 2) / 2 ^ p ≡ nearestWhole a (
 rounded a p h =
     sym (mul-div-mul-right (a + 2 ^ p / 2) (2 ^ p) (lit< tt)) ∙ ap (λ (x : ℕ). x / (2 ^ p * 2)) (omega (arith, half p h))
 
-div-result : tie.Need-div-result
-div-result c = rw (unit-is (c .args .places) (c .pre .1 .1)) (pow-pos (c .args .places))
-
-returns : tie.Need-returns
-returns c = rw (unit-is (c .args .places) (c .pre .1 .1)) (rounded (c .args .digits * 1000) (c .args .places) (c .pre .1 .0))
-
 pub nearest-count-spec : {M : Type 1} → statement M
-nearest-count-spec = tie.close (tie.spec (λ c. search needs) (λ c. search needs) (λ c. search needs) div-result returns)
+nearest-count-spec =
+    tie.close (tie.spec (λ c. search needs) (λ c. search needs) (λ c. search needs)
+    (λ c. rw (unit-is (c .args .places) (c .pre .1 .1)) (pow-pos (c .args .places)))
+    (λ c. rw (unit-is (c .args .places) (c .pre .1 .1)) (rounded (c .args .digits * 1000) (c .args .places) (c .pre .1 .0))))

@@ -1,20 +1,13 @@
 -- `thousandths::signed_count` meets its contract, by the word of the count. Assumes nothing.
-use mathlib.Core.Path.{_≡_, sym, ap, _∙_, subst}
-use mathlib.Core.Bool.{true, false}
-use Prim.Native.Nat.{ℕ, _-_, _%_, _<_}
-use native.Mathlib.Omega.{arith}
-use lib.IntN.{ℤ}
-use mir.Syntax.{w32}
-use mir.Val.{ofZ, toZ}
-use borrow.Author.Needs.{needs}
+use Rattle.arithmetic.proofs.Kit.{_≡_, sym, ap, _∙_, subst, true, false, ℕ, _-_, _%_, _<_, arith, ℤ, w32, ofZ, toZ, needs}
 use Rattle.arithmetic.specs.Whole.{signed}
 use Rattle.thousandths.specs.declared.Counted.the-variants.{Count}
 use Rattle.thousandths.specs.Thousandths.{countOf, counted}
-use Rattle.thousandths.specs.Laws.{InRange}
 use Rattle.thousandths.proofs.Words.{count-below, word-of-size, too-high, too-low, in-range, reads-back}
 use Rattle.thousandths.proofs.Laws.{in-range-counted, not-counted}
 use Rattle.thousandths.proofs.signed_count.Statement.{statement}
 use Rattle.thousandths.proofs.signed_count.Tie as tie
+use Rattle.thousandths.proofs.Sizes.{InRange}
 
 -- the count of the word w, read back from its bits
 counted-word : (w : ℕ) (z n : ℤ) → w < 4294967296 → z ≡ countOf w → countOf w ≡ n → Count (toZ w32 (ofZ w32 z)) ≡ counted n
@@ -44,15 +37,4 @@ returns-4 c =
     rw (c .before .before .if1 .left) (counted-word (a .size) (c .count-from2 .result) (signed false (a .size)) (omega arith) (c .count-from2 .ensures) is)
 
 pub signed-count-spec : {M : Type 1} → statement M
-signed-count-spec =
-    tie.close
-    (tie.spec
-    returns
-    (λ c. search needs)
-    (λ c. search needs)
-    (λ c κs. search needs)
-    returns-2
-    returns-3
-    (λ c. search needs)
-    (λ c κs. search needs)
-    returns-4)
+signed-count-spec = tie.close (tie.spec returns (λ c. search needs) (λ c. search needs) (λ c κs. search needs) returns-2 returns-3 (λ c. search needs) (λ c κs. search needs) returns-4)

@@ -1,16 +1,6 @@
 -- `thousandths::tried` meets its contract: a count's double is no NaN. Assumes nothing.
-use mathlib.Core.Path.{_≡_, sym, ap, _∙_}
-use mathlib.Core.Bool.{not}
-use Prim.Native.Nat.{ℕ}
-use lib.IntN.{ℤ}
-use lib.Dec.{T}
-use lib.Ieee.{Float, nan, inf, fin, binary64, toBits, isNan}
-use lib.Ieee.Scale.{finite}
-use mir.Syntax.{w32}
-use mir.Val.{SFits}
-use mir.ValLaws.{toZ-ofZ}
-use borrow.Author.Needs.{needs}
-use Rattle.thousandths.specs.Thousandths.{thousandths, tried}
+use Rattle.arithmetic.proofs.Kit.{_≡_, sym, ap, _∙_, not, ℕ, ℤ, T, Float, nan, inf, fin, binary64, toBits, isNan, finite, w32, SFits, toZ-ofZ, needs}
+use Rattle.thousandths.specs.Thousandths.{thousandths, ifExact}
 use Rattle.thousandths.proofs.Words.{fits-in-range}
 use Rattle.thousandths.proofs.Laws.{same-pattern, other-pattern, double-of-count}
 use Rattle.thousandths.proofs.tried.Statement.{statement}
@@ -39,18 +29,16 @@ returns c =
     let at = c .before .before .before in
     let n : ℤ = at .count .given .0 .0 in
     let b : ℕ = at .before .before .args .pattern in
-    sym (same-pattern n b (ap (toBits binary64) (sym (double-is (c .before))) ∙ c .if1 .taken)) ∙ ap (tried b) (sym (at .count .given .1))
+    sym (same-pattern n b (ap (toBits binary64) (sym (double-is (c .before))) ∙ c .if1 .taken)) ∙ ap (ifExact b) (sym (at .count .given .1))
 
 returns-2 : tie.Need-returns-2
 returns-2 c =
     let at = c .before .before .before in
     let n : ℤ = at .count .given .0 .0 in
     let b : ℕ = at .before .before .args .pattern in
-    sym (other-pattern n b (λ same. c .if1 .left (ap (toBits binary64) (double-is (c .before)) ∙ same))) ∙ ap (tried b) (sym (at .count .given .1))
-
-returns-3 : tie.Need-returns-3
-unfolding tried
-returns-3 c = ap (tried (c .before .before .args .pattern)) (sym (c .enum-told .given .1))
+    sym (other-pattern n b (λ same. c .if1 .left (ap (toBits binary64) (double-is (c .before)) ∙ same))) ∙ ap (ifExact b) (sym (at .count .given .1))
 
 pub tried-spec : {M : Type 1} → statement M
-tried-spec = tie.close (tie.spec (λ c. search needs) (λ c κs. search needs) float-to-bits-if1 (λ c. search needs) returns returns-2 returns-3)
+tried-spec =
+    tie.close (tie.spec (λ c. search needs) (λ c κs. search needs) float-to-bits-if1 (λ c. search needs) returns returns-2
+    (λ c. unfold ifExact in ap (ifExact (c .before .before .args .pattern)) (sym (c .enum-told .given .1))))

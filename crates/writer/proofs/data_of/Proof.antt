@@ -1,12 +1,10 @@
 -- `writer::data_of` meets its contract. Assumes nothing.
-use mathlib.Core.Path.{sym, ap, _∙_}
-use borrow.Author.Needs.{needs}
+use Rattle.arithmetic.proofs.Kit.{sym, ap, _∙_, needs}
 use Rattle.writer.specs.Records.{dataOf}
 use Rattle.writer.proofs.data_of.Statement.{statement}
 use Rattle.writer.proofs.data_of.Tie as tie
 
-returns : tie.Need-returns
-returns c = c .pattern .ensures ∙ ap dataOf (sym (c .before .before .value .given .1))
-
 pub data-of-spec : {M : Type 1} → statement M
-data-of-spec = tie.close (tie.spec (λ c. search needs) (λ c κs. search needs) (λ c. search needs) (λ c. search needs) returns (λ c. search needs))
+data-of-spec =
+    tie.close (tie.spec (λ c. search needs) (λ c κs. search needs) (λ c. search needs) (λ c. search needs)
+    (λ c. c .pattern .ensures ∙ ap dataOf (sym (c .before .before .value .given .1))) (λ c. search needs))

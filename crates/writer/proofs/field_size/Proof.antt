@@ -1,20 +1,10 @@
 -- `writer::field_size` meets its contract, by whether there is such a meaning. Assumes nothing.
-use mathlib.Core.Path.{sym, ap, _∙_}
-use Prim.Native.Nat.{ℕ, _+_}
-use native.Mathlib.Omega.{arith}
-use borrow.Author.Needs.{needs}
-use lib.ListN.{length}
+use Rattle.arithmetic.proofs.Kit.{sym, ap, _∙_, ℕ, _+_, arith, needs, length}
 use Rattle.fields.specs.Fields.{tagIn, dataSize, isCount}
 use Rattle.fields.proofs.Forms.{at-most}
 use Rattle.writer.proofs.Fields.{length-field, field-meant, no-field-meant}
 use Rattle.writer.proofs.field_size.Statement.{statement}
 use Rattle.writer.proofs.field_size.Tie as tie
-
-returns : tie.Need-returns
-returns c = let a = c .before .args in sym (ap length (no-field-meant (a .meaning) (a .value) (c .if1 .taken)))
-
-add-result : tie.Need-add-result
-add-result c = omega (arith, c .data-size .ensures, at-most (c .before .tag-for .result))
 
 returns-2 : tie.Need-returns-2
 returns-2 c =
@@ -24,4 +14,6 @@ returns-2 c =
     ∙ sym (ap length (field-meant (a .meaning) (a .value) (tagged .before .if1 .left)) ∙ length-field (tagIn (isCount (a .value)) (a .meaning)) (a .value))
 
 pub field-size-spec : {M : Type 1} → statement M
-field-size-spec = tie.close (tie.spec returns (λ c κs. search needs) (λ c κs. search needs) add-result returns-2)
+field-size-spec =
+    tie.close (tie.spec (λ c. let a = c .before .args in sym (ap length (no-field-meant (a .meaning) (a .value) (c .if1 .taken)))) (λ c κs. search needs)
+    (λ c κs. search needs) (λ c. omega (arith, c .data-size .ensures, at-most (c .before .tag-for .result))) returns-2)

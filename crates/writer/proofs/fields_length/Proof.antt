@@ -1,13 +1,8 @@
 -- `writer::fields_length` meets its contract. The loop's invariant: the bytes counted and those of the fields that are left are those of the form. Assumes nothing.
-use mathlib.Core.Path.{_≡_, sym, ap, _∙_}
-use mathlib.Core.List.{_++_}
-use Prim.Native.Nat.{ℕ, _+_, _-_, _≤_}
-use native.Mathlib.Omega.{arith}
-use borrow.Author.Needs.{needs}
-use lib.ListN.{length, length-append}
-use Rattle.entries.specs.declared.Stored.{Stored}
+use Rattle.arithmetic.proofs.Kit.{_≡_, sym, ap, _∙_, _++_, ℕ, _+_, _-_, _≤_, arith, needs, length, length-append}
+use Rattle.record.specs.declared.entries.Stored.{Stored}
 use Rattle.fields.specs.Fields.{meanings, meaningOf}
-use Rattle.entries.specs.Entries.{storedOf}
+use Rattle.record.specs.Entries.{storedOf}
 use Rattle.writer.specs.Records.{storedField, fieldsFrom}
 use Rattle.writer.proofs.Fields.{rest, all-fields, next-field, no-field, few}
 use Rattle.writer.proofs.fields_length.Statement.{statement}
@@ -18,9 +13,6 @@ Inv-loop first readings end size₀ tag₀ size tag = (tag ≤ end) × (size + l
 
 abbrev μ-loop : tie.MeasureT-loop
 μ-loop first readings end size₀ tag₀ size tag = end - tag
-
-loop-holds : tie.Need-loop-holds Inv-loop μ-loop
-loop-holds c = (omega arith, omega (arith, ap length (all-fields (c .args .first) (c .args .readings))))
 
 -- the size of the field of the tag, and those after it
 counted : (c : tie.After-stored-size Inv-loop μ-loop) → let turn = c .before .before .before .before in let a = turn .before .args in
@@ -38,18 +30,6 @@ counted c =
     ∙ ap (λ (e : Stored). length (storedField tag e ++ rest end (tag + 1) r)) same
     ∙ ap length (sym (next-field end tag r (c .before .before .before .loop-test .taken)))
 
-add-size : tie.Need-add-size Inv-loop μ-loop
-add-size c = let a = c .before .before .before .before .before .args in omega (arith, counted c, few meanings (a .first) (a .readings))
-
-add-tag : tie.Need-add-tag Inv-loop μ-loop
-add-tag c = omega arith
-
-loop-less : tie.Need-loop-less Inv-loop μ-loop
-loop-less c = omega arith
-
-loop-again : tie.Need-loop-again Inv-loop μ-loop
-loop-again c = (omega arith, omega (arith, counted c))
-
 returns : tie.Need-returns Inv-loop μ-loop
 returns c =
     let turn = c .before in
@@ -58,18 +38,7 @@ returns c =
 
 pub fields-length-spec : {M : Type 1} → statement M
 fields-length-spec =
-    tie.close
-    (tie.spec
-    Inv-loop
-    μ-loop
-    (λ c. search needs)
-    (λ c. search needs)
-    loop-holds
-    (λ c κs. search needs)
-    (λ c κs. search needs)
-    (λ c κs. search needs)
-    add-size
-    add-tag
-    loop-less
-    loop-again
-    returns)
+    tie.close (tie.spec Inv-loop μ-loop (λ c. search needs) (λ c. search needs)
+    (λ c. (omega arith, omega (arith, ap length (all-fields (c .args .first) (c .args .readings))))) (λ c κs. search needs) (λ c κs. search needs)
+    (λ c κs. search needs) (λ c. let a = c .before .before .before .before .before .args in omega (arith, counted c, few meanings (a .first) (a .readings)))
+    (λ c. omega arith) (λ c. omega arith) (λ c. (omega arith, omega (arith, counted c))) returns)

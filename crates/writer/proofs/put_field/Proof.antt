@@ -1,11 +1,5 @@
 -- `writer::put_field` meets its contract: tag, length and data, one number after the other. Assumes nothing.
-use mathlib.Core.Path.{_≡_, sym, ap, ap₂, _∙_}
-use mathlib.Core.List.{List, _++_}
-use Prim.Native.Nat.{ℕ, _+_}
-use native.Mathlib.Omega.{arith}
-use borrow.Author.Needs.{needs}
-use lib.ListN.{length}
-use lib.Seq.{sets}
+use Rattle.arithmetic.proofs.Kit.{_≡_, sym, ap, ap₂, _∙_, List, _++_, ℕ, _+_, arith, needs, length, sets}
 use Rattle.fields.specs.declared.fields.Value.{Value}
 use Rattle.fields.specs.Fields.{dataSize}
 use Rattle.fields.proofs.Forms.{at-most}
@@ -14,12 +8,6 @@ use Rattle.writer.proofs.Bytes.{sets-append}
 use Rattle.writer.proofs.Fields.{length-field}
 use Rattle.writer.proofs.put_field.Statement.{statement}
 use Rattle.writer.proofs.put_field.Tie as tie
-
-put-number-requires : tie.Need-put-number-requires
-put-number-requires c κs = let a = c .before .before .before .args in omega (arith, length-field (a .tag) (a .value))
-
-put-number-requires-2 : tie.Need-put-number-requires-2
-put-number-requires-2 c κs = let a = c .before .before .before .before .before .before .before .args in omega (arith, length-field (a .tag) (a .value))
 
 put-number-requires-3 : tie.Need-put-number-requires-3
 put-number-requires-3 c κs =
@@ -59,16 +47,6 @@ returns c =
 
 pub put-field-spec : {M : Type 1} → statement M
 put-field-spec =
-    tie.close
-    (tie.spec
-    (λ c κs. search needs)
-    put-number-requires
-    (λ c. search needs)
-    put-number-requires-2
-    (λ c. search needs)
-    (λ c κs. search needs)
-    put-number-requires-3
-    (λ c. search needs)
-    add-result-2
-    (λ c. search needs)
-    returns)
+    tie.close (tie.spec (λ c κs. search needs) (λ c κs. let a = c .before .before .before .args in omega (arith, length-field (a .tag) (a .value)))
+    (λ c. search needs) (λ c κs. let a = c .before .before .before .before .before .before .before .args in omega (arith, length-field (a .tag) (a .value)))
+    (λ c. search needs) (λ c κs. search needs) put-number-requires-3 (λ c. search needs) add-result-2 (λ c. search needs) returns)

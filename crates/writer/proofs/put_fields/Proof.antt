@@ -1,15 +1,9 @@
 -- `writer::put_fields` meets its contract. The loop's invariant: the fields that are left, stored from the position on, make the buffer what all fields of the form
 -- make it. Assumes nothing.
-use mathlib.Core.Path.{_≡_, refl, sym, ap, _∙_}
-use mathlib.Core.List.{List, _++_}
-use Prim.Native.Nat.{ℕ, _+_, _-_, _≤_}
-use native.Mathlib.Omega.{arith}
-use borrow.Author.Needs.{needs}
-use lib.ListN.{length, length-append}
-use lib.Seq.{sets}
-use Rattle.entries.specs.declared.Stored.{Stored}
+use Rattle.arithmetic.proofs.Kit.{_≡_, refl, sym, ap, _∙_, List, _++_, ℕ, _+_, _-_, _≤_, arith, needs, length, length-append, sets}
+use Rattle.record.specs.declared.entries.Stored.{Stored}
 use Rattle.fields.specs.Fields.{meanings}
-use Rattle.entries.specs.Entries.{storedOf}
+use Rattle.record.specs.Entries.{storedOf}
 use Rattle.writer.specs.Records.{storedField, fieldsFrom}
 use Rattle.writer.proofs.Bytes.{sets-append}
 use Rattle.writer.proofs.Fields.{rest, all-fields, next-field, no-field}
@@ -51,15 +45,6 @@ room c =
     let tag = turn .loop .tag in
     omega (arith, turn .loop .inv, ap length (split c), length-append (storedField tag (c .stored-of .result)) (rest (a .first + meanings) (tag + 1) (a .readings)))
 
-put-stored-requires : tie.Need-put-stored-requires Inv-loop μ-loop
-put-stored-requires c κs = omega (arith, room c)
-
-add-tag : tie.Need-add-tag Inv-loop μ-loop
-add-tag c = omega arith
-
-loop-less : tie.Need-loop-less Inv-loop μ-loop
-loop-less c = omega arith
-
 loop-again : tie.Need-loop-again Inv-loop μ-loop
 loop-again c =
     let put = c .before .before in
@@ -85,9 +70,6 @@ loop-again c =
       ),
     )
 
-same-length : tie.Need-same-length Inv-loop μ-loop
-same-length c = c .before .loop .inv .1 .0
-
 returns : tie.Need-returns Inv-loop μ-loop
 returns c =
     let turn = c .before in
@@ -98,18 +80,5 @@ returns c =
 
 pub put-fields-spec : {M : Type 1} → statement M
 put-fields-spec =
-    tie.close
-    (tie.spec
-    Inv-loop
-    μ-loop
-    (λ c. search needs)
-    (λ c. search needs)
-    loop-holds
-    (λ c κs. search needs)
-    (λ c κs. search needs)
-    put-stored-requires
-    add-tag
-    loop-less
-    loop-again
-    same-length
-    returns)
+    tie.close (tie.spec Inv-loop μ-loop (λ c. search needs) (λ c. search needs) loop-holds (λ c κs. search needs) (λ c κs. search needs)
+    (λ c κs. omega (arith, room c)) (λ c. omega arith) (λ c. omega arith) loop-again (λ c. c .before .loop .inv .1 .0) returns)

@@ -1,12 +1,6 @@
 -- `writer::put_number` meets its contract. The loop's invariant: the bytes that are left, stored from the place on, make the buffer what all of them make it.
 -- Assumes nothing.
-use mathlib.Core.Path.{_≡_, refl, ap, _∙_}
-use mathlib.Core.List.{List}
-use Prim.Native.Nat.{ℕ, suc, _+_, _-_, _*_, _/_, _%_, _^_, _≤_}
-use native.Mathlib.Omega.{arith}
-use native.Mathlib.Numerals.{add-one}
-use lib.ListN.{length, set, length-set}
-use lib.Seq.{sets}
+use Rattle.arithmetic.proofs.Kit.{_≡_, refl, ap, _∙_, List, ℕ, suc, _+_, _-_, _*_, _/_, _%_, _^_, _≤_, arith, add-one, length, set, length-set, sets}
 use Rattle.writer.specs.Records.{bytes}
 use Rattle.writer.proofs.Bytes.{shifts}
 use Rattle.writer.proofs.put_number.Statement.{statement}
@@ -22,30 +16,6 @@ abbrev μ-loop : tie.MeasureT-loop
 stored : (out : List ℕ) (place k n : ℕ) → sets (set out place (n / 2 ^ (8 * k) % 256)) (place + 1) (bytes k n) ≡ sets out place (bytes (suc k) n)
 unfolding bytes
 stored out place k n = rw (add-one, shifts)
-
-loop-holds : tie.Need-loop-holds Inv-loop μ-loop
-loop-holds c = (omega arith, (refl, (refl, refl)))
-
-sub-left : tie.Need-sub-left Inv-loop μ-loop
-sub-left c = omega arith
-
-mul-out : tie.Need-mul-out Inv-loop μ-loop
-mul-out c = omega arith
-
-shr-out : tie.Need-shr-out Inv-loop μ-loop
-shr-out c = omega arith
-
-cast-out : tie.Need-cast-out Inv-loop μ-loop
-cast-out c = omega arith
-
-slice-write-out : tie.Need-slice-write-out Inv-loop μ-loop
-slice-write-out c = omega arith
-
-add-place : tie.Need-add-place Inv-loop μ-loop
-add-place c = omega arith
-
-loop-less : tie.Need-loop-less Inv-loop μ-loop
-loop-less c = omega arith
 
 loop-again : tie.Need-loop-again Inv-loop μ-loop
 loop-again c =
@@ -64,9 +34,6 @@ loop-again c =
       ),
     )
 
-same-length : tie.Need-same-length Inv-loop μ-loop
-same-length c = c .before .loop .inv .1 .1 .0
-
 returns : tie.Need-returns Inv-loop μ-loop
 unfolding bytes
 returns c =
@@ -75,4 +42,6 @@ returns c =
     rw none at (turn .inv .1 .1 .1)
 
 pub put-number-spec : {M : Type 1} → statement M
-put-number-spec = tie.close (tie.spec Inv-loop μ-loop loop-holds sub-left mul-out shr-out cast-out slice-write-out add-place loop-less loop-again same-length returns)
+put-number-spec =
+    tie.close (tie.spec Inv-loop μ-loop (λ c. (omega arith, (refl, (refl, refl)))) (λ c. omega arith) (λ c. omega arith) (λ c. omega arith) (λ c. omega arith)
+    (λ c. omega arith) (λ c. omega arith) (λ c. omega arith) loop-again (λ c. c .before .loop .inv .1 .1 .0) returns)

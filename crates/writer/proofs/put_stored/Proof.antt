@@ -1,11 +1,5 @@
 -- `writer::put_stored` meets its contract. Assumes nothing.
-use mathlib.Core.Path.{_≡_, sym, ap, subst, _∙_}
-use mathlib.Core.List.{List, []}
-use Prim.Native.Nat.{ℕ, _+_, _≤_}
-use native.Mathlib.Nat.{add-zero}
-use borrow.Author.Needs.{needs}
-use lib.ListN.{length}
-use lib.Seq.{sets}
+use Rattle.arithmetic.proofs.Kit.{_≡_, sym, ap, subst, _∙_, List, [], ℕ, _+_, _≤_, add-zero, needs, length, sets}
 use Rattle.writer.proofs.Fields.{absent, by-form}
 use Rattle.writer.proofs.put_stored.Statement.{statement}
 use Rattle.writer.proofs.put_stored.Tie as tie
@@ -13,9 +7,6 @@ use Rattle.writer.proofs.put_stored.Tie as tie
 -- nothing is put
 nothing : (out : List ℕ) (at : ℕ) {f : List ℕ} → f ≡ [] → (at ≡ at + length f) × (out ≡ sets out at f)
 nothing out at none = (sym (ap (λ (f : List ℕ). at + length f) none ∙ add-zero at), sym (ap (sets out at) none))
-
-returns : tie.Need-returns
-returns c = let a = c .before .before .before .args in nothing (a .out .now) (a .at) (absent (a .tag) (c .enum-told .given .1))
 
 put-field-requires : tie.Need-put-field-requires
 put-field-requires c κs =
@@ -43,13 +34,6 @@ returns-3 c =
 
 pub put-stored-spec : {M : Type 1} → statement M
 put-stored-spec =
-    tie.close
-    (tie.spec
-    (λ c. search needs)
-    (λ c. search needs)
-    returns
-    (λ c κs. search needs)
-    put-field-requires
-    (λ c. search needs)
-    returns-2
-    returns-3)
+    tie.close (tie.spec (λ c. search needs) (λ c. search needs)
+    (λ c. let a = c .before .before .before .args in nothing (a .out .now) (a .at) (absent (a .tag) (c .enum-told .given .1))) (λ c κs. search needs)
+    put-field-requires (λ c. search needs) returns-2 returns-3)

@@ -1,16 +1,9 @@
 -- `writer::stored_size` meets its contract. Assumes nothing.
-use mathlib.Core.Path.{sym, ap, _∙_}
-use Prim.Native.Nat.{ℕ, _+_}
-use native.Mathlib.Omega.{arith}
-use borrow.Author.Needs.{needs}
-use lib.ListN.{length}
+use Rattle.arithmetic.proofs.Kit.{sym, ap, _∙_, ℕ, _+_, arith, needs, length}
 use Rattle.fields.proofs.Forms.{at-most}
 use Rattle.writer.proofs.Fields.{length-field, by-form}
 use Rattle.writer.proofs.stored_size.Statement.{statement}
 use Rattle.writer.proofs.stored_size.Tie as tie
-
-add-result : tie.Need-add-result
-add-result c = omega (arith, c .data-size .ensures, at-most (c .before .before .before .before .before .before .args .tag))
 
 returns-2 : tie.Need-returns-2
 returns-2 c =
@@ -27,13 +20,5 @@ returns-3 c =
 
 pub stored-size-spec : {M : Type 1} → statement M
 stored-size-spec =
-    tie.close
-    (tie.spec
-    (λ c. search needs)
-    (λ c. search needs)
-    (λ c. search needs)
-    (λ c κs. search needs)
-    (λ c κs. search needs)
-    add-result
-    returns-2
-    returns-3)
+    tie.close (tie.spec (λ c. search needs) (λ c. search needs) (λ c. search needs) (λ c κs. search needs) (λ c κs. search needs)
+    (λ c. omega (arith, c .data-size .ensures, at-most (c .before .before .before .before .before .before .args .tag))) returns-2 returns-3)

@@ -1,26 +1,12 @@
 -- `writer::tag_for` meets its contract, by the value's form. Assumes nothing.
-use mathlib.Core.Path.{sym, ap}
-use borrow.Author.Needs.{needs}
+use Rattle.arithmetic.proofs.Kit.{sym, ap, needs}
 use Rattle.fields.specs.declared.fields.Value.{Value}
 use Rattle.fields.specs.Fields.{tagIn, isCount}
 use Rattle.writer.proofs.tag_for.Statement.{statement}
 use Rattle.writer.proofs.tag_for.Tie as tie
 
-returns : tie.Need-returns
-returns c = ap (λ (v : Value). tagIn (isCount v) (c .before .before .args .meaning)) (sym (c .enum-told .given .1))
-
-returns-2 : tie.Need-returns-2
-returns-2 c = ap (λ (v : Value). tagIn (isCount v) (c .before .before .args .meaning)) (sym (c .enum-told2 .given .1))
-
 pub tag-for-spec : {M : Type 1} → statement M
 tag-for-spec =
-    tie.close
-    (tie.spec
-    (λ c. search needs)
-    (λ c. search needs)
-    (λ c. search needs)
-    (λ c. search needs)
-    (λ c. search needs)
-    (λ c. search needs)
-    returns
-    returns-2)
+    tie.close (tie.spec (λ c. search needs) (λ c. search needs) (λ c. search needs) (λ c. search needs) (λ c. search needs) (λ c. search needs)
+    (λ c. ap (λ (v : Value). tagIn (isCount v) (c .before .before .args .meaning)) (sym (c .enum-told .given .1)))
+    (λ c. ap (λ (v : Value). tagIn (isCount v) (c .before .before .args .meaning)) (sym (c .enum-told2 .given .1))))

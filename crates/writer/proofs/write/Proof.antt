@@ -1,11 +1,5 @@
 -- `writer::write` meets its contract, by whether the record has room. Assumes nothing.
-use mathlib.Core.Path.{_≡_, sym, ap, _∙_}
-use mathlib.Core.List.{List}
-use Prim.Native.Nat.{ℕ, _+_}
-use native.Mathlib.Omega.{arith}
-use borrow.Author.Needs.{needs}
-use lib.ListN.{length, length-append}
-use lib.Seq.{sets}
+use Rattle.arithmetic.proofs.Kit.{_≡_, sym, ap, _∙_, List, ℕ, _+_, arith, needs, length, length-append, sets}
 use Rattle.fields.specs.Fields.{meanings}
 use Rattle.refusal.specs.Outcomes.{accepted}
 use Rattle.writer.specs.Records.{fieldsFrom, recordOf}
@@ -26,9 +20,6 @@ counted c =
     let r = c .before .before .before .args .readings in
     omega (arith, c .before .fields-length .ensures, c .fields-length2 .ensures, length-append (fieldsFrom meanings 1 r) (fieldsFrom meanings 17 r))
 
-returns : tie.Need-returns
-returns c = let a = c .before .before .before .before .args in no-room (recordOf (a .readings)) (a .out .now) (omega (arith, counted (c .before)))
-
 returns-2 : tie.Need-returns-2
 returns-2 c =
     let second = c .before .before in
@@ -47,13 +38,6 @@ returns-2 c =
 
 pub write-spec : {M : Type 1} → statement M
 write-spec =
-    tie.close
-    (tie.spec
-    (λ c κs. search needs)
-    (λ c κs. search needs)
-    add-length
-    returns
-    (λ c κs. search needs)
-    (λ c κs. search needs)
-    (λ c. search needs)
-    returns-2)
+    tie.close (tie.spec (λ c κs. search needs) (λ c κs. search needs) add-length
+    (λ c. let a = c .before .before .before .before .args in no-room (recordOf (a .readings)) (a .out .now) (omega (arith, counted (c .before))))
+    (λ c κs. search needs) (λ c κs. search needs) (λ c. search needs) returns-2)

@@ -1,12 +1,5 @@
 -- `writer::write_field` meets its contract, by whether there is such a meaning and whether its field has room. Assumes nothing.
-use mathlib.Core.Path.{_≡_, sym, ap, subst, _∙_}
-use mathlib.Core.List.{List, []}
-use Prim.Native.Nat.{ℕ, _≤_}
-use native.Mathlib.Nat.{zero-add}
-use native.Mathlib.Omega.{arith}
-use borrow.Author.Needs.{needs}
-use lib.ListN.{length}
-use lib.Seq.{sets}
+use Rattle.arithmetic.proofs.Kit.{_≡_, sym, ap, subst, _∙_, List, [], ℕ, _≤_, zero-add, arith, needs, length, sets}
 use Rattle.refusal.specs.Outcomes.{accepted}
 use Rattle.writer.specs.Records.{fieldWith, fieldFor}
 use Rattle.writer.specs.Written.{lengthWritten, overwritten}
@@ -37,9 +30,6 @@ is-field c =
 fits : (c : tie.After-tag-for) → let a = c .before .before .before .before .before .before .args in length (fieldFor (a .meaning) (a .value)) ≤ length (a .out .now)
 fits c = omega (arith, c .before .before .before .field-size .ensures)
 
-put-field-requires : tie.Need-put-field-requires
-put-field-requires c κs = omega (arith, ap length (is-field c), fits c)
-
 returns-3 : tie.Need-returns-3
 returns-3 c =
     let put = c .before .before in
@@ -49,4 +39,4 @@ returns-3 c =
     (ap accepted (put .put-field .ensures .0 ∙ zero-add _ ∙ ap length (is-field tagged)) ∙ written .0, put .put-field .ensures .1 ∙ ap (sets (a .out .now) 0) (is-field tagged) ∙ written .1)
 
 pub write-field-spec : {M : Type 1} → statement M
-write-field-spec = tie.close (tie.spec returns (λ c κs. search needs) returns-2 (λ c κs. search needs) put-field-requires (λ c. search needs) returns-3)
+write-field-spec = tie.close (tie.spec returns (λ c κs. search needs) returns-2 (λ c κs. search needs) (λ c κs. omega (arith, ap length (is-field c), fits c)) (λ c. search needs) returns-3)

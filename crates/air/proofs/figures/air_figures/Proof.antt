@@ -1,14 +1,12 @@
 -- `air::figures::air_figures` meets its contract. Assumes nothing.
-use mathlib.Core.Path.{ap, _∙_}
-use borrow.Author.Needs.{needs}
-use lib.Ieee.{Float}
+use Rattle.arithmetic.proofs.Kit.{ap, _∙_, needs, Float}
 use Rattle.arithmetic.specs.Decimals.{hundred}
 use Rattle.arithmetic.specs.Operators.{_⊕_, _⊗_}
 use Rattle.arithmetic.specs.Places.{places}
-use Rattle.moist_air.specs.MoistAir.{icePoint}
+use Rattle.humid_air.specs.MoistAir.{icePoint}
 use Rattle.humid_air.specs.Humidity.{moleFractionCelsius}
-use Rattle.air.specs.declared.station.Air.{Air}
-use Rattle.air.specs.declared.station.Conditions.{Conditions}
+use Rattle.air.specs.declared.conditions.Air.{Air}
+use Rattle.air.specs.declared.conditions.Conditions.{Conditions}
 use Rattle.air.specs.Moist.{densityOf}
 use Rattle.air.specs.Station.{airOf, atmosphere}
 use Rattle.air.specs.Matched.{heightOfDensity, densityMatchedAltitude}
@@ -36,12 +34,6 @@ returns c =
 
 pub air-figures-spec : {M : Type 1} → statement M
 air-figures-spec =
-    tie.close
-    (tie.spec
-    (λ c κs. search needs)
-    (λ c κs. search needs)
-    (λ c κs. served _ _ _ (c .saturation-at .ensures))
+    tie.close (tie.spec (λ c κs. search needs) (λ c κs. search needs) (λ c κs. served _ _ _ (c .saturation-at .ensures))
     (λ c κs. (served _ _ _ (c .before .saturation-at .ensures), ap (λ (a : Air). a .«density_kg_m3») (c .air-of .ensures)))
-    (λ c κs. served _ _ _ (c .before .before .saturation-at .ensures))
-    (λ c κs. search needs)
-    returns)
+    (λ c κs. served _ _ _ (c .before .before .saturation-at .ensures)) (λ c κs. search needs) returns)

@@ -1,6 +1,5 @@
 -- `air::matched::density_matched_altitude_m` meets its contract. Assumes nothing.
-use mathlib.Core.Path.{ap, _∙_}
-use borrow.Author.Needs.{needs}
+use Rattle.arithmetic.proofs.Kit.{ap, _∙_, needs}
 use Rattle.arithmetic.specs.Places.{places}
 use Rattle.air.specs.declared.moist.MoistDensity.{MoistDensity}
 use Rattle.air.specs.Station.{atmosphere}

@@ -1,19 +1,15 @@
 -- `air::matched::density_matched_altitude_of` meets its contract, by whether the troposphere's height is kept. Assumes nothing.
-use mathlib.Core.Path.{_≡_, refl, sym, ap, ap₂, _∙_}
-use mathlib.Core.Bool.{Bool, true, false, _||_, cond}
-use mathlib.Core.Logic.{⊎-elim}
-use borrow.Author.Needs.{needs}
-use lib.Ieee.{Float, ofBits, add, sub, mul, div, lt, le, eq, ne, isNan}
+use Rattle.arithmetic.proofs.Kit.{_≡_, refl, sym, ap, ap₂, _∙_, Bool, true, false, _||_, cond, ⊎-elim, needs, Float, ofBits, add, sub, mul, div, lt, le, eq, ne, isNan}
 use Rattle.arithmetic.specs.Decimals.{decimal, one}
 use Rattle.arithmetic.specs.Operators.{_⊖_, _⊗_, _⊘_}
 use Rattle.elementary.specs.Exponents.{lapse}
 use Rattle.elementary.specs.Power.{powerAt}
-use Rattle.moist_air.specs.MoistAir.{moleFraction, compressibilityFactor, airDensityAt}
-use Rattle.doubles.proofs.NotANumber.{ne-self}
+use Rattle.humid_air.specs.MoistAir.{moleFraction, compressibilityFactor, airDensityAt}
+use Rattle.arithmetic.proofs.NotANumber.{ne-self}
 use Rattle.atmosphere.specs.Layers.{layers, baseTemperature}
 use Rattle.air.specs.Moist.{densityOf}
 use Rattle.air.specs.Station.{atmosphere}
-use Rattle.altitudes.specs.Altitudes.{tropopause, heightOfRatio, troposphereHeight}
+use Rattle.atmosphere.specs.Altitudes.{tropopause, heightOfRatio, troposphereHeight}
 use Rattle.air.specs.Matched.{seaLevelDensity, heightOfDensity}
 use Rattle.air.proofs.matched.density_matched_altitude_of.Statement.{statement}
 use Rattle.air.proofs.matched.density_matched_altitude_of.Tie as tie

@@ -1,8 +1,5 @@
 -- `air::moist::is_one` meets its contract. Assumes nothing.
-use mathlib.Core.Path.{_≡_}
-use mathlib.Core.Bool.{true, not, false≢true}
-use lib.Dec.{T}
-use lib.Ieee.{Float, nan, inf, fin, isNan, eq}
+use Rattle.arithmetic.proofs.Kit.{_≡_, true, not, false≢true, T, Float, nan, inf, fin, isNan, eq}
 use Rattle.air.specs.Moist.{isOne}
 use Rattle.air.proofs.moist.is_one.Statement.{statement}
 use Rattle.air.proofs.moist.is_one.Tie as tie
@@ -18,13 +15,5 @@ numbers (fin s m k) nan e = absurd (false≢true e)
 numbers (fin s m k) (inf t) e = (tt, tt)
 numbers (fin s m k) (fin t n d) e = (tt, tt)
 
-returns : tie.Need-returns
-unfolding isOne
-returns c = rw (c .if1 .taken)
-
-returns-2 : tie.Need-returns-2
-unfolding isOne
-returns-2 c = rw (c .if1 .left)
-
 pub is-one-spec : {M : Type 1} → statement M
-is-one-spec = tie.close (tie.spec (λ c. numbers _ _ (c .if1 .taken) .0) (λ c. numbers _ _ (c .if1 .taken) .1) returns returns-2)
+is-one-spec = tie.close (tie.spec (λ c. numbers _ _ (c .if1 .taken) .0) (λ c. numbers _ _ (c .if1 .taken) .1) (λ c. unfold isOne in rw (c .if1 .taken)) (λ c. unfold isOne in rw (c .if1 .left)))

@@ -1,7 +1,5 @@
 -- `air::moist::saturation_pressure` meets its contract. Assumes nothing.
-use mathlib.Core.Path.{ap, sym, _∙_}
-use borrow.Author.Needs.{needs}
-use lib.Ieee.{Float}
+use Rattle.arithmetic.proofs.Kit.{ap, sym, _∙_, needs, Float}
 use Rattle.arithmetic.specs.Places.{places}
 use Rattle.humid_air.specs.Humidity.{neededPressure}
 use Rattle.air.proofs.One.{one-double}

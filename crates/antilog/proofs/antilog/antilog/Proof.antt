@@ -1,10 +1,5 @@
 -- `antilog::antilog::antilog` meets its contract: the digits above the point scale the root of those below it. Assumes nothing.
-use mathlib.Core.Path.{_≡_, refl, sym, ap, ap₂, _∙_}
-use mathlib.Core.Bool.{Bool, cond}
-use Prim.Native.Nat.{ℕ, _+_, _-_, _*_, _/_, _%_, _^_}
-use native.Mathlib.Omega.{arith}
-use borrow.Author.Needs.{needs}
-use lib.IntN.{ℤ, pos, negsuc, _-ℤ_}
+use Rattle.arithmetic.proofs.Kit.{_≡_, refl, sym, ap, ap₂, _∙_, Bool, cond, ℕ, _+_, _-_, _*_, _/_, _%_, _^_, arith, needs, ℤ, pos, negsuc, _-ℤ_}
 use Rattle.arithmetic.specs.Whole.{floorDiv, floorMod}
 use Rattle.arithmetic.specs.Nearest.{nearestScaled}
 use Rattle.antilog.specs.Antilog.{antilogRoot, antilog}
@@ -34,20 +29,8 @@ positive-word whole part =
 of-sign : (a : ℕ) {s b : Bool} → s ≡ b → antilog places (cond b (negsuc a) (pos a)) ≡ antilog places (cond s (negsuc a) (pos a))
 of-sign a e = ap (λ (t : Bool). antilog places (cond t (negsuc a) (pos a))) (sym e)
 
-returns : tie.Need-returns
-returns c = c .scaled-root .ensures ∙ negative-word _ _ ∙ of-sign _ (c .before .if1 .taken)
-
-returns-2 : tie.Need-returns-2
-returns-2 c = c .scaled-root2 .ensures ∙ positive-word _ _ ∙ of-sign _ (c .before .if1 .left)
-
 pub antilog-spec : {M : Type 1} → statement M
 antilog-spec =
-    tie.close
-    (tie.spec
-    (λ c. search needs)
-    (λ c. search needs)
-    (λ c. search needs)
-    (λ c κs. search needs)
-    returns
-    (λ c κs. search needs)
-    returns-2)
+    tie.close (tie.spec (λ c. search needs) (λ c. search needs) (λ c. search needs) (λ c κs. search needs)
+    (λ c. c .scaled-root .ensures ∙ negative-word _ _ ∙ of-sign _ (c .before .if1 .taken)) (λ c κs. search needs)
+    (λ c. c .scaled-root2 .ensures ∙ positive-word _ _ ∙ of-sign _ (c .before .if1 .left)))

@@ -1,13 +1,9 @@
 -- `antilog::antilog::antilog_root` meets its contract. The invariant: y is the root for the bits below the place, and the rest are the bits from there on.
 -- The measure is the number of places that remain. Assumes nothing.
-use mathlib.Core.Path.{_≡_, refl, sym, ap, ap₂, _∙_}
-use Prim.Native.Nat.{ℕ, suc, _+_, _-_, _*_, _/_, _%_, _^_, _≤_, _<_}
-use native.Mathlib.Nat.{div-one, mod-eq-of-lt, mul-div-mul-right, div-add-mod'}
-use native.Mathlib.Numerals.{one-add, add-one}
-use native.Mathlib.Omega.{arith}
-use borrow.Author.Needs.{needs}
-use lib.Pow.{pow-pos, pow-add, shr-shr, field, mod-mod-pow}
-use Rattle.wide.specs.Root.{root}
+use Rattle.arithmetic.proofs.Kit.{_≡_, refl, sym, ap, ap₂, _∙_, ℕ, suc, _+_, _-_, _*_, _/_, _%_, _^_, _≤_, _<_, div-one, mod-eq-of-lt, mul-div-mul-right, div-add-mod', add-one, arith, needs, pow-pos, pow-add}
+use native.Mathlib.Numerals.{one-add}
+use lib.Pow.{shr-shr, field, mod-mod-pow}
+use Rattle.roots.specs.Root.{root}
 use Rattle.antilog.specs.Antilog.{antilogRoot}
 use Rattle.arithmetic.specs.Places.{places}
 use Rattle.antilog.proofs.antilog.antilog_root.Statement.{statement}
@@ -60,19 +56,8 @@ abbrev μ-loop : tie.MeasureT-loop
 
 pub antilog-root-spec : {M : Type 1} → statement M
 antilog-root-spec =
-    tie.close
-    (tie.spec
-    Inv-loop
-    μ-loop
-    (λ c κs. search needs)
-    (λ c κs. search needs)
-    (λ c. record { within = omega arith; bits = sym (div-one _); root-so-far = no-bits _ })
-    (λ c. omega arith)
-    (λ c. omega arith)
-    (λ c. omega arith)
-    (λ c. omega arith)
-    (λ c κs. search needs)
-    (λ c. omega arith)
-    (λ c. omega arith)
+    tie.close (tie.spec Inv-loop μ-loop (λ c κs. search needs) (λ c κs. search needs)
+    (λ c. record { within = omega arith; bits = sym (div-one _); root-so-far = no-bits _ }) (λ c. omega arith) (λ c. omega arith) (λ c. omega arith)
+    (λ c. omega arith) (λ c κs. search needs) (λ c. omega arith) (λ c. omega arith)
     (λ c. turn _ _ _ _ (c .quick-root .result) (c .before .before .before .loop-test .taken) (c .before .before .before .before .loop .inv) (c .quick-root .ensures))
     (λ c. all-bits _ _ _ _ (c .before .before .before .before .pre) (c .loop-test .left) (c .before .loop .inv)))

@@ -1,15 +1,5 @@
 -- `antilog::antilog::scaled` meets its contract: the nearest double of a quotient or of a product, by k's sign and size. Assumes nothing.
-use mathlib.Core.Path.{_≡_, sym, ap, ap₂, _∙_}
-use mathlib.Core.Bool.{Bool, false, cond}
-use Prim.Native.Nat.{ℕ, suc, _-_, _^_, _≤_, _<_}
-use native.Mathlib.Nat.{mul-one}
-use native.Mathlib.Omega.{arith}
-use borrow.Author.Needs.{needs}
-use lib.IntN.{pos, negsuc, _-ℤ_}
-use lib.Dec.{ltb, lt→ltb}
-use lib.Arith.{le→nltb}
-use lib.Ieee.{binary64, round}
-use lib.Ieee.Bits.{is-true, is-false}
+use Rattle.arithmetic.proofs.Kit.{_≡_, sym, ap, ap₂, _∙_, Bool, false, cond, ℕ, suc, _-_, _^_, _≤_, _<_, mul-one, arith, needs, pos, negsuc, _-ℤ_, ltb, lt→ltb, le→nltb, binary64, round, is-true, is-false}
 use Rattle.arithmetic.specs.Nearest.{nearestScaled, nearestRatio}
 use Rattle.antilog.proofs.antilog.scaled.Statement.{statement}
 use Rattle.antilog.proofs.antilog.scaled.Tie as tie
@@ -28,24 +18,9 @@ large-scaled Y k h = ap (λ (t : Bool). nearestScaled Y (cond t (negsuc (62 - su
 of-sign : (Y k : ℕ) {s b : Bool} → s ≡ b → nearestScaled Y (cond b (negsuc k) (pos k) -ℤ pos 62) ≡ nearestScaled Y (cond s (negsuc k) (pos k) -ℤ pos 62)
 of-sign Y k e = ap (λ (t : Bool). nearestScaled Y (cond t (negsuc k) (pos k) -ℤ pos 62)) (sym e)
 
-returns : tie.Need-returns
-returns c = c .nearest-quotient .ensures ∙ quotient-scaled _ _ (omega arith) ∙ of-sign _ _ (c .before .if1 .taken)
-
-returns-2 : tie.Need-returns-2
-returns-2 c = c .nearest-quotient2 .ensures ∙ small-scaled _ _ (c .before .if2 .taken) ∙ of-sign _ _ (c .before .before .if1 .left)
-
-returns-3 : tie.Need-returns-3
-returns-3 c = c .nearest-product .ensures ∙ large-scaled _ _ (c .before .if2 .left) ∙ of-sign _ _ (c .before .before .if1 .left)
-
 pub scaled-spec : {M : Type 1} → statement M
 scaled-spec =
-    tie.close
-    (tie.spec
-    (λ c. search needs)
-    (λ c κs. search needs)
-    returns
-    (λ c. search needs)
-    (λ c κs. search needs)
-    returns-2
-    (λ c κs. search needs)
-    returns-3)
+    tie.close (tie.spec (λ c. search needs) (λ c κs. search needs)
+    (λ c. c .nearest-quotient .ensures ∙ quotient-scaled _ _ (omega arith) ∙ of-sign _ _ (c .before .if1 .taken)) (λ c. search needs) (λ c κs. search needs)
+    (λ c. c .nearest-quotient2 .ensures ∙ small-scaled _ _ (c .before .if2 .taken) ∙ of-sign _ _ (c .before .before .if1 .left)) (λ c κs. search needs)
+    (λ c. c .nearest-product .ensures ∙ large-scaled _ _ (c .before .if2 .left) ∙ of-sign _ _ (c .before .before .if1 .left)))

@@ -1,12 +1,5 @@
 -- `antilog::antilog::scaled_root` meets its contract: the root lies between the two ends, and rounds as they do where they round alike. Assumes nothing.
-use mathlib.Core.Path.{_≡_, sym, ap, _∙_, subst, subst₂}
-use mathlib.Core.Bool.{Bool, true, cond}
-use Prim.Native.Nat.{ℕ, _≤_}
-use native.Mathlib.Omega.{arith}
-use borrow.Author.Needs.{needs}
-use lib.IntN.{ℤ, pos, negsuc, _-ℤ_}
-use lib.Dec.{T}
-use lib.Ieee.{Float, le}
+use Rattle.arithmetic.proofs.Kit.{_≡_, sym, ap, _∙_, subst, subst₂, Bool, true, cond, ℕ, _≤_, arith, needs, ℤ, pos, negsuc, _-ℤ_, T, Float, le}
 use Rattle.arithmetic.specs.Nearest.{nearestScaled}
 use Rattle.arithmetic.specs.Places.{places}
 use Rattle.antilog.specs.Antilog.{antilogRoot}
@@ -43,15 +36,4 @@ returns-2 c =
     c .scaled3 .ensures ∙ ap (λ (y : ℕ). nearestScaled y (exponent (args .negative) (args .whole))) (c .before .antilog-root .ensures)
 
 pub scaled-root-spec : {M : Type 1} → statement M
-scaled-root-spec =
-    tie.close
-    (tie.spec
-    (λ c κs. search needs)
-    sub-scaled
-    (λ c κs. search needs)
-    (λ c. search needs)
-    (λ c κs. search needs)
-    returns
-    (λ c κs. search needs)
-    (λ c κs. search needs)
-    returns-2)
+scaled-root-spec = tie.close (tie.spec (λ c κs. search needs) sub-scaled (λ c κs. search needs) (λ c. search needs) (λ c κs. search needs) returns (λ c κs. search needs) (λ c κs. search needs) returns-2)

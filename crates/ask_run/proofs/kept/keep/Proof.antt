@@ -1,15 +1,10 @@
 -- `ask_run::kept::keep` meets its contract. The loop's invariant: the places passed are filled from the bytes that are kept, and the others are as they were.
 -- Assumes nothing.
-use mathlib.Core.Path.{_≡_, ap, subst, _∙_}
-use mathlib.Core.List.{List, _++_}
-use Prim.Native.Nat.{ℕ, _+_, _-_, _≤_}
-use native.Mathlib.Omega.{arith}
-use lib.ListN.{length, getD, drop}
-use lib.Seq.{getD-append-add, getD-drop}
-use Rattle.questions.specs.Digits.{upTo, Spelled}
-use Rattle.questions.proofs.Filled.{Filled, none, again, spelled, length-upTo}
+use Rattle.arithmetic.proofs.Kit.{_≡_, ap, subst, _∙_, List, _++_, ℕ, _+_, _-_, _≤_, arith, length, getD, drop, getD-drop, needs}
+use lib.Seq.{getD-append-add}
+use Rattle.pages.specs.Pages.{upTo, Holds}
+use Rattle.pages.proofs.Filled.{Filled, none, again, spelled, length-upTo}
 use Rattle.ask_run.specs.Kept.{keptOf}
-use borrow.Author.Needs.{needs}
 use Rattle.ask_run.proofs.kept.keep.Statement.{statement}
 use Rattle.ask_run.proofs.kept.keep.Tie as tie
 
@@ -33,37 +28,19 @@ unmoved e l taken i f =
     ∙ getD-drop i e taken 0
     ∙ ap (λ (k : ℕ). getD e k 0) {x = i + taken} {y = taken + i} (omega arith)
 
-loop-holds : tie.Need-loop-holds Inv-loop μ-loop
-loop-holds c = (omega arith, none)
-
 loop-again : tie.Need-loop-again Inv-loop μ-loop
 loop-again c =
     (omega arith, again (c .before .before .loop .inv .1) (omega (arith, (c .before .before .before .kept-bytes .ensures))) (unmoved (c .before .before .before .before .before .args .buffer .now) (c .before .before .loop .buffer) (c .before .before .before .before .before .args .taken) (c .before .before .loop .i) (c .before .before .loop .inv .1)))
-
-same-length : tie.Need-same-length Inv-loop μ-loop
-same-length c = (c .before .loop .inv .1) .sized
 
 returns : tie.Need-returns Inv-loop μ-loop
 unfolding keptOf
 returns c =
     let a = (c .before .before .before .before .args) in
     let all : (c .before .loop .i) ≡ (c .before .before .kept-bytes .result) = omega arith in
-    subst (λ (n : ℕ). Spelled (upTo (byte (a .buffer .now) (a .taken)) n) (c .before .loop .buffer) (c .before .before .kept-bytes .result)) (c .before .before .kept-bytes .ensures)
-    (subst (λ (n : ℕ). Spelled (upTo (byte (a .buffer .now) (a .taken)) n) (c .before .loop .buffer) n) all (spelled (c .before .loop .inv .1)))
+    subst (λ (n : ℕ). Holds (upTo (byte (a .buffer .now) (a .taken)) n) (c .before .loop .buffer) (c .before .before .kept-bytes .result)) (c .before .before .kept-bytes .ensures)
+    (subst (λ (n : ℕ). Holds (upTo (byte (a .buffer .now) (a .taken)) n) (c .before .loop .buffer) n) all (spelled (c .before .loop .inv .1)))
 
 pub keep-spec : {M : Type 1} → statement M
 keep-spec =
-    tie.close
-    (tie.spec
-    Inv-loop
-    μ-loop
-    (λ c κs. search needs)
-    loop-holds
-    (λ c. search needs)
-    (λ c. search needs)
-    (λ c. search needs)
-    (λ c. search needs)
-    (λ c. search needs)
-    loop-again
-    same-length
-    returns)
+    tie.close (tie.spec Inv-loop μ-loop (λ c κs. search needs) (λ c. (omega arith, none)) (λ c. search needs) (λ c. search needs) (λ c. search needs)
+    (λ c. search needs) (λ c. search needs) loop-again (λ c. (c .before .loop .inv .1) .sized) returns)

@@ -1,9 +1,5 @@
 -- `atmosphere::layers::calculate_icao_standard_atmosphere` meets its contract. Assumes nothing.
-use mathlib.Core.Path.{_≡_, ap, _∙_}
-use native.Mathlib.Omega.{arith}
-use Prim.Native.Nat.{ℕ, _<_}
-use borrow.Author.Needs.{needs}
-use lib.Ieee.{Float}
+use Rattle.arithmetic.proofs.Kit.{_≡_, ap, _∙_, arith, ℕ, _<_, needs, Float}
 use Rattle.arithmetic.specs.Operators.{_⊖_}
 use Rattle.arithmetic.specs.Places.{places}
 use Rattle.atmosphere.specs.Layers.{layers, baseHeight, standardHeight, layerAt, layerTemperature, layerAir, standardAir}
@@ -31,14 +27,5 @@ returns c =
 
 pub calculate-icao-standard-atmosphere-spec : {M : Type 1} → statement M
 calculate-icao-standard-atmosphere-spec =
-    tie.close
-    (tie.spec
-    (λ c κs. search needs)
-    (λ c κs. search needs)
-    (λ c. omega (arith, in-table c))
-    (λ c. in-table c)
-    (λ c. search needs)
-    (λ c. search needs)
-    (λ c. search needs)
-    (λ c κs. in-table (c .before))
-    returns)
+    tie.close (tie.spec (λ c κs. search needs) (λ c κs. search needs) (λ c. omega (arith, in-table c)) (λ c. in-table c) (λ c. search needs) (λ c. search needs)
+    (λ c. search needs) (λ c κs. in-table (c .before)) returns)

@@ -3,22 +3,6 @@ use Rattle.atmosphere.specs.Layers.{layerAt}
 use Rattle.atmosphere.proofs.layers.layer_number.Statement.{statement}
 use Rattle.atmosphere.proofs.layers.layer_number.Tie as tie
 
-returns : tie.Need-returns
-unfolding layerAt
-returns c = simp (c .if1 .taken)
-
-returns-2 : tie.Need-returns-2
-unfolding layerAt
-returns-2 c = simp (c .before .if1 .left, c .if2 .taken)
-
-returns-3 : tie.Need-returns-3
-unfolding layerAt
-returns-3 c = simp (c .before .before .if1 .left, c .before .if2 .left, c .if3 .taken)
-
-returns-4 : tie.Need-returns-4
-unfolding layerAt
-returns-4 c = simp (c .before .before .before .if1 .left, c .before .before .if2 .left, c .before .if3 .left, c .if4 .taken)
-
 returns-5 : tie.Need-returns-5
 unfolding layerAt
 returns-5 c = simp (c .before .before .before .before .if1 .left, c .before .before .before .if2 .left, c .before .before .if3 .left, c .before .if4 .left, c .if5 .taken)
@@ -36,4 +20,8 @@ unfolding layerAt
 returns-8 c = simp (c .before .before .before .before .before .before .if1 .left, c .before .before .before .before .before .if2 .left, c .before .before .before .before .if3 .left, c .before .before .before .if4 .left, c .before .before .if5 .left, c .before .if6 .left, c .if7 .left)
 
 pub layer-number-spec : {M : Type 1} → statement M
-layer-number-spec = tie.close (tie.spec returns returns-2 returns-3 returns-4 returns-5 returns-6 returns-7 returns-8)
+layer-number-spec =
+    tie.close (tie.spec (λ c. unfold layerAt in simp (c .if1 .taken)) (λ c. unfold layerAt in simp (c .before .if1 .left, c .if2 .taken))
+    (λ c. unfold layerAt in simp (c .before .before .if1 .left, c .before .if2 .left, c .if3 .taken))
+    (λ c. unfold layerAt in simp (c .before .before .before .if1 .left, c .before .before .if2 .left, c .before .if3 .left, c .if4 .taken)) returns-5 returns-6
+    returns-7 returns-8)

@@ -1,16 +1,9 @@
 -- `atmosphere::layers::layer_pressure` meets its contract. Assumes nothing.
-use mathlib.Core.Path.{_≡_, refl, sym, ap, _∙_}
-use mathlib.Core.Bool.{Bool, true, false, cond, true≢false}
-use mathlib.Core.List.{List, [], _∷_}
-use Prim.Native.Nat.{ℕ, zero, suc, _<_}
-use native.Mathlib.Omega.{arith}
-use borrow.Author.Needs.{needs}
-use lib.ListN.{getD}
-use lib.Ieee.{Float, ofBits, lt}
+use Rattle.arithmetic.proofs.Kit.{_≡_, refl, sym, ap, _∙_, Bool, true, false, cond, true≢false, List, [], _∷_, ℕ, zero, suc, _<_, arith, needs, getD, Float, ofBits, lt}
 use Rattle.arithmetic.specs.Operators.{_⊗_}
 use Rattle.elementary.specs.Exponents.{ofDouble, pressureExponent}
 use Rattle.elementary.specs.Power.{power, powerAt}
-use Rattle.doubles.specs.Doubles.{absDouble}
+use Rattle.arithmetic.specs.Doubles.{absDouble}
 use Rattle.atmosphere.specs.Layers.{layers, basePressure, gradient, negligible, isothermal, isothermalPressure, gradientPressure, layerPressure}
 use Rattle.atmosphere.proofs.layers.layer_pressure.Statement.{statement}
 use Rattle.atmosphere.proofs.layers.layer_pressure.Tie as tie
@@ -55,19 +48,5 @@ returns-2 c =
 
 pub layer-pressure-spec : {M : Type 1} → statement M
 layer-pressure-spec =
-    tie.close
-    (tie.spec
-    (λ c. search needs)
-    (λ c. search needs)
-    (λ c. search needs)
-    (λ c κs. search needs)
-    (λ c. search needs)
-    (λ c. search needs)
-    (λ c κs. search needs)
-    returns
-    (λ c. search needs)
-    (λ c. search needs)
-    (λ c. search needs)
-    (λ c. search needs)
-    (λ c κs. search needs)
-    returns-2)
+    tie.close (tie.spec (λ c. search needs) (λ c. search needs) (λ c. search needs) (λ c κs. search needs) (λ c. search needs) (λ c. search needs)
+    (λ c κs. search needs) returns (λ c. search needs) (λ c. search needs) (λ c. search needs) (λ c. search needs) (λ c κs. search needs) returns-2)

@@ -1,12 +1,7 @@
 -- `decimals::count::nearest_count` meets its contract: its words are the halves of `Halves`. Assumes nothing.
-use mathlib.Core.Path.{_≡_, ap, _∙_}
-use Prim.Native.Nat.{ℕ, _+_, _-_, _*_, _/_, _%_, _^_, _≤_, _<_}
-use native.Mathlib.Omega.{arith}
-use borrow.Author.Needs.{needs}
-use lib.Dec.{lit≤}
-use lib.Pow.{shl-exact}
-use Rattle.wide.specs.declared.words.Wide.{Wide}
-use Rattle.wide.specs.Value.{value}
+use Rattle.arithmetic.proofs.Kit.{_≡_, ap, _∙_, ℕ, _+_, _-_, _*_, _/_, _%_, _^_, _≤_, _<_, arith, needs, lit≤, shl-exact}
+use Rattle.arithmetic.specs.declared.wide.Wide.{Wide}
+use Rattle.arithmetic.specs.Value.{value}
 use Rattle.decimals.proofs.Halves.{halves, moved-halves, small, great, great-exponent}
 use Rattle.decimals.proofs.count.nearest_count.Statement.{statement}
 use Rattle.decimals.proofs.count.nearest_count.Tie as tie
@@ -48,9 +43,6 @@ low-is c none = low-word (c .shifted-right .result) _ (words-are c) none
 lo-fits : (c : tie.After-struct-known3) → c .before .before .before .before .shifted-right .result .lo < 2 ^ 64
 lo-fits c = c .struct-known3 .given .1 .0 .fits
 
-add-result : tie.Need-add-result
-add-result c = record { fits = half-fits _ (lo-fits c) }
-
 returns-3 : tie.Need-returns-3
 returns-3 c =
     let shifted = c .before .before .before .before in
@@ -58,6 +50,4 @@ returns-3 c =
     small (a .q * 2 ^ a .k) (a .s) (shifted .shifted-right .result .lo) (low-is shifted (c .before .before .if2 .left)) (lo-fits c)
 
 pub nearest-count-spec : {M : Type 1} → statement M
-nearest-count-spec =
-    tie.close
-    (tie.spec returns (λ c κs. search needs) (λ c κs. search needs) returns-2 add-result returns-3)
+nearest-count-spec = tie.close (tie.spec returns (λ c κs. search needs) (λ c κs. search needs) returns-2 (λ c. record { fits = half-fits _ (lo-fits c) }) returns-3)

@@ -1,10 +1,6 @@
 -- `density_altitude::inverse::check_temperature` meets its contract. Assumes nothing.
-use mathlib.Core.Path.{ap, _∙_}
-use mathlib.Core.Bool.{Bool, not}
-use mathlib.Core.List.{[], _∷_}
-use borrow.Author.Needs.{needs}
-use lib.Ieee.{le}
-use Rattle.doubles.specs.Doubles.{isFinite}
+use Rattle.arithmetic.proofs.Kit.{ap, _∙_, Bool, not, [], _∷_, needs, le}
+use Rattle.arithmetic.specs.Doubles.{isFinite}
 use Rattle.density_altitude.specs.Inverse.{absoluteZero}
 use Rattle.refusal.specs.Outcomes.{row, passed}
 use Rattle.refusal.proofs.Rows.{first-passed}

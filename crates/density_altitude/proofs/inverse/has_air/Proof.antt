@@ -1,10 +1,10 @@
 -- `density_altitude::inverse::has_air` meets its contract: the first test that fails decides. Assumes nothing.
-use mathlib.Core.Path.{_≡_, sym, ap, ap₂, _∙_}
-use mathlib.Core.Bool.{Bool, not, _&&_, Bool·not-not}
-use borrow.Author.Needs.{needs}
+use Rattle.arithmetic.proofs.Kit.{_≡_, sym, ap, ap₂, _∙_, Bool, not, _&&_, needs}
+use mathlib.Core.Bool.{Bool·not-not}
+use Rattle.arithmetic.specs.Doubles.{isFiniteAbove}
 use Rattle.arithmetic.specs.Decimals.{nought}
-use Rattle.answered.specs.declared.inverse.Station.{Station}
-use Rattle.density_altitude.specs.Inverse.{isFiniteAbove, absoluteZero}
+use Rattle.refusal.specs.declared.inverse.Station.{Station}
+use Rattle.density_altitude.specs.Inverse.{absoluteZero}
 use Rattle.density_altitude.proofs.inverse.has_air.Statement.{statement}
 use Rattle.density_altitude.proofs.inverse.has_air.Tie as tie
 

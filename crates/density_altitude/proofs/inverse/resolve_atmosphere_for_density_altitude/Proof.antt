@@ -1,7 +1,5 @@
 -- `density_altitude::inverse::resolve_atmosphere_for_density_altitude` meets its contract, by whether a temperature is given. Assumes nothing.
-use mathlib.Core.Path.{sym, ap, _∙_}
-use borrow.Author.Needs.{needs}
-use lib.Ieee.{ofBits, add, mul, div}
+use Rattle.arithmetic.proofs.Kit.{sym, ap, _∙_, needs, ofBits, add, mul, div}
 use Rattle.density_altitude.specs.Inverse.{resolve}
 use Rattle.density_altitude.proofs.inverse.resolve_atmosphere_for_density_altitude.Statement.{statement}
 use Rattle.density_altitude.proofs.inverse.resolve_atmosphere_for_density_altitude.Tie as tie
@@ -16,5 +14,4 @@ unfolding ofBits add mul div
 returns-2 c = c .station-at2 .ensures ∙ ap (resolve places (c .before .before .before .args .density-altitude-m)) (sym (c .before .enum-told .given .1))
 
 pub resolve-atmosphere-for-density-altitude-spec : {M : Type 1} → statement M
-resolve-atmosphere-for-density-altitude-spec =
-    tie.close (tie.spec (λ c. search needs) (λ c κs. search needs) (λ c. search needs) (λ c κs. search needs) returns returns-2)
+resolve-atmosphere-for-density-altitude-spec = tie.close (tie.spec (λ c. search needs) (λ c κs. search needs) (λ c. search needs) (λ c κs. search needs) returns returns-2)

@@ -1,11 +1,9 @@
 -- `density_altitude::inverse::station_at` meets its contract: its exponent is number 12 of elementary's table. Assumes nothing.
-use mathlib.Core.Path.{ap}
-use borrow.Author.Needs.{needs}
-use lib.Ieee.{Float, ofBits, div}
+use Rattle.arithmetic.proofs.Kit.{ap, needs, Float, ofBits, div}
 use Rattle.arithmetic.specs.Operators.{_⊗_}
 use Rattle.elementary.specs.Power.{powerAt}
 use Rattle.atmosphere.specs.Station.{standardPressure}
-use Rattle.altitudes.specs.Altitudes.{foot}
+use Rattle.atmosphere.specs.Altitudes.{foot}
 use Rattle.density_altitude.proofs.inverse.station_at.Statement.{statement}
 use Rattle.density_altitude.proofs.inverse.station_at.Tie as tie
 

@@ -1,13 +1,5 @@
 -- `elementary::exp::exp` meets its contract, kind by kind of a double; what lies within its bounds is below 2^11 in size. Assumes nothing.
-use mathlib.Core.Path.{_≡_, refl, sym, ap, ap₂, _∙_, subst}
-use mathlib.Core.Bool.{Bool, true, false, cond, true≢false}
-use Prim.Native.Nat.{ℕ, suc, _*_, _^_, _≤_, _<_}
-use native.Mathlib.Nat.{le-trans, le-of-eq, lt-of-lt-of-le, lt-of-not-le}
-use borrow.Author.Needs.{needs}
-use lib.IntN.{ℤ, pos, _*ℤ_}
-use lib.Dec.{T, lit<, lit≤}
-use lib.Ieee.{Float, nan, inf, fin, binary64, ofBits, neg, odd, fits, le, isNan}
-use lib.Ieee.Bits.{is-true}
+use Rattle.arithmetic.proofs.Kit.{_≡_, refl, sym, ap, ap₂, _∙_, subst, Bool, true, false, cond, true≢false, ℕ, suc, _*_, _^_, _<_, le-trans, le-of-eq, lt-of-lt-of-le, lt-of-not-le, needs, ℤ, pos, _*ℤ_, T, lit<, lit≤, Float, nan, inf, fin, binary64, ofBits, neg, odd, fits, le, isNan, is-true}
 use Rattle.arithmetic.specs.declared.double.Parts.the-variants.{Finite}
 use Rattle.arithmetic.specs.declared.word.Word.{Word}
 use Rattle.arithmetic.specs.Whole.{signed, floorDiv, wordValue}
@@ -84,9 +76,6 @@ floor-word-requires c κs =
 abbrev floored : tie.After-floor-word → ℤ
 floored c = let a = c .before .before .before .before .negative2 .given .0 in floorDiv (signed (a .0) (a .1 .0 * 2 ^ (a .1 .1 .0) * 2 ^ places)) (2 ^ 1074)
 
-times-requires : tie.Need-times-requires
-times-requires c κs = (lt-of-lt-of-le (c .floor-word .ensures .1) (lit≤ tt), word-short places (floored c) (c .floor-word .ensures .0), lit< tt, lit≤ tt, lit≤ tt)
-
 returns : tie.Need-returns
 returns c =
     let at = c .before .before .before in
@@ -97,15 +86,8 @@ returns-2 c =
     let at = c .before .before .before .before in
     c .infinity-or-zero3 .ensures ∙ at-bottom (told (at .before .before .take-apart .ensures .1) (at .negative2 .given .1)) (c .before .before .if1 .left) (c .before .if2 .taken)
 
-returns-3 : tie.Need-returns-3
-unfolding exp
-returns-3 c = let e = told (c .before .before .take-apart .ensures .1) (c .enum-told .given .1) .same in sym e ∙ ap (exp places) e
-
 returns-4 : tie.Need-returns-4
 returns-4 c = let at = c .before .before in c .infinity-or-zero .ensures ∙ exp-infinite _ ∙ ap (exp places) (told (at .before .before .take-apart .ensures .1) (at .negative .given .1) .same)
-
-returns-5 : tie.Need-returns-5
-returns-5 c = exp-zero _ ∙ ap (exp places) (told (c .before .before .take-apart .ensures .1) (c .enum-told2 .given .1) .same)
 
 returns-6 : tie.Need-returns-6
 returns-6 c =
@@ -119,22 +101,9 @@ returns-6 c =
 
 pub exp-spec : {M : Type 1} → statement M
 exp-spec =
-    tie.close
-    (tie.spec
+    tie.close (tie.spec (λ c κs. search needs) (λ c. search needs) (λ c. search needs) (λ c κs. search needs) (λ c. search needs) (λ c. search needs)
+    (λ c κs. search needs) returns (λ c κs. search needs) returns-2 floor-word-requires
+    (λ c κs. (lt-of-lt-of-le (c .floor-word .ensures .1) (lit≤ tt), word-short places (floored c) (c .floor-word .ensures .0), lit< tt, lit≤ tt, lit≤ tt))
     (λ c κs. search needs)
-    (λ c. search needs)
-    (λ c. search needs)
-    (λ c κs. search needs)
-    (λ c. search needs)
-    (λ c. search needs)
-    (λ c κs. search needs)
-    returns
-    (λ c κs. search needs)
-    returns-2
-    floor-word-requires
-    times-requires
-    (λ c κs. search needs)
-    returns-3
-    returns-4
-    returns-5
-    returns-6)
+    (λ c. unfold exp in let e = told (c .before .before .take-apart .ensures .1) (c .enum-told .given .1) .same in sym e ∙ ap (exp places) e) returns-4
+    (λ c. exp-zero _ ∙ ap (exp places) (told (c .before .before .take-apart .ensures .1) (c .enum-told2 .given .1) .same)) returns-6)

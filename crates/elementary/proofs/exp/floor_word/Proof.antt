@@ -1,21 +1,14 @@
 -- `elementary::exp::floor_word` meets its contract: the shifted words hold floor(x * 2^places), or for a negative x what -(a + 1) leaves of it (`Floor`).
 -- Assumes nothing.
-use mathlib.Core.Path.{_≡_, refl, sym, ap, _∙_, subst}
-use mathlib.Core.Bool.{Bool, true, false}
-use mathlib.Core.Logic.{⊎-elim}
-use Prim.Native.Nat.{ℕ, _+_, _-_, _*_, _/_, _%_, _^_, _<_}
-use native.Mathlib.Nat.{le-refl, le-of-eq, lt-of-le-of-lt, lt-of-lt-of-le, sub-le, add-zero}
-use native.Mathlib.Omega.{arith}
-use borrow.Author.Needs.{needs}
-use lib.Dec.{lit≤}
-use lib.IntN.{ℤ}
-use Rattle.wide.specs.declared.words.Wide.{Wide}
-use Rattle.wide.specs.Value.{value}
+use Rattle.arithmetic.proofs.Kit.{_≡_, refl, sym, ap, _∙_, subst, Bool, true, false, ⊎-elim, ℕ, _+_, _-_, _*_, _/_, _%_, _^_, _<_, le-refl, le-of-eq, lt-of-le-of-lt, lt-of-lt-of-le, add-zero, arith, needs, lit≤, ℤ}
+use native.Mathlib.Nat.{sub-le}
+use Rattle.arithmetic.specs.declared.wide.Wide.{Wide}
+use Rattle.arithmetic.specs.Value.{value}
 use Rattle.arithmetic.specs.declared.word.Word.{Word}
 use Rattle.arithmetic.specs.Whole.{signed, floorDiv, asWord}
 use Rattle.arithmetic.specs.Parts.{Digits}
 use Rattle.arithmetic.specs.Places.{places}
-use Rattle.rounding.proofs.Carried.{low-word, low-remainder}
+use Rattle.arithmetic.proofs.Carried.{low-word, low-remainder}
 use Rattle.arithmetic.proofs.Times.{same-word}
 use Rattle.arithmetic.proofs.Floor.{moved-by, floor-is, floor-below, opposite-is, quotient-lt, one-less}
 use Rattle.elementary.proofs.exp.floor_word.Statement.{statement}
@@ -60,13 +53,6 @@ made c =
 
 pub floor-word-spec : {M : Type 1} → statement M
 floor-word-spec =
-    tie.close
-    (tie.spec
-    (λ c. search needs)
-    (λ c. moved-by places _ _ (lit≤ tt) (c .before .pre .0) (c .before .pre .1))
-    (λ c κs. search needs)
-    (λ c. moved-by places _ _ (lit≤ tt) (c .before .pre .0) (c .before .pre .1))
-    (λ c κs. search needs)
-    (λ c κs. search needs)
-    (λ c. omega (arith, made (c .before) .1))
-    (λ c. made (c .before .before)))
+    tie.close (tie.spec (λ c. search needs) (λ c. moved-by places _ _ (lit≤ tt) (c .before .pre .0) (c .before .pre .1)) (λ c κs. search needs)
+    (λ c. moved-by places _ _ (lit≤ tt) (c .before .pre .0) (c .before .pre .1)) (λ c κs. search needs) (λ c κs. search needs)
+    (λ c. omega (arith, made (c .before) .1)) (λ c. made (c .before .before)))

@@ -1,9 +1,5 @@
 -- `elementary::ln::ln` meets its contract, kind by kind of a double. Assumes nothing.
-use mathlib.Core.Path.{_≡_, sym, ap, _∙_}
-use mathlib.Core.Bool.{Bool, true, false}
-use Prim.Native.Nat.{ℕ}
-use borrow.Author.Needs.{needs}
-use lib.Ieee.{Float, nan, inf, ofBits, nanBits, div, odd}
+use Rattle.arithmetic.proofs.Kit.{_≡_, sym, ap, _∙_, Bool, true, false, ℕ, needs, Float, nan, inf, ofBits, nanBits, div, odd}
 use Rattle.arithmetic.specs.declared.double.Parts.the-variants.{Infinite, Finite}
 use Rattle.arithmetic.specs.Parts.{TakenApart}
 use Rattle.elementary.specs.Ln.{lnPositive, ln}
@@ -25,10 +21,6 @@ finite-ln {x} {s} {q} {k} apart e =
     let f = finite-of-parts false q k (apart .within .positive) .2 in
     ap (lnPositive places) f ∙ ap (ln places) (sym f ∙ signed-parts apart e)
 
-returns : tie.Need-returns
-unfolding ln
-returns c = let e = told (c .before .before .take-apart .ensures .1) (c .enum-told .given .1) .same in sym e ∙ ap (ln places) e
-
 returns-2 : tie.Need-returns-2
 unfolding ln div ofBits
 returns-2 c = let at = c .before .before in ap (ln places) (infinite-ln (told (at .before .before .take-apart .ensures .1) (at .negative .given .1)) (c .if1 .taken))
@@ -36,10 +28,6 @@ returns-2 c = let at = c .before .before in ap (ln places) (infinite-ln (told (a
 returns-3 : tie.Need-returns-3
 unfolding ln
 returns-3 c = let at = c .before .before in let e = infinite-ln (told (at .before .before .take-apart .ensures .1) (at .negative .given .1)) (c .if1 .left) in sym e ∙ ap (ln places) e
-
-returns-4 : tie.Need-returns-4
-unfolding ln ofBits
-returns-4 c = ap (ln places) (told (c .before .before .take-apart .ensures .1) (c .enum-told2 .given .1) .same)
 
 returns-5 : tie.Need-returns-5
 unfolding div ofBits
@@ -52,18 +40,7 @@ returns-6 c =
 
 pub ln-spec : {M : Type 1} → statement M
 ln-spec =
-    tie.close
-    (tie.spec
-    (λ c κs. search needs)
-    (λ c. search needs)
-    (λ c. search needs)
-    (λ c. search needs)
-    (λ c. unfold nanBits in tt)
-    (λ c. search needs)
+    tie.close (tie.spec (λ c κs. search needs) (λ c. search needs) (λ c. search needs) (λ c. search needs) (λ c. unfold nanBits in tt) (λ c. search needs)
     (λ c κs. told (c .before .before .before .before .take-apart .ensures .1) (c .before .before .negative2 .given .1) .within)
-    returns
-    returns-2
-    returns-3
-    returns-4
-    returns-5
-    returns-6)
+    (λ c. unfold ln in let e = told (c .before .before .take-apart .ensures .1) (c .enum-told .given .1) .same in sym e ∙ ap (ln places) e) returns-2 returns-3
+    (λ c. unfold ln ofBits in ap (ln places) (told (c .before .before .take-apart .ensures .1) (c .enum-told2 .given .1) .same)) returns-5 returns-6)

@@ -1,11 +1,5 @@
 -- `elementary::ln::positive_ln` meets its contract. Assumes nothing.
-use mathlib.Core.Path.{sym, ap, _∙_, subst}
-use mathlib.Core.Bool.{false}
-use Prim.Native.Nat.{_*_, _^_, _<_}
-use native.Mathlib.Nat.{lt-of-lt-of-le}
-use borrow.Author.Needs.{needs}
-use lib.Dec.{lit<, lit≤}
-use lib.IntN.{ℤ, pos, _*ℤ_}
+use Rattle.arithmetic.proofs.Kit.{sym, ap, _∙_, subst, false, _*_, _^_, _<_, lt-of-lt-of-le, needs, lit<, lit≤, ℤ, pos, _*ℤ_}
 use Rattle.arithmetic.specs.declared.word.Word.{Word}
 use Rattle.arithmetic.specs.Whole.{floorDiv, wordValue}
 use Rattle.arithmetic.specs.Nearest.{nearestRatio}

@@ -1,18 +1,15 @@
 -- `elementary::log::log_bits` meets its contract. The invariant: the bits so far, followed by those of the mantissa's remaining places, are the bits of
 -- m, and the mantissa is one. The measure is the number of places that remain. Assumes nothing.
-use mathlib.Core.Path.{_≡_, refl, sym, ap, _∙_, subst}
-use Prim.Native.Nat.{ℕ, zero, suc, _+_, _-_, _*_, _/_, _^_, _≤_, _<_}
-use native.Mathlib.Nat.{le-refl, le-trans, le-of-eq, zero-add, add-zero, mul-one, add-mul, add-assoc, mul-assoc, mul-le-mul-right, div-one, le-mul-of-pos-right, pow-succ', not-suc-le-zero}
-use native.Mathlib.Omega.{arith}
-use lib.Pow.{pow-pos}
-use Rattle.antilog.specs.Log.{squared, bitOf, nextOf, logBits}
+use Rattle.arithmetic.proofs.Kit.{_≡_, refl, sym, ap, _∙_, subst, ℕ, zero, suc, _+_, _-_, _*_, _/_, _^_, _≤_, _<_, le-refl, le-trans, le-of-eq, zero-add, add-zero, mul-one, add-mul, add-assoc, mul-assoc, mul-le-mul-right, div-one, pow-succ', not-suc-le-zero, arith, pow-pos}
+use native.Mathlib.Nat.{le-mul-of-pos-right}
+use Rattle.antilog.specs.Log.{squared, bitOf, normalised, logBits}
 use Rattle.arithmetic.specs.Places.{places}
 use Rattle.antilog.proofs.Range.{Mantissa, bit-cases, bit-le, squared-lt, next-mantissa}
 use Rattle.elementary.proofs.log.log_bits.Statement.{statement}
 use Rattle.elementary.proofs.log.log_bits.Tie as tie
 
 -- a square below 2^64 has its bit as its highest digit, and moves down by as many places
-highest-digit : (Q : ℕ) → Q < 2 ^ 64 → (Q / 2 ^ 63 ≡ bitOf Q) × (Q / 2 ^ (Q / 2 ^ 63) ≡ nextOf Q)
+highest-digit : (Q : ℕ) → Q < 2 ^ 64 → (Q / 2 ^ 63 ≡ bitOf Q) × (Q / 2 ^ (Q / 2 ^ 63) ≡ normalised Q)
 highest-digit Q h =
     bit-cases (λ t N. (Q / 2 ^ 63 ≡ t) × (Q / 2 ^ (Q / 2 ^ 63) ≡ N)) Q
     (λ off. let e : Q / 2 ^ 63 ≡ 0 = omega arith in (e, ap (λ (x : ℕ). Q / 2 ^ x) e ∙ div-one Q))
@@ -29,14 +26,14 @@ few m mantissa bits left found = let h : bits + 1 ≤ 2 ^ places = le-trans (le-
 double : (b t x : ℕ) → (b * 2 + t) * x ≡ b * (2 * x) + t * x
 double b t x = add-mul (b * 2) t x ∙ ap (λ (y : ℕ). y + t * x) (mul-assoc b 2 x)
 
-one-place : (m mantissa bits left : ℕ) → Found m mantissa bits (suc left) → let Q = squared mantissa in Found m (nextOf Q) (bits * 2 + bitOf Q) left
+one-place : (m mantissa bits left : ℕ) → Found m mantissa bits (suc left) → let Q = squared mantissa in Found m (normalised Q) (bits * 2 + bitOf Q) left
 unfolding logBits
 one-place m mantissa bits left found =
     let Q = squared mantissa in
     record {
       is-mantissa = next-mantissa (found .is-mantissa);
       short = le-trans (mul-le-mul-right (2 ^ left) (omega (arith, bit-le Q))) (le-trans (le-of-eq (mul-assoc (bits + 1) 2 (2 ^ left) ∙ ap (λ (x : ℕ). (bits + 1) * x) (sym (pow-succ' 2 left)))) (found .short));
-      followed = ap (λ (x : ℕ). x + logBits left (nextOf Q)) (double bits (bitOf Q) (2 ^ left) ∙ ap (λ (x : ℕ). bits * x + bitOf Q * 2 ^ left) (sym (pow-succ' 2 left))) ∙ add-assoc (bits * 2 ^ suc left) (bitOf Q * 2 ^ left) (logBits left (nextOf Q)) ∙ found .followed;
+      followed = ap (λ (x : ℕ). x + logBits left (normalised Q)) (double bits (bitOf Q) (2 ^ left) ∙ ap (λ (x : ℕ). bits * x + bitOf Q * 2 ^ left) (sym (pow-succ' 2 left))) ∙ add-assoc (bits * 2 ^ suc left) (bitOf Q * 2 ^ left) (logBits left (normalised Q)) ∙ found .followed;
     }
 
 -- the same of what the loop's body computes
@@ -61,45 +58,11 @@ Inv-loop m mantissa₀ bits₀ left₀ mantissa bits left = Found m mantissa bit
 abbrev μ-loop : tie.MeasureT-loop
 μ-loop m mantissa₀ bits₀ left₀ mantissa bits left = left
 
-loop-holds : tie.Need-loop-holds Inv-loop μ-loop
-loop-holds c = record { is-mantissa = record { low = c .pre .0; high = c .pre .1 }; short = le-refl (2 ^ places); followed = zero-add (logBits places (c .args .m)) }
-
-squared-requires : tie.Need-squared-requires Inv-loop μ-loop
-squared-requires c κs = c .before .loop .inv .is-mantissa .high
-
-shr-mantissa : tie.Need-shr-mantissa Inv-loop μ-loop
-shr-mantissa c = omega arith
-
-mul-bits : tie.Need-mul-bits Inv-loop μ-loop
-mul-bits c = omega (arith, few _ _ _ _ (c .before .before .loop .inv))
-
-add-bits : tie.Need-add-bits Inv-loop μ-loop
-add-bits c = omega (arith, few _ _ _ _ (c .before .before .loop .inv))
-
-sub-left : tie.Need-sub-left Inv-loop μ-loop
-sub-left c = omega arith
-
-loop-less : tie.Need-loop-less Inv-loop μ-loop
-loop-less c = omega arith
-
-loop-again : tie.Need-loop-again Inv-loop μ-loop
-loop-again c = turn _ _ _ _ (c .squared .result) (c .before .loop-test .taken) (c .squared .ensures) (c .before .before .loop .inv)
-
-returns : tie.Need-returns Inv-loop μ-loop
-returns c = all-places _ _ _ _ (c .loop-test .left) (c .before .loop .inv)
-
 pub log-bits-spec : {M : Type 1} → statement M
 log-bits-spec =
-    tie.close
-    (tie.spec
-    Inv-loop
-    μ-loop
-    loop-holds
-    squared-requires
-    shr-mantissa
-    mul-bits
-    add-bits
-    sub-left
-    loop-less
-    loop-again
-    returns)
+    tie.close (tie.spec Inv-loop μ-loop
+    (λ c. record { is-mantissa = record { low = c .pre .0; high = c .pre .1 }; short = le-refl (2 ^ places); followed = zero-add (logBits places (c .args .m)) })
+    (λ c κs. c .before .loop .inv .is-mantissa .high) (λ c. omega arith) (λ c. omega (arith, few _ _ _ _ (c .before .before .loop .inv)))
+    (λ c. omega (arith, few _ _ _ _ (c .before .before .loop .inv))) (λ c. omega arith) (λ c. omega arith)
+    (λ c. turn _ _ _ _ (c .squared .result) (c .before .loop-test .taken) (c .squared .ensures) (c .before .before .loop .inv))
+    (λ c. all-places _ _ _ _ (c .loop-test .left) (c .before .loop .inv)))

@@ -1,11 +1,6 @@
 -- `elementary::log::log_of_digits` meets its contract: the significand moved up is the mantissa, and the place of its highest digit the exponent.
 -- Assumes nothing.
-use mathlib.Core.Path.{_≡_, refl, sym, ap, _∙_, subst}
-use Prim.Native.Nat.{ℕ, _*_, _^_, _≤_, _<_}
-use native.Mathlib.Omega.{arith}
-use borrow.Author.Needs.{needs}
-use lib.Count.{leadingZeros}
-use mathlib.Core.Bool.{true, false}
+use Rattle.arithmetic.proofs.Kit.{_≡_, refl, sym, ap, _∙_, subst, ℕ, _*_, _^_, _≤_, _<_, arith, needs, leadingZeros, true, false}
 use Rattle.antilog.specs.Log.{logBits, mantissaOf}
 use Rattle.arithmetic.specs.Places.{places}
 use Rattle.antilog.proofs.Range.{logBits-lt}
@@ -17,29 +12,11 @@ use Rattle.elementary.proofs.log.log_of_digits.Tie as tie
 found : (c : tie.Start) → Leading (c .args .q) (leadingZeros 64 (c .args .q))
 found c = leading (c .args .q) (c .pre .positive) (c .pre .short)
 
-sub-log-bits : tie.Need-sub-log-bits
-sub-log-bits c = omega (arith, found c)
-
-cast-log-bits : tie.Need-cast-log-bits
-cast-log-bits c = omega (arith, found c)
-
-shl-log-bits : tie.Need-shl-log-bits
-shl-log-bits c = omega (arith, found c)
-
 log-bits-requires : tie.Need-log-bits-requires
 log-bits-requires c κs =
     let m = moved-mantissa _ _ (found c) in
     let same = sym (moved-up _ _ (found c)) in
     (subst (λ (x : ℕ). 2 ^ 62 ≤ x) same (m .low), subst (λ (x : ℕ). x < 2 ^ 63) same (m .high))
-
-sub-highest : tie.Need-sub-highest
-sub-highest c = omega (arith, found (c .before))
-
-add-highest : tie.Need-add-highest
-add-highest c = search needs
-
-sub-t12 : tie.Need-sub-t12
-sub-t12 c = search needs
 
 bits-lt : (c : tie.After-log-bits) → c .log-bits .result < 2 ^ places
 bits-lt c = subst (λ (x : ℕ). x < 2 ^ places) (sym (c .log-bits .ensures)) (logBits-lt places _)
@@ -48,9 +25,6 @@ bits-are : (c : tie.After-log-bits) → logBits places (mantissaOf (c .before .a
 bits-are c =
     let l = found (c .before) in
     ap (logBits places) (units-mantissa _ (l .highest) (c .before .args .k) (l .low) (l .high) (omega arith) ∙ sym (moved-up _ _ l)) ∙ sym (c .log-bits .ensures)
-
-sub-t13 : tie.Need-sub-t13
-sub-t13 c = omega (arith, bits-lt (c .before))
 
 returns : tie.Need-returns
 returns c =
@@ -66,15 +40,5 @@ returns-2 c =
 
 pub log-of-digits-spec : {M : Type 1} → statement M
 log-of-digits-spec =
-    tie.close
-    (tie.spec
-    sub-log-bits
-    cast-log-bits
-    shl-log-bits
-    log-bits-requires
-    sub-highest
-    add-highest
-    sub-t12
-    sub-t13
-    returns
-    returns-2)
+    tie.close (tie.spec (λ c. omega (arith, found c)) (λ c. omega (arith, found c)) (λ c. omega (arith, found c)) log-bits-requires
+    (λ c. omega (arith, found (c .before))) (λ c. search needs) (λ c. search needs) (λ c. omega (arith, bits-lt (c .before))) returns returns-2)

@@ -1,9 +1,5 @@
 -- `elementary::log::log_word` meets its contract, kind by kind of a double. Assumes nothing.
-use mathlib.Core.Path.{_≡_, sym, ap, _∙_}
-use mathlib.Core.Bool.{Bool, true, false}
-use Prim.Native.Nat.{ℕ, _*_, _^_}
-use lib.Ieee.{Float}
-use borrow.Author.Needs.{needs}
+use Rattle.arithmetic.proofs.Kit.{_≡_, sym, ap, _∙_, Bool, true, false, ℕ, _*_, _^_, Float, needs}
 use Rattle.arithmetic.specs.declared.double.Parts.the-variants.{Finite}
 use Rattle.arithmetic.specs.declared.word.Logarithm.the-variants.{Defined, Undefined}
 use Rattle.arithmetic.specs.Whole.{asWord}
@@ -27,9 +23,6 @@ positive-defined {x} {s} {q} {k} apart e =
     ap (λ (n : ℕ). Defined (asWord places (wordOfUnits places n))) (sym (units-of-parts false q k) ∙ ap unitsOf f)
     ∙ ap (logarithm places) (sym f ∙ signed-parts apart e)
 
-log-of-digits-requires : tie.Need-log-of-digits-requires
-log-of-digits-requires c κs = told (c .before .before .before .before .take-apart .ensures .1) (c .before .before .negative .given .1) .within
-
 returns : tie.Need-returns
 returns c =
     let at = c .before .before in
@@ -40,30 +33,11 @@ returns-2 c =
     let at = c .before .before .before in
     ap Defined (c .log-of-digits .ensures .0) ∙ positive-defined (told (at .before .before .take-apart .ensures .1) (at .negative .given .1)) (c .before .if1 .left)
 
-returns-3 : tie.Need-returns-3
-unfolding logarithm
-returns-3 c = ap (logarithm places) (told (c .before .before .take-apart .ensures .1) (c .enum-told .given .1) .same)
-
-returns-4 : tie.Need-returns-4
-unfolding logarithm
-returns-4 c = ap (logarithm places) (told (c .before .before .take-apart .ensures .1) (c .enum-told2 .given .1) .same)
-
-returns-5 : tie.Need-returns-5
-unfolding logarithm
-returns-5 c = ap (logarithm places) (told (c .before .before .take-apart .ensures .1) (c .enum-told3 .given .1) .same)
-
 pub log-word-spec : {M : Type 1} → statement M
 log-word-spec =
-    tie.close
-    (tie.spec
-    (λ c κs. search needs)
-    (λ c. search needs)
-    log-of-digits-requires
-    (λ c. search needs)
-    (λ c. search needs)
-    (λ c. search needs)
-    returns
-    returns-2
-    returns-3
-    returns-4
-    returns-5)
+    tie.close (tie.spec (λ c κs. search needs) (λ c. search needs)
+    (λ c κs. told (c .before .before .before .before .take-apart .ensures .1) (c .before .before .negative .given .1) .within) (λ c. search needs)
+    (λ c. search needs) (λ c. search needs) returns returns-2
+    (λ c. unfold logarithm in ap (logarithm places) (told (c .before .before .take-apart .ensures .1) (c .enum-told .given .1) .same))
+    (λ c. unfold logarithm in ap (logarithm places) (told (c .before .before .take-apart .ensures .1) (c .enum-told2 .given .1) .same))
+    (λ c. unfold logarithm in ap (logarithm places) (told (c .before .before .take-apart .ensures .1) (c .enum-told3 .given .1) .same)))

@@ -1,33 +1,10 @@
 -- `elementary::multiples::opposite` meets its contract: each arm's digits are those of the opposite, by division with remainder. Assumes nothing.
-use mathlib.Core.Bool.{true, false}
-use mathlib.Core.Path.{_≡_, sym, ap, _∙_}
-use Prim.Native.Nat.{ℕ, _+_, _*_, _^_}
-use lib.IntN.{pos, negℤ}
-use native.Mathlib.Omega.{arith}
-use borrow.Author.Needs.{needs}
+use Rattle.arithmetic.proofs.Kit.{true, false, _≡_, sym, ap, _∙_, ℕ, _+_, _*_, _^_, pos, negℤ, arith, needs}
 use Rattle.arithmetic.specs.Whole.{asWord}
 use Rattle.arithmetic.specs.Places.{places}
 use Rattle.arithmetic.proofs.Times.{same-word, opposite-positive}
 use Rattle.elementary.proofs.multiples.opposite.Statement.{statement}
 use Rattle.elementary.proofs.multiples.opposite.Tie as tie
-
-add-t9 : tie.Need-add-t9
-add-t9 c = search needs
-
-add-t10 : tie.Need-add-t10
-add-t10 c = search needs
-
-sub-t13 : tie.Need-sub-t13
-sub-t13 c = search needs
-
-sub-t16 : tie.Need-sub-t16
-sub-t16 c = search needs
-
-returns : tie.Need-returns
-returns c = simp (c .before .if1 .taken) (same-word false (omega arith) (omega arith))
-
-returns-2 : tie.Need-returns-2
-returns-2 c = simp (c .before .if1 .taken) (same-word false (omega arith) (omega arith))
 
 returns-3 : tie.Need-returns-3
 returns-3 c =
@@ -48,5 +25,6 @@ returns-5 c =
 
 pub opposite-spec : {M : Type 1} → statement M
 opposite-spec =
-    tie.close
-    (tie.spec add-t9 add-t10 sub-t13 sub-t16 returns returns-2 returns-3 returns-4 returns-5)
+    tie.close (tie.spec (λ c. search needs) (λ c. search needs) (λ c. search needs) (λ c. search needs)
+    (λ c. simp (c .before .if1 .taken) (same-word false (omega arith) (omega arith)))
+    (λ c. simp (c .before .if1 .taken) (same-word false (omega arith) (omega arith))) returns-3 returns-4 returns-5)

@@ -1,16 +1,9 @@
 -- `elementary::multiples::times` meets its contract: its words are the quotient's digits above and below the point (`Carried`, `Times`). Assumes nothing.
-use mathlib.Core.Path.{_≡_, sym, ap, ap₂, _∙_, subst}
-use mathlib.Core.Bool.{Bool}
-use mathlib.Core.Logic.{⊎-elim}
-use Prim.Native.Nat.{ℕ, _+_, _*_, _/_, _%_, _^_, _<_}
-use native.Mathlib.Omega.{arith}
-use borrow.Author.Needs.{needs}
-use lib.Dec.{lit≤}
-use lib.Pow.{pow-pos, pow-add}
-use Rattle.arithmetic.specs.Whole.{digits}
+use Rattle.arithmetic.proofs.Kit.{_≡_, sym, ap, ap₂, _∙_, subst, Bool, ⊎-elim, ℕ, _+_, _*_, _/_, _%_, _^_, _<_, arith, needs, lit≤, pow-pos, pow-add}
+use Rattle.arithmetic.specs.Whole.{wordDigits}
 use Rattle.arithmetic.specs.Places.{places}
 use Rattle.arithmetic.proofs.Times.{remaining, extraOf, above-point, below-point, times-word, same-word}
-use Rattle.rounding.proofs.Carried.{one-moved, Quotients, quotients}
+use Rattle.arithmetic.proofs.Carried.{one-moved, Quotients, quotients}
 use Rattle.elementary.proofs.multiples.times.Statement.{statement}
 use Rattle.elementary.proofs.multiples.times.Tie as tie
 
@@ -45,12 +38,6 @@ rem-rest c =
     let start = c .before .before .before .before .before .before .before in
     subst (λ (n : ℕ). 0 < n) (sym (one-moved (start .args .shift) (omega (arith, start .pre .4)))) (pow-pos (start .args .shift))
 
-add-t18 : tie.Need-add-t18
-add-t18 c = omega (arith, made (c .before .before))
-
-cast-t19 : tie.Need-cast-t19
-cast-t19 c = omega (arith, made (c .before .before))
-
 returns : tie.Need-returns
 returns c =
     let at = c .before .before .before in
@@ -61,26 +48,11 @@ returns c =
     same-word (a .w .negative)
     (ap₂ (λ (x y : ℕ). x + y) (q .quotient-is) (q .high-is ∙ ap (λ (n : ℕ). remaining places (a .w .whole) (a .w .part) (a .factor) (joined at .if1 .extra) d / n) (pow-add 2 (a .shift) places)) ∙ sym (above-point places (a .w .whole) (a .w .part) (a .factor) (joined at .if1 .extra) d (pow-pos (a .shift))))
     (q .low-is ∙ sym (below-point places (a .w .whole) (a .w .part) (a .factor) (joined at .if1 .extra) d (pow-pos (a .shift))))
-    ∙ ap (λ (x : ℕ). record { negative = a .w .negative; whole = (digits places (a .w) * a .factor + x) / d / 2 ^ places; part = (digits places (a .w) * a .factor + x) / d % 2 ^ places }) (extra-is (joined at))
+    ∙ ap (λ (x : ℕ). record { negative = a .w .negative; whole = (wordDigits places (a .w) * a .factor + x) / d / 2 ^ places; part = (wordDigits places (a .w) * a .factor + x) / d % 2 ^ places }) (extra-is (joined at))
     ∙ sym (times-word places (a .w) (a .factor) d (start .pre .2) (pow-pos (a .shift)))
 
 pub times-spec : {M : Type 1} → statement M
 times-spec =
-    tie.close
-    (tie.spec
-    (λ c. search needs)
-    (λ c. search needs)
-    (λ c κs. search needs)
-    (λ c κs. search needs)
-    (λ c κs. search needs)
-    (λ c κs. search needs)
-    (λ c. search needs)
-    rem-rest
-    (λ c κs. search needs)
-    (λ c κs. search needs)
-    (λ c. search needs)
-    (λ c κs. search needs)
-    (λ c κs. search needs)
-    add-t18
-    cast-t19
-    returns)
+    tie.close (tie.spec (λ c. search needs) (λ c. search needs) (λ c κs. search needs) (λ c κs. search needs) (λ c κs. search needs) (λ c κs. search needs)
+    (λ c. search needs) rem-rest (λ c κs. search needs) (λ c κs. search needs) (λ c. search needs) (λ c κs. search needs) (λ c κs. search needs)
+    (λ c. omega (arith, made (c .before .before))) (λ c. omega (arith, made (c .before .before))) returns)

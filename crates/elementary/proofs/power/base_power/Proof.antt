@@ -1,12 +1,5 @@
 -- `elementary::power::base_power` meets its contract, kind by kind of a double. Assumes nothing.
-use mathlib.Core.Path.{_≡_, refl, sym, ap, _∙_, subst}
-use mathlib.Core.Bool.{Bool, cond}
-use Prim.Native.Nat.{ℕ, _≤_, _<_}
-use borrow.Author.Needs.{needs}
-use lib.Dec.{ltb}
-use lib.Arith.{le→nltb}
-use lib.Ieee.{Float, nan, ofBits, div}
-use lib.Ieee.Bits.{is-false}
+use Rattle.arithmetic.proofs.Kit.{_≡_, refl, sym, ap, _∙_, subst, Bool, cond, ℕ, _≤_, _<_, needs, ltb, le→nltb, Float, nan, ofBits, div, is-false}
 use Rattle.arithmetic.specs.declared.double.Parts.{Parts}
 use Rattle.elementary.specs.Base.{LoggedParts}
 use Rattle.elementary.specs.Exponents.{exponentAt}
@@ -29,10 +22,6 @@ of-nan p i = refl
 -- the power of what the parts stand for is x's
 answered : (i : ℕ) {x z : Float} {r s : Parts} → i < 27 → TakenApart x r → r ≡ s → z ≡ power places (exponentAt i) (fromParts s) → z ≡ powerAt places i x
 answered i {x} {z} few apart e made = made ∙ ap (power places (exponentAt i)) (told apart e .same) ∙ in-table places i x few
-
-returns : tie.Need-returns
-unfolding div ofBits
-returns c = no-exponent places (c .before .args .number) (c .before .args .x) (c .if1 .taken)
 
 returns-2 : tie.Need-returns-2
 returns-2 c =
@@ -68,17 +57,6 @@ finite-power-requires c κs =
 
 pub base-power-spec : {M : Type 1} → statement M
 base-power-spec =
-    tie.close
-    (tie.spec
-    returns
-    (λ c. search needs)
-    (λ c. search needs)
-    (λ c κs. search needs)
-    (λ c. search needs)
-    (λ c κs. search needs)
-    (λ c. search needs)
-    finite-power-requires
-    returns-2
-    returns-3
-    returns-4
-    returns-5)
+    tie.close (tie.spec (λ c. unfold div ofBits in no-exponent places (c .before .args .number) (c .before .args .x) (c .if1 .taken)) (λ c. search needs)
+    (λ c. search needs) (λ c κs. search needs) (λ c. search needs) (λ c κs. search needs) (λ c. search needs) finite-power-requires returns-2 returns-3
+    returns-4 returns-5)

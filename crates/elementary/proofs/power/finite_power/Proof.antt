@@ -1,8 +1,5 @@
 -- `elementary::power::finite_power` meets its contract. Assumes nothing.
-use mathlib.Core.Path.{_≡_, refl, sym, ap, ap₂, _∙_}
-use mathlib.Core.Bool.{Bool, true, false, cond}
-use borrow.Author.Needs.{needs}
-use lib.Ieee.{Float, nan, ofBits, neg, div, odd}
+use Rattle.arithmetic.proofs.Kit.{_≡_, refl, sym, ap, ap₂, _∙_, Bool, true, false, cond, needs, Float, nan, ofBits, neg, div, odd}
 use Rattle.elementary.specs.Exponents.{exponentAt, isThree, isFour}
 use Rattle.elementary.specs.Power.{positivePower, power}
 use Rattle.arithmetic.specs.Places.{places}

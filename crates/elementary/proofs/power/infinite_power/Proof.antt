@@ -1,8 +1,5 @@
 -- `elementary::power::infinite_power` meets its contract. Assumes nothing.
-use mathlib.Core.Path.{sym, ap, _∙_}
-use mathlib.Core.Bool.{Bool}
-use borrow.Author.Needs.{needs}
-use lib.Ieee.{inf, neg}
+use Rattle.arithmetic.proofs.Kit.{sym, ap, _∙_, Bool, needs, inf, neg}
 use Rattle.elementary.specs.Exponents.{exponentAt}
 use Rattle.elementary.specs.Power.{infinityOrZero, power}
 use Rattle.arithmetic.specs.Places.{places}
@@ -31,6 +28,4 @@ returns-3 c =
     c .infinity-or-zero3 .ensures ∙ ap infinityOrZero (c .before .is-negative2 .ensures) ∙ infinite-positive places e ∙ ap (λ (s : Bool). power places e (inf s)) (sym (c .before .before .if1 .left))
 
 pub infinite-power-spec : {M : Type 1} → statement M
-infinite-power-spec =
-    tie.close
-    (tie.spec (λ c κs. search needs) returns (λ c κs. search needs) (λ c κs. search needs) returns-2 (λ c κs. search needs) (λ c κs. search needs) returns-3)
+infinite-power-spec = tie.close (tie.spec (λ c κs. search needs) returns (λ c κs. search needs) (λ c κs. search needs) returns-2 (λ c κs. search needs) (λ c κs. search needs) returns-3)

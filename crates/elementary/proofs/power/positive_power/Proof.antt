@@ -1,12 +1,5 @@
 -- `elementary::power::positive_power` meets its contract. Assumes nothing.
-use mathlib.Core.Path.{_≡_, sym, ap, ap₂, _∙_, subst}
-use mathlib.Core.Bool.{Bool, false, cond}
-use mathlib.Core.Logic.{⊎-elim}
-use Prim.Native.Nat.{ℕ, _*_, _^_, _<_}
-use native.Mathlib.Nat.{lt-of-lt-of-le, lt-of-le-of-lt}
-use borrow.Author.Needs.{needs}
-use lib.Dec.{lit<, lit≤}
-use lib.IntN.{ℤ, pos, negℤ, _*ℤ_}
+use Rattle.arithmetic.proofs.Kit.{_≡_, sym, ap, ap₂, _∙_, subst, Bool, false, cond, ⊎-elim, ℕ, _*_, _^_, _<_, lt-of-lt-of-le, lt-of-le-of-lt, needs, lit<, lit≤, ℤ, pos, negℤ, _*ℤ_}
 use Rattle.arithmetic.specs.declared.word.Word.{Word}
 use Rattle.arithmetic.specs.Whole.{signed, floorDiv, wordValue, asWord}
 use Rattle.antilog.specs.Log.{wordOfUnits}
@@ -22,9 +15,6 @@ use Rattle.elementary.proofs.power.positive_power.Tie as tie
 -- the log word, and the same with the exponent's sign
 abbrev log : tie.Start → ℤ
 log c = wordOfUnits places (c .args .q * 2 ^ c .args .k)
-
-opposite-requires : tie.Need-opposite-requires
-opposite-requires c κs = let l = c .before .before .pre .0 in (lt-of-lt-of-le (l .small) (lit≤ tt), word-short places (log (c .before .before)) (l .word))
 
 record Signed (w : Word) (s : Bool) (z : ℤ) : Type 0 where
   is : w ≡ asWord places (cond s (negℤ z) z)
@@ -70,11 +60,6 @@ returns c =
 
 pub positive-power-spec : {M : Type 1} → statement M
 positive-power-spec =
-    tie.close
-    (tie.spec
-    (λ c κs. search needs)
-    opposite-requires
-    (λ c κs. search needs)
-    times-requires
-    (λ c κs. search needs)
-    returns)
+    tie.close (tie.spec (λ c κs. search needs)
+    (λ c κs. let l = c .before .before .pre .0 in (lt-of-lt-of-le (l .small) (lit≤ tt), word-short places (log (c .before .before)) (l .word)))
+    (λ c κs. search needs) times-requires (λ c κs. search needs) returns)

@@ -1,9 +1,5 @@
 -- `elementary::power::zero_power` meets its contract. Assumes nothing.
-use mathlib.Core.Path.{sym, ap, _∙_}
-use mathlib.Core.Bool.{Bool, not}
-use borrow.Author.Needs.{needs}
-use lib.IntN.{pos}
-use lib.Ieee.{fin, neg}
+use Rattle.arithmetic.proofs.Kit.{sym, ap, _∙_, Bool, not, needs, pos, fin, neg}
 use Rattle.elementary.specs.Exponents.{exponentAt}
 use Rattle.elementary.specs.Power.{infinityOrZero, power}
 use Rattle.arithmetic.specs.Places.{places}
@@ -32,6 +28,4 @@ returns-3 c =
     c .infinity-or-zero3 .ensures ∙ ap (λ (b : Bool). infinityOrZero (not b)) (c .before .is-negative2 .ensures) ∙ zero-positive places e ∙ ap (λ (s : Bool). power places e (fin s 0 (pos 0))) (sym (c .before .before .if1 .left))
 
 pub zero-power-spec : {M : Type 1} → statement M
-zero-power-spec =
-    tie.close
-    (tie.spec (λ c κs. search needs) returns (λ c κs. search needs) (λ c κs. search needs) returns-2 (λ c κs. search needs) (λ c κs. search needs) returns-3)
+zero-power-spec = tie.close (tie.spec (λ c κs. search needs) returns (λ c κs. search needs) (λ c κs. search needs) returns-2 (λ c κs. search needs) (λ c κs. search needs) returns-3)

@@ -1,13 +1,9 @@
 -- `fields::bits::is_nan_pattern` meets its contract, by the logic's two laws of a NaN's patterns.
 -- Assumes nothing.
-use mathlib.Core.Path.{sym, _∙_}
-use lib.Ieee.{binary64}
+use Rattle.arithmetic.proofs.Kit.{sym, _∙_, binary64}
 use lib.Ieee.Bits.{nanBits-is, nanBits-above}
 use Rattle.fields.proofs.bits.is_nan_pattern.Statement.{statement}
 use Rattle.fields.proofs.bits.is_nan_pattern.Tie as tie
 
-returns : tie.Need-returns
-returns c = sym (nanBits-above binary64 (c .args .bits)) ∙ nanBits-is binary64 (c .args .bits)
-
 pub is-nan-pattern-spec : {M : Type 1} → statement M
-is-nan-pattern-spec = tie.close (tie.spec returns)
+is-nan-pattern-spec = tie.close (tie.spec (λ c. sym (nanBits-above binary64 (c .args .bits)) ∙ nanBits-is binary64 (c .args .bits)))

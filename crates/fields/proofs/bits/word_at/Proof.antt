@@ -1,60 +1,31 @@
 -- `fields::bits::word_at` meets its contract. The loop's invariant: the value is the word of the bytes passed, and has room for one more.
 -- Assumes nothing.
-use mathlib.Core.Path.{_≡_, refl}
-use Prim.Native.Nat.{ℕ, _≤_, _<_, _-_, _^_}
-use native.Mathlib.Nat.{pow-suc, pow-le-pow-right}
-use native.Mathlib.Omega.{arith}
-use native.Mathlib.Numerals.{add-one}
-use borrow.Author.Needs.{needs}
-use lib.Arith.{digits-lt}
-use lib.Dec.{lit<}
-use Rattle.fields.specs.Bytes.{wordAt}
+use Rattle.arithmetic.proofs.Kit.{_≡_, refl, ℕ, _≤_, _<_, _-_, _^_, pow-suc, pow-le-pow-right, arith, add-one, needs, digits-lt, lit<}
+use Rattle.fields.specs.Bytes.{numberAt}
 use Rattle.fields.proofs.bits.word_at.Statement.{statement}
 use Rattle.fields.proofs.bits.word_at.Tie as tie
 
 abbrev Inv-loop : tie.InvT-loop
-Inv-loop bytes at width value₀ i₀ value i = (i ≤ width) × ((value ≡ wordAt bytes at i) × (value < 256 ^ i))
+Inv-loop bytes at width value₀ i₀ value i = (i ≤ width) × ((value ≡ numberAt bytes at i) × (value < 256 ^ i))
 
 abbrev μ-loop : tie.MeasureT-loop
 μ-loop bytes at width value₀ i₀ value i = width - i
-
-loop-holds : tie.Need-loop-holds Inv-loop μ-loop
-unfolding wordAt
-loop-holds c = (search needs, (refl, lit< tt))
 
 -- a value of fewer than eight bytes has room for one more
 room : {i value width : ℕ} → width ≤ 8 → i < width → value < 256 ^ i → value < 2 ^ 56
 room {i} {value} w h v = omega (arith, pow-le-pow-right {n = 256} (lit< tt) {i = i} {j = 7} (omega arith), v)
 
-mul-value : tie.Need-mul-value Inv-loop μ-loop
-mul-value c = omega (arith, room (c .before .before .before .pre .0) (c .loop-test .taken) (c .before .loop .inv .1 .1))
-
-add-wide : tie.Need-add-wide Inv-loop μ-loop
-add-wide c = omega arith
-
-shared-slice-read-wide : tie.Need-shared-slice-read-wide Inv-loop μ-loop
-shared-slice-read-wide c = omega arith
-
 -- what was read is a byte
 byte : (c : tie.After-wide Inv-loop μ-loop) → c .wide .result < 256
 byte c = rw (c .wide .ensures) (c .before .shared-slice-known2 .given _ .fits)
-
-wide-requires : tie.Need-wide-requires Inv-loop μ-loop
-wide-requires c κs = tt
 
 add-value : tie.Need-add-value Inv-loop μ-loop
 add-value c =
     let turn = c .before .before in
     omega (arith, room (turn .before .before .before .pre .0) (turn .loop-test .taken) (turn .before .loop .inv .1 .1), byte c)
 
-add-i : tie.Need-add-i Inv-loop μ-loop
-add-i c = omega arith
-
-loop-less : tie.Need-loop-less Inv-loop μ-loop
-loop-less c = omega arith
-
 loop-again : tie.Need-loop-again Inv-loop μ-loop
-unfolding wordAt
+unfolding numberAt
 loop-again c =
     let turn = c .before .before in
     (omega arith, (rw (add-one, turn .before .loop .inv .1 .0, c .wide .ensures), rw (add-one, pow-suc) (digits-lt (turn .before .loop .inv .1 .1) (byte c))))
@@ -66,17 +37,6 @@ returns c =
 
 pub word-at-spec : {M : Type 1} → statement M
 word-at-spec =
-    tie.close
-    (tie.spec
-    Inv-loop
-    μ-loop
-    loop-holds
-    mul-value
-    add-wide
-    shared-slice-read-wide
-    wide-requires
-    add-value
-    add-i
-    loop-less
-    loop-again
-    returns)
+    tie.close (tie.spec Inv-loop μ-loop (λ c. unfold numberAt in (search needs, (refl, lit< tt)))
+    (λ c. omega (arith, room (c .before .before .before .pre .0) (c .loop-test .taken) (c .before .loop .inv .1 .1))) (λ c. omega arith) (λ c. omega arith)
+    (λ c κs. tt) add-value (λ c. omega arith) (λ c. omega arith) loop-again returns)

@@ -1,13 +1,10 @@
 -- `fields::fields::double_of_value` meets its contract. Assumes nothing.
-use mathlib.Core.Path.{sym, ap, _∙_}
-use borrow.Author.Needs.{needs}
+use Rattle.arithmetic.proofs.Kit.{sym, ap, _∙_, needs}
 use Rattle.fields.specs.Fields.{doubleOf}
 use Rattle.fields.proofs.fields.double_of_value.Statement.{statement}
 use Rattle.fields.proofs.fields.double_of_value.Tie as tie
 
-returns-2 : tie.Need-returns-2
-returns-2 c = c .double-of-word .ensures ∙ ap doubleOf (sym (c .before .before .value2 .given .1))
-
 pub double-of-value-spec : {M : Type 1} → statement M
 double-of-value-spec =
-    tie.close (tie.spec (λ c. search needs) (λ c. search needs) (λ c κs. search needs) (λ c. search needs) returns-2)
+    tie.close (tie.spec (λ c. search needs) (λ c. search needs) (λ c κs. search needs) (λ c. search needs)
+    (λ c. c .double-of-word .ensures ∙ ap doubleOf (sym (c .before .before .value2 .given .1))))

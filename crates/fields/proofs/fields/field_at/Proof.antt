@@ -1,11 +1,5 @@
 -- `fields::fields::field_at` meets its contract: past the record's end a header is cut. Assumes nothing.
-use mathlib.Core.Path.{refl, ap, _∙_}
-use Prim.Native.Nat.{_<_, _≤_, _-_}
-use native.Mathlib.Omega.{arith}
-use borrow.Author.Needs.{needs}
-use borrow.Author.Tests.{lt-ltb}
-use lib.ListN.{length, drop, length-drop}
-use lib.Seq.{take-all}
+use Rattle.arithmetic.proofs.Kit.{refl, ap, _∙_, _<_, _≤_, _-_, arith, needs, lt-ltb, length, drop, length-drop, take-all}
 use Rattle.fields.specs.Fields.{fieldOf}
 use Rattle.fields.proofs.FieldChecks.{by-checks}
 use Rattle.fields.proofs.fields.field_at.Statement.{statement}

@@ -1,26 +1,16 @@
 -- `fields::fields::head_field` meets its contract: each answer is that of the checks that led to it. Assumes nothing.
-use mathlib.Core.Path.{_≡_, refl, sym, ap, _∙_}
-use mathlib.Core.Bool.{false, not}
-use Prim.Native.Nat.{ℕ, _+_}
-use lib.Dec.{ltb, eqb}
-use lib.ListN.{length}
-use mathlib.Core.List.{List}
+use Rattle.arithmetic.proofs.Kit.{_≡_, refl, sym, ap, _∙_, false, not, ℕ, ltb, eqb, length, List, arith, needs, lt-ltb, le-ltb, eq-eqb, ne-eqb}
 use Rattle.refusal.specs.Outcomes.{accepted}
 use Rattle.fields.specs.declared.fields.Value.{Value}
-use native.Mathlib.Omega.{arith}
-use borrow.Author.Needs.{needs}
-use borrow.Author.Tests.{lt-ltb, le-ltb, eq-eqb, ne-eqb}
 use Rattle.fields.specs.Fields.{isTag, meaningOf, dataSize, tagOf, lengthOf, sizeOf, valueOf, field}
+use Rattle.fields.proofs.Forms.{at-most}
 use Rattle.fields.proofs.FieldChecks.{by-checks}
 use Rattle.fields.proofs.fields.head_field.Statement.{statement}
 use Rattle.fields.proofs.fields.head_field.Tie as tie
 
-made : (s : List ℕ) {m n : ℕ} {v : Value} → m ≡ meaningOf (tagOf s) → v ≡ valueOf s → n ≡ sizeOf s → accepted (record { tag = tagOf s; meaning = m; value = v; size = n }) ≡ accepted (field s)
+made : (s : List ℕ) {m : ℕ} {v : Value} → m ≡ meaningOf (tagOf s) → v ≡ valueOf s → accepted (record { tag = tagOf s; meaning = m; value = v }) ≡ accepted (field s)
 unfolding field
-made s e f g = λ i. accepted (record { tag = tagOf s; meaning = e i; value = f i; size = g i })
-
-returns : tie.Need-returns
-returns c = by-checks (c .before .before .args .bytes .now) (lt-ltb _ _ (c .if1 .taken)) refl refl refl
+made s e f = λ i. accepted (record { tag = tagOf s; meaning = e i; value = f i })
 
 returns-2 : tie.Need-returns-2
 returns-2 c =
@@ -42,6 +32,9 @@ returns-3 c =
 measured : (c : tie.Else3) → let s = c .before .before .before .before .before .before .before .before .args .bytes .now in not (eqb (lengthOf s) (dataSize (tagOf s))) ≡ false
 measured c = ap not (eq-eqb _ _ (sym (c .before .word-at .ensures .0) ∙ c .if3 .left ∙ c .before .before .data-size .ensures))
 
+add-if4 : tie.Need-add-if4
+add-if4 c = omega (arith, c .before .before .data-size .ensures, at-most (tagOf (c .before .before .before .before .before .before .before .before .args .bytes .now)))
+
 returns-4 : tie.Need-returns-4
 returns-4 c =
     let at = c .before in
@@ -55,22 +48,10 @@ returns-5 c =
     let known = tagged (at .before .before .before) in
     let s = at .before .before .before .before .before .before .before .before .args .bytes .now in
     let size = at .before .before .data-size .ensures in
-    made s (c .before .meaning-of .ensures) (c .value-of .ensures) (ap (λ (n : ℕ). 3 + n) size) ∙ by-checks s (known .0) (known .1) (measured at) (le-ltb (length s) (sizeOf s) (omega (arith, size)))
+    made s (c .before .meaning-of .ensures) (c .value-of .ensures) ∙ by-checks s (known .0) (known .1) (measured at) (le-ltb (length s) (sizeOf s) (omega (arith, size)))
 
 pub head-field-spec : {M : Type 1} → statement M
 head-field-spec =
-    tie.close
-    (tie.spec
-    returns
-    (λ c. search needs)
-    (λ c κs. search needs)
-    returns-2
-    (λ c κs. search needs)
-    (λ c κs. search needs)
-    returns-3
-    (λ c. search needs)
-    returns-4
-    (λ c κs. search needs)
-    (λ c κs. search needs)
-    (λ c. search needs)
+    tie.close (tie.spec (λ c. by-checks (c .before .before .args .bytes .now) (lt-ltb _ _ (c .if1 .taken)) refl refl refl) (λ c. search needs)
+    (λ c κs. search needs) returns-2 (λ c κs. search needs) (λ c κs. search needs) returns-3 add-if4 returns-4 (λ c κs. search needs) (λ c κs. search needs)
     returns-5)

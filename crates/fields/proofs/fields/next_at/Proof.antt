@@ -1,12 +1,5 @@
 -- `fields::fields::next_at` meets its contract. Assumes nothing.
-use mathlib.Core.Path.{_≡_, refl, sym, ap, _∙_}
-use mathlib.Core.List.{List}
-use Prim.Native.Nat.{ℕ, _+_, _<_, _≤_, _-_}
-use native.Mathlib.Omega.{arith}
-use borrow.Author.Needs.{needs}
-use borrow.Author.Tests.{le-leb, lt-leb}
-use lib.ListN.{length, getD, drop, length-drop}
-use lib.Seq.{getD-drop}
+use Rattle.arithmetic.proofs.Kit.{_≡_, refl, sym, ap, _∙_, List, ℕ, _+_, _<_, _≤_, _-_, arith, needs, le-leb, lt-leb, length, getD, drop, length-drop, getD-drop}
 use Rattle.fields.specs.Fields.{dataSize, sizeOf, nextAt}
 use Rattle.fields.proofs.Forms.{at-most}
 use Rattle.fields.proofs.fields.next_at.Statement.{statement}
@@ -21,9 +14,6 @@ whole : (s : List ℕ) (i : ℕ) → sizeOf (drop i s) ≤ length s - i → i + 
 unfolding nextAt
 whole s i h = rw (length-drop, le-leb (sizeOf (drop i s)) (length s - i) h)
 
-returns : tie.Need-returns
-returns c = let a = c .before .before .args in (cut (a .bytes .now) (a .at) (omega arith), refl)
-
 -- how long the field is, by its tag
 size : (c : tie.After-data-size) → let a = c .before .before .before .before .args in 3 + c .data-size .result ≡ sizeOf (drop (a .at) (a .bytes .now))
 size c =
@@ -35,13 +25,14 @@ size c =
 add-size : tie.Need-add-size
 add-size c = omega (arith, c .data-size .ensures, at-most (getD (c .before .before .before .before .args .bytes .now) (c .before .before .before .before .args .at) 0))
 
-returns-2 : tie.Need-returns-2
-returns-2 c = let a = c .before .before .before .before .before .args in (cut (a .bytes .now) (a .at) (omega (arith, size (c .before))), refl)
-
 returns-3 : tie.Need-returns-3
 returns-3 c =
     let a = c .before .before .before .before .before .args in
     (ap (λ (n : ℕ). a .at + n) (size (c .before)) ∙ whole (a .bytes .now) (a .at) (omega (arith, size (c .before))), refl)
 
 pub next-at-spec : {M : Type 1} → statement M
-next-at-spec = tie.close (tie.spec returns (λ c. search needs) (λ c κs. search needs) add-size (λ c. search needs) returns-2 (λ c. search needs) returns-3)
+next-at-spec =
+    tie.close (tie.spec (λ c. let a = c .before .before .args in (cut (a .bytes .now) (a .at) (omega arith), refl)) (λ c. search needs) (λ c κs. search needs)
+    add-size (λ c. search needs)
+    (λ c. let a = c .before .before .before .before .before .args in (cut (a .bytes .now) (a .at) (omega (arith, size (c .before))), refl)) (λ c. search needs)
+    returns-3)

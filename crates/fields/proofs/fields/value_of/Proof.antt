@@ -1,9 +1,5 @@
 -- `fields::fields::value_of` meets its contract, by the form of the tag. Assumes nothing.
-use mathlib.Core.Path.{sym, ap, _∙_}
-use mathlib.Core.Bool.{true, false}
-use native.Mathlib.Omega.{arith}
-use borrow.Author.Needs.{needs}
-use lib.Dec.{lit≤}
+use Rattle.arithmetic.proofs.Kit.{sym, ap, _∙_, true, false, arith, needs, lit≤}
 use Rattle.fields.specs.declared.fields.Value.the-variants.{Double, Count}
 use Rattle.fields.specs.Fields.{tagOf}
 use Rattle.fields.proofs.Forms.{size-by}
@@ -13,23 +9,9 @@ use Rattle.fields.proofs.fields.value_of.Tie as tie
 word-at-requires : tie.Need-word-at-requires
 word-at-requires c κs = (lit≤ tt, omega (arith, size-by (tagOf (c .before .before .before .before .args .bytes .now)) true (sym (c .before .is-count-tag .ensures) ∙ c .if1 .taken)))
 
-returns : tie.Need-returns
-returns c = rw (sym (c .before .before .is-count-tag .ensures) ∙ c .before .if1 .taken) (ap Count (c .word-at .ensures .0))
-
-double-at-requires : tie.Need-double-at-requires
-double-at-requires c κs = omega (arith, size-by (tagOf (c .before .before .before .before .args .bytes .now)) false (sym (c .before .is-count-tag .ensures) ∙ c .if1 .left))
-
-returns-2 : tie.Need-returns-2
-returns-2 c = rw (sym (c .before .before .is-count-tag .ensures) ∙ c .before .if1 .left) (ap Double (c .double-at .ensures))
-
 pub value-of-spec : {M : Type 1} → statement M
 value-of-spec =
-    tie.close
-    (tie.spec
-    (λ c. search needs)
-    (λ c κs. search needs)
-    word-at-requires
-    (λ c. search needs)
-    returns
-    double-at-requires
-    returns-2)
+    tie.close (tie.spec (λ c. search needs) (λ c κs. search needs) word-at-requires (λ c. search needs)
+    (λ c. rw (sym (c .before .before .is-count-tag .ensures) ∙ c .before .if1 .taken) (ap Count (c .word-at .ensures .0)))
+    (λ c κs. omega (arith, size-by (tagOf (c .before .before .before .before .args .bytes .now)) false (sym (c .before .is-count-tag .ensures) ∙ c .if1 .left)))
+    (λ c. rw (sym (c .before .before .is-count-tag .ensures) ∙ c .before .if1 .left) (ap Double (c .double-at .ensures))))

@@ -1,5 +1,5 @@
 -- `humid_air::humid::moist_speed_of_sound` meets its contract, by what its callees ensure. Assumes nothing.
-use borrow.Author.Needs.{needs}
+use Rattle.arithmetic.proofs.Kit.{needs}
 use Rattle.humid_air.specs.Sound.{soundSpeed}
 use Rattle.humid_air.proofs.humid.moist_speed_of_sound.Statement.{statement}
 use Rattle.humid_air.proofs.humid.moist_speed_of_sound.Tie as tie

@@ -1,18 +1,15 @@
 -- `mast::judge::judge_readings` meets its contract, by the way that the readings ask. Assumes nothing.
-use mathlib.Core.Path.{_≡_, refl, sym, ap, _∙_}
-use mathlib.Core.Bool.{Bool, cond}
-use mathlib.Core.List.{[]}
+use Rattle.arithmetic.proofs.Kit.{_≡_, refl, sym, ap, _∙_, Bool, cond, [], needs}
 use Rattle.refusal.specs.Outcomes.{Outcome, accepted, refused, _then_}
 use Rattle.refusal.proofs.Rows.{then-append}
-use Rattle.entries.specs.declared.Entry.{Entry}
-use Rattle.entries.specs.declared.Readings.{Readings}
+use Rattle.record.specs.declared.entries.Entry.{Entry}
+use Rattle.record.specs.declared.entries.Readings.{Readings}
 use Rattle.fields.specs.Fields.{densityAltitude}
-use Rattle.entries.specs.Entries.{entryOf}
-use Rattle.answered.specs.declared.judge.Figures.{Figures}
-use Rattle.limits.specs.Checks.{isClash}
+use Rattle.record.specs.Entries.{entryOf}
+use Rattle.refusal.specs.declared.judge.Figures.{Figures}
+use Rattle.mast.specs.Checks.{isClash}
 use Rattle.station.specs.Figures.{figuresOf}
-use Rattle.mast.specs.Judge.{airRows, airOutcome, wayRows, resolvedBy, judged, ordinaryOutcome, stationOutcome}
-use borrow.Author.Needs.{needs}
+use Rattle.mast.specs.Judge.{airRows, airOutcome, wayRows, resolvedBy, judged}
 use Rattle.mast.proofs.judge.judge_readings.Statement.{statement}
 use Rattle.mast.proofs.judge.judge_readings.Tie as tie
 
@@ -28,35 +25,21 @@ judged-by r {b} clash told =
     ∙ ap (λ (b : Bool). cond b (refused 9 []) (way r d)) (sym clash)
     ∙ ap (cond (isClash r) (refused 9 [])) (sym (then-append (wayRows r d) (airRows (resolvedBy r d)) (accepted (figuresOf (resolvedBy r d)))))
 
-returns : tie.Need-returns
-returns c = judged-by (c .before .before .args .readings) (sym (c .before .is-clash .ensures) ∙ c .if1 .taken) refl
-
 returns-2 : tie.Need-returns-2
-unfolding stationOutcome
 returns-2 c =
     let told = c .before .before in
     let looked = told .before .before in
     let test = looked .before in
-    c .station-air .ensures ∙ judged-by (test .before .before .args .readings) (sym (test .before .is-clash .ensures) ∙ test .if1 .left) (sym (looked .entry-of .ensures) ∙ told .density-altitude-m .given .1)
+    c .inverse-answer .ensures ∙ judged-by (test .before .before .args .readings) (sym (test .before .is-clash .ensures) ∙ test .if1 .left) (sym (looked .entry-of .ensures) ∙ told .density-altitude-m .given .1)
 
 returns-3 : tie.Need-returns-3
-unfolding ordinaryOutcome
 returns-3 c =
     let told = c .before in
     let looked = told .before .before in
     let test = looked .before in
-    c .ordinary-air .ensures ∙ judged-by (test .before .before .args .readings) (sym (test .before .is-clash .ensures) ∙ test .if1 .left) (sym (looked .entry-of .ensures) ∙ told .enum-told .given .1)
+    c .ordinary-answer .ensures ∙ judged-by (test .before .before .args .readings) (sym (test .before .is-clash .ensures) ∙ test .if1 .left) (sym (looked .entry-of .ensures) ∙ told .enum-told .given .1)
 
 pub judge-readings-spec : {M : Type 1} → statement M
 judge-readings-spec =
-    tie.close
-    (tie.spec
-    (λ c κs. search needs)
-    returns
-    (λ c κs. search needs)
-    (λ c. search needs)
-    (λ c κs. search needs)
-    (λ c. search needs)
-    (λ c κs. search needs)
-    returns-2
-    returns-3)
+    tie.close (tie.spec (λ c κs. search needs) (λ c. judged-by (c .before .before .args .readings) (sym (c .before .is-clash .ensures) ∙ c .if1 .taken) refl)
+    (λ c κs. search needs) (λ c. search needs) (λ c κs. search needs) (λ c. search needs) (λ c κs. search needs) returns-2 returns-3)

@@ -1,8 +1,7 @@
 -- `questions::arguments::number_at` meets its contract. Assumes nothing.
-use mathlib.Core.Path.{refl, sym, ap, _∙_}
+use Rattle.arithmetic.proofs.Kit.{refl, sym, ap, _∙_, needs}
 use Rattle.questions.specs.Digits.{numberIn}
 use Rattle.questions.specs.Arguments.{numberFound}
-use borrow.Author.Needs.{needs}
 use Rattle.questions.proofs.arguments.number_at.Statement.{statement}
 use Rattle.questions.proofs.arguments.number_at.Tie as tie
 

@@ -1,13 +1,7 @@
 -- `questions::digits::are_hex` meets its contract. The loop's invariant: all bytes are digits if those from the position on are. Assumes nothing.
-use mathlib.Core.Path.{_≡_, refl, sym, ap, _∙_}
-use mathlib.Core.Bool.{Bool, _&&_}
-use Prim.Native.Nat.{ℕ, _+_, _-_, _≤_}
-use native.Mathlib.Omega.{arith}
-use borrow.Author.Tests.{lt-ltb, le-ltb}
-use lib.ListN.{length, getD, drop, drop-of-length-le}
+use Rattle.arithmetic.proofs.Kit.{_≡_, refl, sym, ap, _∙_, Bool, _&&_, ℕ, _+_, _-_, _≤_, arith, lt-ltb, le-ltb, length, getD, drop, drop-of-length-le, needs}
 use Rattle.questions.specs.Digits.{digitOf, areHex}
 use Rattle.questions.proofs.Passed.{hex-passed}
-use borrow.Author.Needs.{needs}
 use Rattle.questions.proofs.digits.are_hex.Statement.{statement}
 use Rattle.questions.proofs.digits.are_hex.Tie as tie
 
@@ -16,9 +10,6 @@ Inv-loop text i₀ i = (i ≤ length text) × (areHex text ≡ areHex (drop i te
 
 abbrev μ-loop : tie.MeasureT-loop
 μ-loop text i₀ i = length text - i
-
-loop-holds : tie.Need-loop-holds Inv-loop μ-loop
-loop-holds c = (omega arith, refl)
 
 returns : tie.Need-returns Inv-loop μ-loop
 returns c =
@@ -37,16 +28,4 @@ unfolding areHex
 returns-2 c = (sym ((c .before .loop .inv .1) ∙ ap areHex (drop-of-length-le (c .before .before .before .args .text .now) {i = (c .before .loop .i)} (omega arith))), refl)
 
 pub are-hex-spec : {M : Type 1} → statement M
-are-hex-spec =
-    tie.close
-    (tie.spec
-    Inv-loop
-    μ-loop
-    loop-holds
-    (λ c. search needs)
-    (λ c κs. search needs)
-    returns
-    (λ c. search needs)
-    (λ c. search needs)
-    loop-again
-    returns-2)
+are-hex-spec = tie.close (tie.spec Inv-loop μ-loop (λ c. (omega arith, refl)) (λ c. search needs) (λ c κs. search needs) returns (λ c. search needs) (λ c. search needs) loop-again returns-2)

@@ -1,10 +1,8 @@
 -- `questions::digits::read_bytes` meets its contract. The loop's invariant: the places passed are filled from the text. Assumes nothing.
-use mathlib.Core.Path.{_≡_, refl, ap₂, subst}
-use Prim.Native.Nat.{ℕ, _+_, _-_, _*_, _%_, _≤_}
-use native.Mathlib.Omega.{arith}
-use Rattle.questions.specs.Digits.{byteAt, upTo, bytesIn, Spelled}
-use Rattle.questions.proofs.Filled.{Filled, none, again, spelled}
-use borrow.Author.Needs.{needs}
+use Rattle.arithmetic.proofs.Kit.{_≡_, refl, ap₂, subst, ℕ, _+_, _-_, _*_, _%_, _≤_, arith, needs}
+use Rattle.questions.specs.Digits.{byteAt, bytesIn}
+use Rattle.pages.specs.Pages.{upTo, Holds}
+use Rattle.pages.proofs.Filled.{Filled, none, again, spelled}
 use Rattle.questions.proofs.digits.read_bytes.Statement.{statement}
 use Rattle.questions.proofs.digits.read_bytes.Tie as tie
 
@@ -14,24 +12,6 @@ Inv-loop text out₀ count i₀ out i = (i ≤ count) × Filled (byteAt text) ou
 abbrev μ-loop : tie.MeasureT-loop
 μ-loop text out₀ count i₀ out i = count - i
 
-loop-holds : tie.Need-loop-holds Inv-loop μ-loop
-loop-holds c = (omega arith, none)
-
-mul-digit : tie.Need-mul-digit Inv-loop μ-loop
-mul-digit c = omega (arith, (c .before .before .bytes-in .ensures))
-
-shared-slice-read-digit : tie.Need-shared-slice-read-digit Inv-loop μ-loop
-shared-slice-read-digit c = omega (arith, (c .before .before .before .bytes-in .ensures))
-
-mul-digit-2 : tie.Need-mul-digit-2 Inv-loop μ-loop
-mul-digit-2 c = omega (arith, (c .before .before .before .before .bytes-in .ensures))
-
-add-digit : tie.Need-add-digit Inv-loop μ-loop
-add-digit c = omega (arith, (c .before .before .before .before .bytes-in .ensures))
-
-shared-slice-read-digit-2 : tie.Need-shared-slice-read-digit-2 Inv-loop μ-loop
-shared-slice-read-digit-2 c = omega (arith, (c .before .before .before .before .before .bytes-in .ensures))
-
 slice-write-out : tie.Need-slice-write-out Inv-loop μ-loop
 slice-write-out c = omega (arith, (c .before .before .before .before .before .before .bytes-in .ensures), (c .before .before .before .before .before .loop .inv .1) .sized)
 
@@ -39,39 +19,20 @@ loop-again : tie.Need-loop-again Inv-loop μ-loop
 loop-again c =
     (omega arith, again (c .before .before .before .before .before .loop .inv .1) (omega (arith, (c .before .before .before .before .before .before .bytes-in .ensures))) (ap₂ (λ (h l : ℕ). h % 16 * 16 + l % 16) (c .before .before .digit .ensures) (c .digit2 .ensures)))
 
-same-length : tie.Need-same-length Inv-loop μ-loop
-same-length c = (c .before .loop .inv .1) .sized
-
 returns : tie.Need-returns Inv-loop μ-loop
 unfolding bytesIn
 returns c =
     let a = (c .before .before .before .before .before .args) in
     let all : (c .before .loop .i) ≡ (c .before .before .bytes-in .result) = omega arith in (
-      subst (λ (n : ℕ). Spelled (upTo (byteAt (a .text .now)) n) (c .before .loop .out) (c .before .before .bytes-in .result)) (c .before .before .bytes-in .ensures)
-          (subst (λ (n : ℕ). Spelled (upTo (byteAt (a .text .now)) n) (c .before .loop .out) n) all (spelled (c .before .loop .inv .1))),
+      subst (λ (n : ℕ). Holds (upTo (byteAt (a .text .now)) n) (c .before .loop .out) (c .before .before .bytes-in .result)) (c .before .before .bytes-in .ensures)
+          (subst (λ (n : ℕ). Holds (upTo (byteAt (a .text .now)) n) (c .before .loop .out) n) all (spelled (c .before .loop .inv .1))),
       refl,
     )
 
 pub read-bytes-spec : {M : Type 1} → statement M
 read-bytes-spec =
-    tie.close
-    (tie.spec
-    Inv-loop
-    μ-loop
-    (λ c κs. search needs)
-    loop-holds
-    mul-digit
-    shared-slice-read-digit
-    (λ c κs. search needs)
-    (λ c. search needs)
-    mul-digit-2
-    add-digit
-    shared-slice-read-digit-2
-    (λ c κs. search needs)
-    (λ c. search needs)
-    slice-write-out
-    (λ c. search needs)
-    (λ c. search needs)
-    loop-again
-    same-length
-    returns)
+    tie.close (tie.spec Inv-loop μ-loop (λ c κs. search needs) (λ c. (omega arith, none)) (λ c. omega (arith, (c .before .before .bytes-in .ensures)))
+    (λ c. omega (arith, (c .before .before .before .bytes-in .ensures))) (λ c κs. search needs) (λ c. search needs)
+    (λ c. omega (arith, (c .before .before .before .before .bytes-in .ensures))) (λ c. omega (arith, (c .before .before .before .before .bytes-in .ensures)))
+    (λ c. omega (arith, (c .before .before .before .before .before .bytes-in .ensures))) (λ c κs. search needs) (λ c. search needs) slice-write-out
+    (λ c. search needs) (λ c. search needs) loop-again (λ c. (c .before .loop .inv .1) .sized) returns)

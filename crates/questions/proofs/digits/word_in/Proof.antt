@@ -1,14 +1,8 @@
 -- `questions::digits::word_in` meets its contract. The loop's invariant: the digits from the position on, behind the value so far, spell the word. Assumes
 -- nothing.
-use mathlib.Core.Path.{_≡_, refl, sym, ap, _∙_}
-use Prim.Native.Nat.{ℕ, _+_, _-_, _*_, _%_, _^_, _≤_, _<_}
-use native.Mathlib.Omega.{arith}
-use borrow.Author.Tests.{le-leb, lt-leb}
-use lib.ListN.{length, getD, drop, drop-of-length-le}
-use lib.Dec.{lit<}
-use Rattle.questions.specs.Digits.{digitOf, hexFrom, wordIn}
+use Rattle.arithmetic.proofs.Kit.{_≡_, refl, sym, ap, _∙_, ℕ, _+_, _-_, _*_, _%_, _^_, _≤_, _<_, arith, le-leb, lt-leb, length, getD, drop, drop-of-length-le, lit<, needs}
+use Rattle.questions.specs.Digits.{digitOf, hexFrom, hexNumber}
 use Rattle.questions.proofs.Passed.{word-passed, longer, room}
-use borrow.Author.Needs.{needs}
 use Rattle.questions.proofs.digits.word_in.Statement.{statement}
 use Rattle.questions.proofs.digits.word_in.Tie as tie
 
@@ -17,16 +11,6 @@ Inv-loop text value₀ i₀ value i = (i ≤ length text) × ((value < 16 ^ i) �
 
 abbrev μ-loop : tie.MeasureT-loop
 μ-loop text value₀ i₀ value i = length text - i
-
-returns : tie.Need-returns Inv-loop μ-loop
-unfolding wordIn
-returns c = (rw (lt-leb _ _ (c .if1 .taken)), refl)
-
-loop-holds : tie.Need-loop-holds Inv-loop μ-loop
-loop-holds c = (omega arith, (lit< tt, refl))
-
-mul-value : tie.Need-mul-value Inv-loop μ-loop
-mul-value c = omega (arith, room (c .before .loop .i) (c .before .loop .inv .1 .0) (omega arith))
 
 add-value : tie.Need-add-value Inv-loop μ-loop
 add-value c = omega (arith, room (c .before .before .before .before .loop .i) (c .before .before .before .before .loop .inv .1 .0) (omega arith), (c .wide .ensures))
@@ -40,25 +24,13 @@ loop-again c =
     (omega arith, (rw d (longer i _ (c .before .before .before .before .loop .inv .1 .0)), (c .before .before .before .before .loop .inv .1 .1) ∙ word-passed s i (omega arith) v ∙ ap (λ (n : ℕ). hexFrom (v * 16 + n) (drop (i + 1) s)) (sym d)))
 
 returns-2 : tie.Need-returns-2 Inv-loop μ-loop
-unfolding wordIn hexFrom
+unfolding hexNumber hexFrom
 returns-2 c =
     let s = (c .before .before .before .before .args .text .now) in
     (rw (le-leb (length s) 16 (omega arith)) (sym ((c .before .loop .inv .1 .1) ∙ ap (hexFrom (c .before .loop .value)) (drop-of-length-le s {i = (c .before .loop .i)} (omega arith)))), refl)
 
 pub word-in-spec : {M : Type 1} → statement M
 word-in-spec =
-    tie.close
-    (tie.spec
-    Inv-loop
-    μ-loop
-    returns
-    loop-holds
-    mul-value
-    (λ c. search needs)
-    (λ c κs. search needs)
-    (λ c κs. search needs)
-    add-value
-    (λ c. search needs)
-    (λ c. search needs)
-    loop-again
-    returns-2)
+    tie.close (tie.spec Inv-loop μ-loop (λ c. unfold hexNumber in (rw (lt-leb _ _ (c .if1 .taken)), refl)) (λ c. (omega arith, (lit< tt, refl)))
+    (λ c. omega (arith, room (c .before .loop .i) (c .before .loop .inv .1 .0) (omega arith))) (λ c. search needs) (λ c κs. search needs) (λ c κs. search needs)
+    add-value (λ c. search needs) (λ c. search needs) loop-again returns-2)

@@ -1,17 +1,7 @@
 -- `questions::forms::is_of` meets its contract: each arm has its letter. Assumes nothing.
-use borrow.Author.Tests.{ne-eqb}
-use borrow.Author.Needs.{needs}
+use Rattle.arithmetic.proofs.Kit.{ne-eqb, needs}
 use Rattle.questions.proofs.forms.is_of.Statement.{statement}
 use Rattle.questions.proofs.forms.is_of.Tie as tie
-
-returns : tie.Need-returns
-returns c = rw (c .before .match .keys1) (c .is-record .ensures)
-
-returns-2 : tie.Need-returns-2
-returns-2 c = rw (c .before .match .keys2) (c .is-word-or-none .ensures)
-
-returns-3 : tie.Need-returns-3
-returns-3 c = rw (c .before .match .keys3) (c .is-number .ensures)
 
 returns-4 : tie.Need-returns-4
 returns-4 c =
@@ -20,13 +10,6 @@ returns-4 c =
 
 pub is-of-spec : {M : Type 1} → statement M
 is-of-spec =
-    tie.close
-    (tie.spec
-    (λ c κs. search needs)
-    (λ c κs. search needs)
-    (λ c κs. search needs)
-    (λ c κs. search needs)
-    returns
-    returns-2
-    returns-3
-    returns-4)
+    tie.close (tie.spec (λ c κs. search needs) (λ c κs. search needs) (λ c κs. search needs) (λ c κs. search needs)
+    (λ c. rw (c .before .match .keys1) (c .is-record .ensures)) (λ c. rw (c .before .match .keys2) (c .is-word-or-none .ensures))
+    (λ c. rw (c .before .match .keys3) (c .is-number .ensures)) returns-4)

@@ -1,15 +1,10 @@
 -- `questions::forms::put_kinds` meets its contract. The loop's invariant: the letters passed are on the page. Assumes nothing.
-use mathlib.Core.Path.{_≡_, refl, sym, ap, _∙_}
-use mathlib.Core.List.{List, [], _∷_, _++_, append-assoc, append-nil}
-use Prim.Native.Nat.{ℕ, _+_, _-_, _≤_}
-use native.Mathlib.Numerals.{add-one}
-use native.Mathlib.Omega.{arith}
-use lib.ListN.{length, getD, take}
-use lib.Seq.{take-suc, take-all}
-use Rattle.pieces.specs.Pieces.{Appended}
-use Rattle.pieces.proofs.Growing.{no-more, and-then, same-more}
+use Rattle.arithmetic.proofs.Kit.{_≡_, refl, sym, ap, _∙_, List, [], _∷_, _++_, append-assoc, append-nil, ℕ, _+_, _-_, _≤_, add-one, arith, length, getD, take, take-all, needs}
+use lib.Seq.{take-suc}
+use Rattle.pages.specs.Pages.{Appended}
+use Rattle.pages.proofs.Growing.{no-more, and-then, same-more}
+use Rattle.pages.proofs.Growing as growing
 use Rattle.questions.specs.Forms.{kindText, kindTexts}
-use borrow.Author.Needs.{needs}
 use Rattle.questions.proofs.forms.put_kinds.Statement.{statement}
 use Rattle.questions.proofs.forms.put_kinds.Tie as tie
 
@@ -28,10 +23,6 @@ one-more : (s : List ℕ) (i : ℕ) (b : ℕ) → take (i + 1) s ≡ take i s ++
 unfolding kindTexts
 one-more s i b e = sym (ap kindTexts e ∙ kinds-append (take i s) (b ∷ []) ∙ ap (λ (l : List ℕ). kindTexts (take i s) ++ l) (append-nil (kindText b)))
 
-loop-holds : tie.Need-loop-holds Inv-loop μ-loop
-unfolding kindTexts
-loop-holds c = (omega arith, no-more (c .before .before .args .page .now) (c .before .before .args .at))
-
 loop-again : tie.Need-loop-again Inv-loop μ-loop
 loop-again c =
     let s = (c .before .before .before .before .before .before .before .before .before .args .shape .now) in
@@ -39,23 +30,8 @@ loop-again c =
     let taken : take (i + 1) s ≡ take i s ++ (getD s i 0 ∷ []) = rw add-one (take-suc s i 0 (omega arith)) in
     (omega arith, same-more (one-more s i _ taken) (and-then (c .before .before .before .before .before .before .loop .inv .1) (c .before .before .put-kind .ensures)))
 
-same-length : tie.Need-same-length Inv-loop μ-loop
-same-length c = (c .before .loop .inv .1) .whole
-
-returns : tie.Need-returns Inv-loop μ-loop
-returns c = same-more (ap kindTexts (take-all (c .before .loop .i) (c .before .before .before .before .args .shape .now) (omega arith))) (c .before .loop .inv .1)
-
 pub put-kinds-spec : {M : Type 1} → statement M
 put-kinds-spec =
-    tie.close
-    (tie.spec
-    Inv-loop
-    μ-loop
-    loop-holds
-    (λ c. search needs)
-    (λ c κs. search needs)
-    (λ c. search needs)
-    (λ c. search needs)
-    loop-again
-    same-length
-    returns)
+    tie.close (tie.spec Inv-loop μ-loop (λ c. unfold kindTexts in (omega arith, no-more (c .before .before .args .page .now) (c .before .before .args .at)))
+    (λ c. search needs) (λ c κs. search needs) (λ c. search needs) (λ c. search needs) loop-again (λ c. growing.same-length (c .before .loop .inv .1))
+    (λ c. same-more (ap kindTexts (take-all (c .before .loop .i) (c .before .before .before .before .args .shape .now) (omega arith))) (c .before .loop .inv .1)))

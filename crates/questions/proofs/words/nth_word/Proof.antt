@@ -1,7 +1,6 @@
 -- `questions::words::nth_word` meets its contract. Assumes nothing.
-use mathlib.Core.Path.{refl, _∙_}
+use Rattle.arithmetic.proofs.Kit.{refl, _∙_, needs}
 use Rattle.questions.proofs.Split.{first-at}
-use borrow.Author.Needs.{needs}
 use Rattle.questions.proofs.words.nth_word.Statement.{statement}
 use Rattle.questions.proofs.words.nth_word.Tie as tie
 

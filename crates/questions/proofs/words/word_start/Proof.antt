@@ -1,17 +1,12 @@
 -- `questions::words::word_start` meets its contract. The loop's invariant: the word that is looked for is that many words after those passed. Assumes nothing.
-use mathlib.Core.Path.{_≡_, sym, ap, _∙_}
-use mathlib.Core.List.{List, [], _∷_}
-use Prim.Native.Nat.{ℕ, suc, _+_, _-_, _≤_}
-use native.Mathlib.Omega.{arith}
-use lib.ListN.{length, getD, drop, drop-of-length-le}
-use Rattle.questions.specs.Words.{words}
+use Rattle.arithmetic.proofs.Kit.{_≡_, sym, ap, _∙_, List, [], _∷_, ℕ, suc, _+_, _-_, _≤_, arith, length, getD, drop, drop-of-length-le, needs}
+use Rattle.questions.specs.Words.{lineParts}
 use Rattle.questions.proofs.Split.{next-at, last-at}
-use borrow.Author.Needs.{needs}
 use Rattle.questions.proofs.words.word_start.Statement.{statement}
 use Rattle.questions.proofs.words.word_start.Tie as tie
 
 abbrev Inv-loop : tie.InvT-loop
-Inv-loop line number at₀ i₀ at i = (at ≤ length line) × ((i ≤ number) × (getD (words (drop at line)) (number - i) [] ≡ getD (words line) number []))
+Inv-loop line number at₀ i₀ at i = (at ≤ length line) × ((i ≤ number) × (getD (lineParts (drop at line)) (number - i) [] ≡ getD (lineParts line) number []))
 
 abbrev μ-loop : tie.MeasureT-loop
 μ-loop line number at₀ i₀ at i = number - i
@@ -21,14 +16,14 @@ later : (w : List ℕ) (ws : List (List ℕ)) {n k : ℕ} → n ≡ suc k → ge
 later w ws e = ap (λ (n : ℕ). getD (w ∷ ws) n []) e
 
 -- there is none at a line's end
-at-the-end : (s : List ℕ) (end : ℕ) → length s ≤ end → getD (words (drop end s)) 0 [] ≡ []
-unfolding words
-at-the-end s end h = ap (λ (l : List ℕ). getD (words l) 0 []) (drop-of-length-le s h)
+at-the-end : (s : List ℕ) (end : ℕ) → length s ≤ end → getD (lineParts (drop end s)) 0 [] ≡ []
+unfolding lineParts
+at-the-end s end h = ap (λ (l : List ℕ). getD (lineParts l) 0 []) (drop-of-length-le s h)
 
 loop-holds : tie.Need-loop-holds Inv-loop μ-loop
 loop-holds c =
     let all : (c .before .args .number) - 0 ≡ (c .before .args .number) = omega arith in
-    (omega arith, (omega arith, ap (λ (n : ℕ). getD (words (c .before .args .line .now)) n []) all))
+    (omega arith, (omega arith, ap (λ (n : ℕ). getD (lineParts (c .before .args .line .now)) n []) all))
 
 returns : tie.Need-returns Inv-loop μ-loop
 returns c =
@@ -52,7 +47,7 @@ loop-again c =
       omega arith,
       (
         omega arith,
-        sym (later _ (words (drop ((c .before .find .result) + 1) s)) {n = number - i} {k = number - (i + 1)} (omega arith))
+        sym (later _ (lineParts (drop ((c .before .find .result) + 1) s)) {n = number - i} {k = number - (i + 1)} (omega arith))
             ∙ sym (ap (λ (ws : List (List ℕ)). getD ws (number - i) []) (next-at s (c .before .before .before .loop .at) (c .before .find .result) (c .before .find .ensures .0) (omega arith)))
             ∙ (c .before .before .before .loop .inv .1 .1),
       ),
@@ -62,19 +57,7 @@ returns-2 : tie.Need-returns-2 Inv-loop μ-loop
 returns-2 c =
     let s = (c .before .before .before .args .line .now) in
     let none : 0 ≡ (c .before .before .before .args .number) - (c .before .loop .i) = omega arith in
-    record { within = (c .before .loop .inv .0); first = ap (λ (n : ℕ). getD (words (drop (c .before .loop .at) s)) n []) none ∙ (c .before .loop .inv .1 .1) }
+    record { within = (c .before .loop .inv .0); first = ap (λ (n : ℕ). getD (lineParts (drop (c .before .loop .at) s)) n []) none ∙ (c .before .loop .inv .1 .1) }
 
 pub word-start-spec : {M : Type 1} → statement M
-word-start-spec =
-    tie.close
-    (tie.spec
-    Inv-loop
-    μ-loop
-    loop-holds
-    (λ c κs. search needs)
-    returns
-    (λ c. search needs)
-    (λ c. search needs)
-    (λ c. search needs)
-    loop-again
-    returns-2)
+word-start-spec = tie.close (tie.spec Inv-loop μ-loop loop-holds (λ c κs. search needs) returns (λ c. search needs) (λ c. search needs) (λ c. search needs) loop-again returns-2)

@@ -1,19 +1,14 @@
 -- `record::readings::read_fields` meets its contract. The loop's invariant: what is left of the record, read from the readings and the last tag so far, gives the
 -- whole record's outcome. Assumes nothing.
-use mathlib.Core.Path.{_≡_, refl, sym, ap, _∙_}
-use mathlib.Core.Bool.{Bool}
-use mathlib.Core.List.{List}
-use Prim.Native.Nat.{ℕ, _+_, _-_, _≤_, _<_}
-use native.Mathlib.Omega.{arith}
-use borrow.Author.Needs.{needs}
-use lib.ListN.{length, drop, drop-of-length-le}
+use Rattle.arithmetic.proofs.Kit.{_≡_, refl, sym, ap, _∙_, Bool, List, ℕ, _-_, _≤_, _<_, arith, needs, length, drop, drop-of-length-le}
 use Rattle.refusal.specs.Outcomes.{Outcome, accepted, checked, passed}
-use Rattle.entries.specs.declared.Slot.{Slot}
-use Rattle.entries.specs.declared.Readings.{Readings}
-use Rattle.fields.specs.Fields.{found, fieldOf, meanings}
-use Rattle.record.specs.Readings.{orderRows, readRecord, partsOf}
+use Rattle.record.specs.declared.entries.Slot.{Slot}
+use Rattle.record.specs.declared.entries.Readings.{Readings}
+use Rattle.fields.specs.Fields.{fieldOf, nextAt, stepped, meanings}
+use Rattle.record.specs.Readings.{orderRows, readRecord, readParts}
+use Rattle.fields.proofs.Heads.{step-found, step-refused, further}
 use Rattle.record.proofs.Walk.{no-bytes, read}
-use Rattle.record.proofs.Turn.{field-refuses, in-place, further, order-refuses, moves-on}
+use Rattle.record.proofs.Turn.{field-refuses, whole, in-place, order-refuses, moves-on}
 use Rattle.record.proofs.readings.read_fields.Statement.{statement}
 use Rattle.record.proofs.readings.read_fields.Tie as tie
 
@@ -30,12 +25,9 @@ Inv-loop bytes strict slots₀ last₀ at₀ slots last at = (at ≤ length byte
 abbrev μ-loop : tie.MeasureT-loop
 μ-loop bytes strict slots₀ last₀ at₀ slots last at = length bytes - at
 
-loop-holds : tie.Need-loop-holds Inv-loop μ-loop
-loop-holds c = (omega arith, refl)
-
 -- a refusal is that of the whole record
-refused-as : (strict : Bool) (s : List ℕ) {o : Outcome Readings} {p : Outcome (Unit {0}) × Readings} → readRecord strict s ≡ o → p ≡ partsOf o → p ≡ partsOf (readRecord strict s)
-refused-as strict s e h = h ∙ sym (ap partsOf e)
+refused-as : (strict : Bool) (s : List ℕ) {o : Outcome Readings} {p : Outcome (Unit {0}) × Readings} → readRecord strict s ≡ o → p ≡ readParts o → p ≡ readParts (readRecord strict s)
+refused-as strict s e h = h ∙ sym (ap readParts e)
 
 returns : tie.Need-returns Inv-loop μ-loop
 returns c =
@@ -43,12 +35,15 @@ returns c =
     let found-at = told .before .before in
     let a = found-at .before .before .before .before .args in
     let turn = found-at .before .before .loop in
-    (refused-as (a .strict) (a .bytes .now) (turn .inv .1 ∙ field-refuses (a .strict) (a .bytes .now) (turn .at) (from (turn .slots)) (turn .last) (found-at .before .loop-test .taken) (sym (found-at .field-from .ensures .0) ∙ ap found (told .refusal .given .1))) (c .refused .ensures), refl)
+    let refused-by = step-refused (a .bytes .now) (turn .at) (sym (found-at .step-from .ensures .0) ∙ ap stepped (told .refusal .given .1)) in
+    (refused-as (a .strict) (a .bytes .now) (turn .inv .1 ∙ field-refuses (a .strict) (a .bytes .now) (turn .at) (from (turn .slots)) (turn .last) (found-at .before .loop-test .taken) refused-by) (c .refused .ensures), refl)
 
--- the field that is found
-is-field : (c : tie.After-known-told2 Inv-loop μ-loop) → let found-at = c .before .before .before in
-    fieldOf (drop (found-at .before .before .loop .at) (found-at .before .before .before .before .args .bytes .now)) ≡ accepted (c .before .field .given .0 .0)
-is-field c = sym (c .before .before .before .field-from .ensures .0) ∙ ap found (c .before .field .given .1)
+-- the field that is found, and the position after it
+is-step : (c : tie.After-known-told2 Inv-loop μ-loop) → let found-at = c .before .before .before in let s = found-at .before .before .before .before .args .bytes .now in let at = found-at .before .before .loop .at in
+    (fieldOf (drop at s) ≡ accepted (c .before .field .given .0 .0)) × (c .before .field .given .0 .1 .0 ≡ nextAt s at)
+is-step c =
+    let found-at = c .before .before .before in
+    step-found (found-at .before .before .before .before .args .bytes .now) (found-at .before .before .loop .at) (sym (found-at .step-from .ensures .0) ∙ ap stepped (c .before .field .given .1))
 
 -- its meaning is one of the seven
 meant : (c : tie.After-known-told2 Inv-loop μ-loop) → c .before .field .given .0 .0 .meaning < meanings
@@ -56,10 +51,7 @@ meant c =
     let found-at = c .before .before .before in
     let a = found-at .before .before .before .before .args in
     let turn = found-at .before .before .loop in
-    in-place (a .strict) (a .bytes .now) (turn .at) (from (turn .slots)) (turn .last) (found-at .before .loop-test .taken) (is-field c)
-
-mul-slot : tie.Need-mul-slot Inv-loop μ-loop
-mul-slot c = omega (arith, meant c)
+    in-place (a .strict) (a .bytes .now) (turn .at) (from (turn .slots)) (turn .last) (found-at .before .loop-test .taken) (is-step c .0)
 
 -- the check of its order
 ordered : (c : tie.After-order-check Inv-loop μ-loop) → let field-at = c .before .before in let found-at = field-at .before .before .before in let turn = found-at .before .before .loop in
@@ -74,65 +66,37 @@ returns-2 c =
     let found-at = field-at .before .before .before in
     let a = found-at .before .before .before .before .args in
     let turn = found-at .before .before .loop in
-    let refused-by = order-refuses (a .strict) (a .bytes .now) (turn .at) (from (turn .slots)) (turn .last) (found-at .before .loop-test .taken) (is-field field-at) (order .order-check .result) (ordered order) (ap checked (told .refusal2 .given .1)) in
+    let refused-by = order-refuses (a .strict) (a .bytes .now) (turn .at) (from (turn .slots)) (turn .last) (found-at .before .loop-test .taken) (is-step field-at .0) (order .order-check .result) (ordered order) (ap checked (told .refusal2 .given .1)) in
     (refused-as (a .strict) (a .bytes .now) (turn .inv .1 ∙ refused-by) (c .refused2 .ensures), refl)
 
-mul-slots : tie.Need-mul-slots Inv-loop μ-loop
-mul-slots c = omega (arith, meant (c .before .before .before .before))
-
 -- the position after it
-on : (c : tie.After-known-told2 Inv-loop μ-loop) → let at = c .before .before .before .before .before .loop .at in let next = at + c .before .field .given .0 .0 .size in
-    (at < next) × (next ≤ length (c .before .before .before .before .before .before .before .args .bytes .now))
+on : (c : tie.After-known-told2 Inv-loop μ-loop) → let found-at = c .before .before .before in
+    (found-at .before .before .loop .at < c .before .field .given .0 .1 .0) × (c .before .field .given .0 .1 .0 ≤ length (found-at .before .before .before .before .args .bytes .now))
 on c =
     let found-at = c .before .before .before in
     let a = found-at .before .before .before .before .args in
     let turn = found-at .before .before .loop in
-    further (a .strict) (a .bytes .now) (turn .at) (from (turn .slots)) (turn .last) (found-at .before .loop-test .taken) (is-field c)
-
-add-at : tie.Need-add-at Inv-loop μ-loop
-add-at c = omega (arith, on (c .before .before .before .before .before))
-
-loop-less : tie.Need-loop-less Inv-loop μ-loop
-loop-less c = omega (arith, on (c .before .before .before .before .before))
+    further (a .bytes .now) (turn .at) (c .before .field .given .0 .1 .0) (is-step c .1)
+    (whole (a .strict) (a .bytes .now) (turn .at) (from (turn .slots)) (turn .last) (found-at .before .loop-test .taken) (is-step c .0))
 
 loop-again : tie.Need-loop-again Inv-loop μ-loop
 loop-again c =
-    let told = c .before in
-    let order = told .before .before in
+    let order = c .before .before in
     let field-at = order .before .before in
     let found-at = field-at .before .before .before in
     let a = found-at .before .before .before .before .args in
     let turn = found-at .before .before .loop in
-    (on field-at .1, turn .inv .1 ∙ moves-on (a .strict) (a .bytes .now) (turn .at) (from (turn .slots)) (turn .last) (found-at .before .loop-test .taken) (is-field field-at) (order .order-check .result) (ordered order) (ap checked (told .enum-told .given .1)))
+    (on field-at .1, turn .inv .1 ∙ moves-on (a .strict) (a .bytes .now) (turn .at) (from (turn .slots)) (turn .last) (found-at .before .loop-test .taken) (is-step field-at .0) (order .order-check .result) (ordered order) (ap checked (c .enum-told .given .1)) (field-at .before .field .given .0 .1 .0) (is-step field-at .1))
 
 returns-3 : tie.Need-returns-3 Inv-loop μ-loop
 returns-3 c =
     let a = c .before .before .before .args in
     let turn = c .before .loop in
-    (sym (ap partsOf (turn .inv .1 ∙ ap (read (a .strict) (from (turn .slots)) (turn .last)) (drop-of-length-le (a .bytes .now) (c .loop-test .left)) ∙ no-bytes (a .strict) 0 (from (turn .slots)) (turn .last))), refl)
+    (sym (ap readParts (turn .inv .1 ∙ ap (read (a .strict) (from (turn .slots)) (turn .last)) (drop-of-length-le (a .bytes .now) (c .loop-test .left)) ∙ no-bytes (a .strict) (from (turn .slots)) (turn .last))), refl)
 
 pub read-fields-spec : {M : Type 1} → statement M
 read-fields-spec =
-    tie.close
-    (tie.spec
-    Inv-loop
-    μ-loop
-    loop-holds
-    (λ c κs. search needs)
-    (λ c. search needs)
-    (λ c κs. search needs)
-    returns
-    (λ c. search needs)
-    mul-slot
-    meant
-    (λ c κs. search needs)
-    (λ c. search needs)
-    (λ c κs. search needs)
-    returns-2
-    (λ c. search needs)
-    mul-slots
-    (λ c. meant (c .before .before .before .before))
-    add-at
-    loop-less
-    loop-again
-    returns-3)
+    tie.close (tie.spec Inv-loop μ-loop (λ c. (omega arith, refl)) (λ c κs. search needs) (λ c. search needs) (λ c κs. search needs) returns (λ c. search needs)
+    (λ c. omega (arith, meant c)) meant (λ c κs. search needs) (λ c. search needs) (λ c κs. search needs) returns-2 (λ c. search needs)
+    (λ c. omega (arith, meant (c .before .before .before .before))) (λ c. meant (c .before .before .before .before))
+    (λ c. omega (arith, on (c .before .before .before .before))) loop-again returns-3)

@@ -1,10 +1,7 @@
 -- `record::readings::refused` meets its contract. Assumes nothing.
-use borrow.Author.Needs.{needs}
+use Rattle.arithmetic.proofs.Kit.{needs}
 use Rattle.record.proofs.readings.refused.Statement.{statement}
 use Rattle.record.proofs.readings.refused.Tie as tie
 
-returns : tie.Need-returns
-returns c = cc
-
 pub refused-spec : {M : Type 1} → statement M
-refused-spec = tie.close (tie.spec (λ c κs. search needs) returns)
+refused-spec = tie.close (tie.spec (λ c κs. search needs) (λ c. cc))

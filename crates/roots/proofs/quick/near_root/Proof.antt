@@ -1,9 +1,6 @@
 -- `roots::quick::near_root` meets its contract: each of its numbers has a bound, and the product of two bounds is below 2 ^ 64. Assumes nothing.
-use Prim.Native.Nat.{ℕ, _+_, _-_, _*_, _/_, _%_, _^_, _≤_, _<_}
-use native.Mathlib.Nat.{le-trans, lt-trans, lt-of-le-of-lt, add-le-add, mul-le-mul, div-le-of-le-mul}
-use native.Mathlib.Omega.{arith}
-use borrow.Author.Needs.{needs}
-use lib.Dec.{T, leb, ltb, lit≤, lit<}
+use Rattle.arithmetic.proofs.Kit.{ℕ, _+_, _-_, _*_, _/_, _%_, _^_, _≤_, _<_, le-trans, lt-of-le-of-lt, mul-le-mul, arith, needs, T, leb, ltb, lit≤, lit<}
+use native.Mathlib.Nat.{lt-trans, add-le-add, div-le-of-le-mul}
 use Rattle.roots.proofs.quick.near_root.Statement.{statement}
 use Rattle.roots.proofs.quick.near_root.Tie as tie
 
@@ -93,57 +90,6 @@ module _ (c : tie.Start) where
   s-le : s ≤ 2 ^ 44 + 2 ^ 36
   s-le = omega (arith, c .pre .0, part-le (2 ^ 31) (2 ^ 32 + 2 ^ 15) (2 ^ 28) (2 ^ 36) d-le p-le tt)
 
-mul-d : tie.Need-mul-d
-mul-d c = record { fits = product-fits (3 * 2 ^ 29) (2 ^ 32 - 1) (rest-le c) (i-le c) tt }
-
-mul-u : tie.Need-mul-u
-mul-u c = record { fits = product-fits (2 ^ 32 - 1) (2 ^ 32 - 1) (i-le c) (i-le c) tt }
-
-mul-u-2 : tie.Need-mul-u-2
-mul-u-2 c = record { fits = product-fits (3 * 2 ^ 29) (2 ^ 32 - 1) (rest-le c) (square-le c) tt }
-
-mul-square : tie.Need-mul-square
-mul-square c = record { fits = product-fits (3 * 2 ^ 22) (3 * 2 ^ 22) (u-le c) (u-le c) tt }
-
-mul-cube : tie.Need-mul-cube
-mul-cube c = record { fits = product-fits (3 * 2 ^ 22) 5 (u-le c) (lit≤ tt) tt }
-
-sub-p : tie.Need-sub-p
-sub-p c = omega (arith, u-le c)
-
-sub-p-2 : tie.Need-sub-p-2
-sub-p-2 c = le-trans (cube-le c) (lit≤ tt)
-
-mul-p : tie.Need-mul-p
-mul-p c = record { fits = product-fits (9 * 2 ^ 44) (2 ^ 16) (uu-le c) (omega arith) tt }
-
-add-p : tie.Need-add-p
-add-p c = record { fits = lt-of-le-of-lt (p-le c) (lit< tt) }
-
-sub-q : tie.Need-sub-q
-sub-q c = le-trans (u-le c) (lit≤ tt)
-
-sub-q-2 : tie.Need-sub-q-2
-sub-q-2 c = le-trans (cube-le c) (lit≤ tt)
-
-mul-q : tie.Need-mul-q
-mul-q c = record { fits = product-fits (9 * 2 ^ 44) 49152 (uu-le c) (omega arith) tt }
-
-add-q : tie.Need-add-q
-add-q c = record { fits = omega (arith, more-q-le c) }
-
-mul-half : tie.Need-mul-half
-mul-half c = record { fits = product-fits (2 ^ 32 - 1) (2 ^ 31 + 2 ^ 15) (i-le c) (q-le c) tt }
-
-mul-s-2 : tie.Need-mul-s-2
-mul-s-2 c = record { fits = product-fits (2 ^ 31) (2 ^ 32 + 2 ^ 15) (d-le c) (p-le c) tt }
-
-add-s : tie.Need-add-s
-add-s c = record { fits = lt-of-le-of-lt (s-le c) (lit< tt) }
-
-mul-result : tie.Need-mul-result
-mul-result c = record { fits = product-fits (2 ^ 44 + 2 ^ 36) (2 ^ 19) (s-le (c .before .before .before)) (lit≤ tt) tt }
-
 mul-result-2 : tie.Need-mul-result-2
 mul-result-2 c = record { fits = product-fits (2 ^ 31 - 1) (2 ^ 32 + 2 ^ 16) (low-bits (c .wrapping-sub-u64 .result / 2 ^ 19)) (half-le (c .before .before .before)) tt }
 
@@ -153,37 +99,18 @@ returns c =
     (add-le-add (mul-le-mul (s-le (c .before .before .before)) (lit≤ {m = 2 ^ 19} {n = 2 ^ 19} tt)) (part-le (2 ^ 31 - 1) (2 ^ 32 + 2 ^ 16) (2 ^ 38) (2 ^ 26) (low-bits (c .wrapping-sub-u64 .result / 2 ^ 19)) (half-le (c .before .before .before)) tt))
     (lit< tt)
 
-add-result : tie.Need-add-result
-add-result c = record { fits = lt-trans (returns c) (lit< tt) }
-
 pub near-root-spec : {M : Type 1} → statement M
 near-root-spec =
-    tie.close
-    (tie.spec
-    (λ c. search needs)
-    (λ c. search needs)
-    (λ c. search needs)
-    mul-d
-    mul-u
-    mul-u-2
-    mul-square
-    mul-cube
-    sub-p
-    sub-p-2
-    mul-p
-    add-p
-    sub-q
-    sub-q-2
-    mul-q
-    add-q
-    mul-half
-    (λ c. search needs)
-    mul-s-2
-    add-s
-    (λ c κs. search needs)
-    (λ c κs. search needs)
-    (λ c κs. search needs)
-    mul-result
-    mul-result-2
-    add-result
-    returns)
+    tie.close (tie.spec (λ c. search needs) (λ c. search needs) (λ c. search needs)
+    (λ c. record { fits = product-fits (3 * 2 ^ 29) (2 ^ 32 - 1) (rest-le c) (i-le c) tt })
+    (λ c. record { fits = product-fits (2 ^ 32 - 1) (2 ^ 32 - 1) (i-le c) (i-le c) tt })
+    (λ c. record { fits = product-fits (3 * 2 ^ 29) (2 ^ 32 - 1) (rest-le c) (square-le c) tt })
+    (λ c. record { fits = product-fits (3 * 2 ^ 22) (3 * 2 ^ 22) (u-le c) (u-le c) tt })
+    (λ c. record { fits = product-fits (3 * 2 ^ 22) 5 (u-le c) (lit≤ tt) tt }) (λ c. omega (arith, u-le c)) (λ c. le-trans (cube-le c) (lit≤ tt))
+    (λ c. record { fits = product-fits (9 * 2 ^ 44) (2 ^ 16) (uu-le c) (omega arith) tt }) (λ c. record { fits = lt-of-le-of-lt (p-le c) (lit< tt) })
+    (λ c. le-trans (u-le c) (lit≤ tt)) (λ c. le-trans (cube-le c) (lit≤ tt)) (λ c. record { fits = product-fits (9 * 2 ^ 44) 49152 (uu-le c) (omega arith) tt })
+    (λ c. record { fits = omega (arith, more-q-le c) }) (λ c. record { fits = product-fits (2 ^ 32 - 1) (2 ^ 31 + 2 ^ 15) (i-le c) (q-le c) tt })
+    (λ c. search needs) (λ c. record { fits = product-fits (2 ^ 31) (2 ^ 32 + 2 ^ 15) (d-le c) (p-le c) tt })
+    (λ c. record { fits = lt-of-le-of-lt (s-le c) (lit< tt) }) (λ c κs. search needs) (λ c κs. search needs) (λ c κs. search needs)
+    (λ c. record { fits = product-fits (2 ^ 44 + 2 ^ 36) (2 ^ 19) (s-le (c .before .before .before)) (lit≤ tt) tt }) mul-result-2
+    (λ c. record { fits = lt-trans (returns c) (lit< tt) }) returns)

@@ -1,5 +1,5 @@
 -- `roots::quick::number` meets its contract: the upper word alone has the quotient. Assumes nothing.
-use native.Mathlib.Omega.{arith}
+use Rattle.arithmetic.proofs.Kit.{arith}
 use Rattle.roots.proofs.Entry.{number-of}
 use Rattle.roots.proofs.quick.number.Statement.{statement}
 use Rattle.roots.proofs.quick.number.Tie as tie

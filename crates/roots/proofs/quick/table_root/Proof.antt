@@ -1,13 +1,6 @@
 -- `roots::quick::table_root` meets its contract: its tests are those of `served`, and what they ask for is what `root_from` wants. Assumes nothing.
-use mathlib.Core.Path.{_≡_, refl, sym, ap, _∙_, subst}
-use mathlib.Core.List.{List}
-use Prim.Native.Nat.{ℕ, _+_, _-_, _*_, _/_, _%_, _^_, _≤_, _<_}
-use native.Mathlib.Nat.{le-trans, lt-of-lt-of-le, mul-le-mul}
-use native.Mathlib.Omega.{arith}
-use borrow.Author.Needs.{needs}
-use lib.Dec.{lit≤}
-use lib.ListN.{getD}
-use Rattle.wide.specs.Root.{root}
+use Rattle.arithmetic.proofs.Kit.{_≡_, refl, sym, ap, _∙_, subst, List, ℕ, _+_, _-_, _*_, _/_, _%_, _^_, _≤_, _<_, le-trans, lt-of-lt-of-le, mul-le-mul, arith, needs, lit≤, getD}
+use Rattle.roots.specs.Root.{root}
 use Rattle.roots.specs.declared.quick.TableRoot.the-variants.{Root, NotServed}
 use Rattle.roots.specs.Quick.{tableRoot}
 use Rattle.roots.proofs.Entry.{number-of, Serves, entryFor, is-served, is-not-served}
@@ -48,12 +41,6 @@ add-top c =
     let place = c .before .before .before .before .before .before .before in
     let n = place .before .args .n in
     record { fits = top-fits (n .hi) (n .lo) (upper-word (λ (p : ℕ). p < 1024) (n .hi) (n .lo) (omega arith) (place .number .ensures) (c .before .before .before .before .before .if2 .taken)) (omega arith) }
-
-mul-wrapping-sub-u64 : tie.Need-mul-wrapping-sub-u64
-mul-wrapping-sub-u64 c = omega (arith, square-le _ (c .if3 .taken))
-
-mul-wrapping-sub-u64-2 : tie.Need-mul-wrapping-sub-u64-2
-mul-wrapping-sub-u64-2 c = omega (arith, square-le _ (c .if3 .taken))
 
 root-from-requires : tie.Need-root-from-requires
 root-from-requires c κs =
@@ -108,33 +95,9 @@ returns c =
 returns-2 : tie.Need-returns-2
 returns-2 c = entry-far _ _ (c .before .before .before .before .before .before .before .before .before .before .number .ensures) (top-of _ _) (omega arith) (c .before .wrapping-sub-u64 .ensures) (le-trans (lit≤ tt) (c .if4 .left))
 
-returns-3 : tie.Need-returns-3
-returns-3 c = entry-great _ _ (c .before .before .before .before .before .before .before .before .number .ensures) (c .if3 .left)
-
-returns-4 : tie.Need-returns-4
-returns-4 c = number-high _ _ (c .before .before .number .ensures) (c .if2 .left)
-
-returns-5 : tie.Need-returns-5
-returns-5 c = number-low _ _ (c .before .number .ensures) (c .if1 .left)
-
 pub table-root-spec : {M : Type 1} → statement M
 table-root-spec =
-    tie.close
-    (tie.spec
-    (λ c κs. search needs)
-    (λ c. search needs)
-    (λ c. search needs)
-    (λ c. search needs)
-    (λ c. search needs)
-    (λ c κs. search needs)
-    mul-top
-    add-top
-    mul-wrapping-sub-u64
-    mul-wrapping-sub-u64-2
-    (λ c κs. search needs)
-    root-from-requires
-    returns
-    returns-2
-    returns-3
-    returns-4
-    returns-5)
+    tie.close (tie.spec (λ c κs. search needs) (λ c. search needs) (λ c. search needs) (λ c. search needs) (λ c. search needs) (λ c κs. search needs) mul-top
+    add-top (λ c. omega (arith, square-le _ (c .if3 .taken))) (λ c. omega (arith, square-le _ (c .if3 .taken))) (λ c κs. search needs) root-from-requires
+    returns returns-2 (λ c. entry-great _ _ (c .before .before .before .before .before .before .before .before .number .ensures) (c .if3 .left))
+    (λ c. number-high _ _ (c .before .before .number .ensures) (c .if2 .left)) (λ c. number-low _ _ (c .before .number .ensures) (c .if1 .left)))

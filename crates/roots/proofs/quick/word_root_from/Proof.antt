@@ -1,10 +1,6 @@
 -- `roots::quick::word_root_from` meets its contract: two steps of Newton's iteration from the table's entry lead to the root or one more. Assumes nothing.
-use mathlib.Core.Path.{_≡_, _∙_, subst}
-use Prim.Native.Nat.{ℕ, zero, suc, _+_, _-_, _*_, _^_, _≤_, _<_, suc-le-suc}
-use native.Mathlib.Nat.{le-trans, mul-mul-mul-comm, mul-le-mul, mul-le-mul-right}
-use native.Mathlib.Numerals.{add-one}
-use native.Mathlib.Omega.{arith}
-use Rattle.wide.proofs.Root.{is-root, roots-le}
+use Rattle.arithmetic.proofs.Kit.{_≡_, _∙_, subst, ℕ, zero, suc, _+_, _-_, _*_, _^_, _≤_, _<_, suc-le-suc, le-trans, mul-mul-mul-comm, mul-le-mul, mul-le-mul-right, add-one, arith}
+use Rattle.roots.proofs.Root.{is-root, roots-le}
 use Rattle.roots.proofs.roots.Newton.{step, step-above, step-near, quotient-lt}
 use Rattle.roots.proofs.roots.Halves.{next-square}
 use Rattle.roots.proofs.quick.word_root_from.Statement.{statement}
@@ -78,36 +74,6 @@ module _ (c : tie.Start) where
   less : Less top (step top near - 1)
   less = less-of top (step top near) (c .fits .top .fits) second
 
-mul-start : tie.Need-mul-start
-mul-start c = omega (arith, known c)
-
-div-near : tie.Need-div-near
-div-near c = omega (arith, known c)
-
-add-near : tie.Need-add-near
-add-near c = omega (arith, known c, quotient-lt (top c) (c .args .e * 2 ^ 17) (c .fits .top .fits) (known c .low))
-
-div-less : tie.Need-div-less
-div-less c = omega (arith, first c)
-
-add-less : tie.Need-add-less
-add-less c = omega (arith, first c, quotient-lt (top c) (near c) (c .fits .top .fits) (again (top c) (near c) (first c) .low))
-
-sub-less : tie.Need-sub-less
-sub-less c = omega (arith, second c)
-
-mul-if1 : tie.Need-mul-if1
-mul-if1 c = omega (arith, less c)
-
-mul-if1-2 : tie.Need-mul-if1-2
-mul-if1-2 c = omega (arith, less c)
-
-sub-if1 : tie.Need-sub-if1
-sub-if1 c = less c .square
-
-add-result : tie.Need-add-result
-add-result c = omega (arith, less (c .before))
-
 returns : tie.Need-returns
 returns c =
     let n = top (c .before) in
@@ -121,4 +87,8 @@ returns-2 c =
     is-root n r (less (c .before) .square, omega (arith, less (c .before), next-square r))
 
 pub word-root-from-spec : {M : Type 1} → statement M
-word-root-from-spec = tie.close (tie.spec mul-start div-near add-near div-less add-less sub-less mul-if1 mul-if1-2 sub-if1 add-result returns returns-2)
+word-root-from-spec =
+    tie.close (tie.spec (λ c. omega (arith, known c)) (λ c. omega (arith, known c))
+    (λ c. omega (arith, known c, quotient-lt (top c) (c .args .e * 2 ^ 17) (c .fits .top .fits) (known c .low))) (λ c. omega (arith, first c))
+    (λ c. omega (arith, first c, quotient-lt (top c) (near c) (c .fits .top .fits) (again (top c) (near c) (first c) .low))) (λ c. omega (arith, second c))
+    (λ c. omega (arith, less c)) (λ c. omega (arith, less c)) (λ c. less c .square) (λ c. omega (arith, less (c .before))) returns returns-2)

@@ -1,16 +1,8 @@
 -- `roots::roots::doubled_root` meets its contract: it is the step of `root`'s definition. Assumes nothing.
-use mathlib.Core.Path.{_≡_, sym, ap, _∙_, subst}
-use Prim.Native.Nat.{ℕ, suc, _+_, _-_, _*_, _/_, _%_, _^_, _≤_, _<_, suc-le-suc}
-use native.Mathlib.Nat.{div-lt-iff-lt-mul}
-use native.Mathlib.Numerals.{add-one}
-use native.Mathlib.Omega.{arith}
-use lib.Dec.{lit<}
-use lib.Arith.{digits-lt}
+use Rattle.arithmetic.proofs.Kit.{_≡_, sym, ap, _∙_, subst, ℕ, suc, _+_, _-_, _*_, _/_, _%_, _^_, _≤_, _<_, suc-le-suc, div-lt-iff-lt-mul, add-one, arith, lit<, digits-lt, needs, leb-true, leb-false}
 use mir.Facts.{fits-cat}
-use borrow.Author.Needs.{needs}
-use borrow.Author.Tests.{leb-true, leb-false}
-use Rattle.wide.specs.Root.{root}
-use Rattle.wide.proofs.Root.{IsRoot, of-root, is-root, roots-le, odd-root, even-root}
+use Rattle.roots.specs.Root.{root}
+use Rattle.roots.proofs.Root.{IsRoot, of-root, is-root, roots-le, odd-root, even-root}
 use Rattle.roots.proofs.roots.doubled_root.Statement.{statement}
 use Rattle.roots.proofs.roots.doubled_root.Tie as tie
 
@@ -45,27 +37,6 @@ module _ (c : tie.After-normal-root) where
   even : n < (2 * t + 1) * (2 * t + 1) → 2 * t ≡ root n
   even h = is-root n (2 * t) (even-root n t quarter-root (subst (λ (x : ℕ). n < x * x) (add-one (2 * t)) h))
 
-mul-normal-root : tie.Need-mul-normal-root
-mul-normal-root c = search needs
-
-add-normal-root : tie.Need-add-normal-root
-add-normal-root c = fits-cat 2 62 tt (omega arith) (omega arith)
-
-normal-root-requires : tie.Need-normal-root-requires
-normal-root-requires c κs = search needs
-
-mul-even : tie.Need-mul-even
-mul-even c = omega (arith, short c)
-
-add-odd : tie.Need-add-odd
-add-odd c = omega (arith, short c)
-
-product-requires : tie.Need-product-requires
-product-requires c κs = search needs
-
-at-most-requires : tie.Need-at-most-requires
-at-most-requires c κs = search needs
-
 returns : tie.Need-returns
 returns c =
     let at-product = c .before .before in
@@ -77,4 +48,6 @@ returns-2 c =
     even (at-product .before) (subst (λ (x : ℕ). n (at-product .before) < x) (at-product .product .ensures) (leb-false _ _ (sym (c .before .at-most .ensures) ∙ c .if1 .left)))
 
 pub doubled-root-spec : {M : Type 1} → statement M
-doubled-root-spec = tie.close (tie.spec mul-normal-root add-normal-root normal-root-requires mul-even add-odd product-requires at-most-requires returns returns-2)
+doubled-root-spec =
+    tie.close (tie.spec (λ c. search needs) (λ c. fits-cat 2 62 tt (omega arith) (omega arith)) (λ c κs. search needs) (λ c. omega (arith, short c))
+    (λ c. omega (arith, short c)) (λ c κs. search needs) (λ c κs. search needs) returns returns-2)

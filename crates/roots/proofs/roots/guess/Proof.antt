@@ -1,8 +1,5 @@
 -- `roots::roots::guess` meets its contract: a step of Newton's iteration leads to no less than the root. Assumes nothing.
-use Prim.Native.Nat.{ℕ, _+_, _-_, _*_, _/_, _^_, _≤_, _<_}
-use native.Mathlib.Nat.{mul-le-mul}
-use native.Mathlib.Omega.{arith}
-use borrow.Author.Needs.{needs}
+use Rattle.arithmetic.proofs.Kit.{ℕ, _+_, _-_, _*_, _/_, _^_, _≤_, _<_, mul-le-mul, arith, needs}
 use Rattle.roots.proofs.roots.Newton.{step-above, quotient-lt}
 use Rattle.roots.proofs.roots.guess.Statement.{statement}
 use Rattle.roots.proofs.roots.guess.Tie as tie
@@ -17,29 +14,8 @@ parabola-le x h = omega (arith, mul-le-mul {n₁ = x} {m₁ = 17650000 - 81 * x}
 near-le : (c : tie.Start) → c .args .n / 2 ^ 48 * (17650000 - 81 * (c .args .n / 2 ^ 48)) ≤ 2 ^ 41
 near-le c = parabola-le (c .args .n / 2 ^ 48) (omega arith)
 
-mul-near : tie.Need-mul-near
-mul-near c = search needs
-
-sub-near : tie.Need-sub-near
-sub-near c = search needs
-
-mul-near-2 : tie.Need-mul-near-2
-mul-near-2 c = omega (arith, near-le c)
-
-add-near : tie.Need-add-near
-add-near c = omega (arith, near-le c)
-
-div-next : tie.Need-div-next
-div-next c = search needs
-
-add-next : tie.Need-add-next
-add-next c = omega (arith, near-le c, quotient-lt (c .args .n) (near (c .args .n)) (c .fits .n .fits) (omega arith))
-
-returns : tie.Need-returns
-returns c = (step-above (c .before .args .n) _ (omega arith), search needs)
-
-returns-2 : tie.Need-returns-2
-returns-2 c = search needs
-
 pub guess-spec : {M : Type 1} → statement M
-guess-spec = tie.close (tie.spec mul-near sub-near mul-near-2 add-near div-next add-next returns returns-2)
+guess-spec =
+    tie.close (tie.spec (λ c. search needs) (λ c. search needs) (λ c. omega (arith, near-le c)) (λ c. omega (arith, near-le c)) (λ c. search needs)
+    (λ c. omega (arith, near-le c, quotient-lt (c .args .n) (near (c .args .n)) (c .fits .n .fits) (omega arith)))
+    (λ c. (step-above (c .before .args .n) _ (omega arith), search needs)) (λ c. search needs))

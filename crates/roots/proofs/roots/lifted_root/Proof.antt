@@ -1,14 +1,8 @@
 -- `roots::roots::lifted_root` meets its contract: shifted left by twice j the number has 125 or 126 bits, and its root has j bits more. Assumes nothing.
-use mathlib.Core.Path.{_≡_, sym, ap, _∙_, subst}
-use Prim.Native.Nat.{ℕ, suc, _+_, _-_, _*_, _/_, _^_, _≤_, _<_}
-use native.Mathlib.Nat.{le-trans, lt-trans, lt-of-not-le, not-le-of-lt, mod-eq-of-lt}
-use native.Mathlib.Omega.{arith}
-use lib.Dec.{lit<}
-use lib.Pow.{pow-mono}
-use lib.Count.{leadingZeros, leading-top}
-use borrow.Author.Needs.{needs}
-use Rattle.wide.specs.Root.{root}
-use Rattle.wide.proofs.Root.{root-shifted}
+use Rattle.arithmetic.proofs.Kit.{_≡_, sym, ap, _∙_, subst, ℕ, suc, _+_, _-_, _*_, _/_, _^_, _≤_, _<_, le-trans, lt-of-not-le, not-le-of-lt, mod-eq-of-lt, arith, lit<, pow-mono, leadingZeros, leading-top, needs}
+use native.Mathlib.Nat.{lt-trans}
+use Rattle.roots.specs.Root.{root}
+use Rattle.roots.proofs.Root.{root-shifted}
 use Rattle.roots.proofs.roots.Places.{Top, shifted-top, joined-top, between, upper-word}
 use Rattle.roots.proofs.roots.lifted_root.Statement.{statement}
 use Rattle.roots.proofs.roots.lifted_root.Tie as tie
@@ -52,25 +46,10 @@ module _ (c : tie.After-shifted-left) where
   shifted : c .shifted-left .result .hi * 2 ^ 64 + c .shifted-left .result .lo ≡ n
   shifted = c .shifted-left .ensures ∙ mod-eq-of-lt (lt-trans (bounds .1) (lit< tt))
 
-sub-j : tie.Need-sub-j
-sub-j c = omega (arith, place-of (c .args .hi) (c .pre .0) (c .pre .1))
-
-mul-shifted-left : tie.Need-mul-shifted-left
-mul-shifted-left c = omega (arith, place-of (c .args .hi) (c .pre .0) (c .pre .1))
-
-shifted-left-requires : tie.Need-shifted-left-requires
-shifted-left-requires c κs = search needs
-
 normal-root-requires : tie.Need-normal-root-requires
 normal-root-requires c κs =
     upper-word (c .shifted-left .result .hi) (c .shifted-left .result .lo) (2 ^ 64) (2 ^ 60) (2 ^ 62) (omega arith)
     (subst (λ (x : ℕ). (2 ^ 124 ≤ x) × (x < 2 ^ 126)) (sym (shifted c)) (bounds c))
-
-cast-result : tie.Need-cast-result
-cast-result c = omega (arith, known (c .before))
-
-shr-result : tie.Need-shr-result
-shr-result c = omega (arith, known (c .before))
 
 returns : tie.Need-returns
 returns c =
@@ -78,4 +57,7 @@ returns c =
     ∙ root-shifted (hi (c .before) * 2 ^ 64 + lo (c .before)) (half (hi (c .before)))
 
 pub lifted-root-spec : {M : Type 1} → statement M
-lifted-root-spec = tie.close (tie.spec sub-j mul-shifted-left shifted-left-requires normal-root-requires cast-result shr-result returns)
+lifted-root-spec =
+    tie.close (tie.spec (λ c. omega (arith, place-of (c .args .hi) (c .pre .0) (c .pre .1)))
+    (λ c. omega (arith, place-of (c .args .hi) (c .pre .0) (c .pre .1))) (λ c κs. search needs) normal-root-requires (λ c. omega (arith, known (c .before)))
+    (λ c. omega (arith, known (c .before))) returns)

@@ -1,19 +1,9 @@
 -- `sheet::page::celsius` meets its contract. Assumes nothing.
-use mathlib.Core.Path.{_≡_, ap, _∙_}
-use mathlib.Core.Bool.{Bool, true, false, cond}
-use Prim.Native.Nat.{ℕ, suc, _-_, _^_, _<_}
-use native.Mathlib.Nat.{lt-of-lt-of-le}
-use native.Mathlib.Omega.{arith}
-use borrow.Author.Needs.{needs}
-use lib.Dec.{leb, lit≤}
-use lib.IntN.{ℤ, pos, negsuc, _-ℤ_}
+use Rattle.arithmetic.proofs.Kit.{_≡_, ap, _∙_, Bool, true, false, cond, ℕ, suc, _-_, _^_, _<_, lt-of-lt-of-le, arith, needs, leb, lit≤, ℤ, pos, negsuc, _-ℤ_, binary64, minus, ofInt, SFits, toZ, w32}
 use lib.Signed.{mag}
-use lib.Ieee.{binary64, minus, ofInt}
-use mir.Val.{SFits, toZ}
 use mir.Facts.{toZ-pos, toZ-ofZ}
-use mir.Syntax.{w32}
 use Rattle.arithmetic.proofs.Differences.{minus-is}
-use Rattle.sheet.specs.Sheet.{celsius}
+use Rattle.sheet.specs.Sheet.{celsiusOfRow}
 use Rattle.sheet.proofs.page.celsius.Statement.{statement}
 use Rattle.sheet.proofs.page.celsius.Tie as tie
 
@@ -31,14 +21,11 @@ module _ (n : ℕ) (h : n < 51) where
   difference-fits : SFits w32 (toZ w32 n -ℤ pos 10)
   difference-fits = rw difference (record { sfits = small })
 
-sub-result : tie.Need-sub-result
-sub-result c = difference-fits (c .args .n) (c .pre)
-
 returns : tie.Need-returns
-unfolding celsius
+unfolding celsiusOfRow
 returns c =
     let start = c .before in
     ap (ofInt binary64) (toZ-ofZ (difference-fits (start .args .n) (start .pre)) ∙ difference (start .args .n) (start .pre))
 
 pub celsius-spec : {M : Type 1} → statement M
-celsius-spec = tie.close (tie.spec (λ c. search needs) sub-result (λ c. search needs) returns)
+celsius-spec = tie.close (tie.spec (λ c. search needs) (λ c. difference-fits (c .args .n) (c .pre)) (λ c. search needs) returns)

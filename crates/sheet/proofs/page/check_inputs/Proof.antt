@@ -1,8 +1,7 @@
 -- `sheet::page::check_inputs` meets its contract: its checks are the rows, in their order. Assumes nothing.
-use mathlib.Core.List.{_++_}
-use borrow.Author.Needs.{needs}
+use Rattle.arithmetic.proofs.Kit.{_++_, needs}
 use Rattle.refusal.proofs.Rows.{first-passed}
-use Rattle.limits.specs.Checks.{finiteRows, pressureRows, humidityRows}
+use Rattle.mast.specs.Checks.{finiteRows, pressureRows, humidityRows}
 use Rattle.sheet.proofs.page.check_inputs.Statement.{statement}
 use Rattle.sheet.proofs.page.check_inputs.Tie as tie
 
@@ -19,12 +18,4 @@ returns c =
     (humidity .check-humidity .ensures)
 
 pub check-inputs-spec : {M : Type 1} → statement M
-check-inputs-spec =
-    tie.close
-    (tie.spec
-    (λ c κs. search needs)
-    (λ c κs. search needs)
-    (λ c κs. search needs)
-    (λ c κs. search needs)
-    (λ c κs. search needs)
-    returns)
+check-inputs-spec = tie.close (tie.spec (λ c κs. search needs) (λ c κs. search needs) (λ c κs. search needs) (λ c κs. search needs) (λ c κs. search needs) returns)

@@ -1,18 +1,10 @@
 -- `sheet::page::setting_sheet` meets its contract, check by check. Assumes nothing.
-use mathlib.Core.Path.{_≡_, sym, ap, ap₂, _∙_}
-use mathlib.Core.List.{List, [], _++_}
-use Prim.Native.Nat.{ℕ, _+_, _≤_, _<_}
-use native.Mathlib.Nat.{zero-add}
-use borrow.Author.Needs.{needs}
-use borrow.Author.Tests.{lt-ltb, le-ltb}
-use lib.Ieee.{Float}
-use lib.ListN.{length, take, drop}
-use lib.Seq.{take-length}
+use Rattle.arithmetic.proofs.Kit.{_≡_, sym, ap, ap₂, _∙_, List, [], _++_, ℕ, _+_, _≤_, _<_, zero-add, needs, lt-ltb, le-ltb, Float, length, take, drop, take-length}
 use Rattle.refusal.specs.declared.Check.{Check}
 use Rattle.refusal.specs.Outcomes.{Outcome, accepted, refused, _⟫_, checked, passed}
 use Rattle.refusal.proofs.Rows.{after-check}
-use Rattle.sheet.specs.Over.{after}
-use Rattle.sheet.specs.Sheet.{rows, inputRows, settingSheet, bare}
+use Rattle.sheet.specs.Over.{overOrLeft}
+use Rattle.sheet.specs.Sheet.{rows, sheetInputRows, settingSheet, bare}
 use Rattle.sheet.proofs.page.setting_sheet.Statement.{statement}
 use Rattle.sheet.proofs.page.setting_sheet.Tie as tie
 
@@ -22,21 +14,21 @@ module _ (h p u : Float) (page : List ℕ) where
   unfolding settingSheet
   too-short short = rw (lt-ltb (length page) 1530 short)
 
-  checked-inputs : {k k′ : Check} → 1530 ≤ length page → k ≡ k′ → checked k ≡ passed (inputRows h p u)
+  checked-inputs : {k k′ : Check} → 1530 ≤ length page → k ≡ k′ → checked k ≡ passed (sheetInputRows h p u)
       → (checked k′ ⟫ (λ _. rows h p u 51)) ≡ settingSheet h p u (length page)
   unfolding settingSheet
-  checked-inputs room told e = after-check (inputRows h p u) (rows h p u 51) told e ∙ sym (rw (le-ltb (length page) 1530 room))
+  checked-inputs room told e = after-check (sheetInputRows h p u) (rows h p u 51) told e ∙ sym (rw (le-ltb (length page) 1530 room))
 
   -- the answer and the page, by the sheet's outcome
   left : {n : ℕ} {vs : List Float} → refused n vs ≡ settingSheet h p u (length page)
-      → (refused n vs ≡ bare (settingSheet h p u (length page))) × (page ≡ after page 0 (settingSheet h p u (length page)))
-  left e = (ap bare e, ap (after page 0) e)
+      → (refused n vs ≡ bare (settingSheet h p u (length page))) × (page ≡ overOrLeft page 0 (settingSheet h p u (length page)))
+  left e = (ap bare e, ap (overOrLeft page 0) e)
 
   written : {text last : List ℕ} → accepted text ≡ settingSheet h p u (length page) → last ≡ take (length text) text ++ drop (length text) page
-      → (_≡_ {A = Outcome (Unit {0})} (accepted tt) (bare (settingSheet h p u (length page)))) × (last ≡ after page 0 (settingSheet h p u (length page)))
+      → (_≡_ {A = Outcome (Unit {0})} (accepted tt) (bare (settingSheet h p u (length page)))) × (last ≡ overOrLeft page 0 (settingSheet h p u (length page)))
   written {text} {last} e l = (
     ap bare e,
-    l ∙ ap₂ (λ (t : List ℕ) (n : ℕ). t ++ drop n page) (take-length text) (sym (zero-add (length text))) ∙ ap (after page 0) e,
+    l ∙ ap₂ (λ (t : List ℕ) (n : ℕ). t ++ drop n page) (take-length text) (sym (zero-add (length text))) ∙ ap (overOrLeft page 0) e,
   )
 
 returns : tie.Need-returns
@@ -83,19 +75,5 @@ returns-4 c =
 
 pub setting-sheet-spec : {M : Type 1} → statement M
 setting-sheet-spec =
-    tie.close
-    (tie.spec
-    returns
-    (λ c κs. search needs)
-    (λ c. search needs)
-    (λ c. search needs)
-    (λ c. search needs)
-    (λ c κs. search needs)
-    (λ c. search needs)
-    (λ c. search needs)
-    (λ c. search needs)
-    (λ c κs. search needs)
-    returns-2
-    returns-3
-    (λ c. search needs)
-    returns-4)
+    tie.close (tie.spec returns (λ c κs. search needs) (λ c. search needs) (λ c. search needs) (λ c. search needs) (λ c κs. search needs) (λ c. search needs)
+    (λ c. search needs) (λ c. search needs) (λ c κs. search needs) returns-2 returns-3 (λ c. search needs) returns-4)

@@ -1,17 +1,9 @@
 -- `sheet::page::write_rows` meets its contract. The loop's invariant: the page begins with the rows of the turns passed. Assumes nothing.
-use mathlib.Core.Path.{_≡_, refl, sym, ap, ap₂, _∙_}
-use mathlib.Core.List.{List}
-use Prim.Native.Nat.{ℕ, suc, _+_, _-_, _*_, _≤_, _<_}
-use native.Mathlib.Numerals.{add-one}
-use native.Mathlib.Omega.{arith}
-use borrow.Author.Needs.{needs}
-use lib.Ieee.{Float}
-use lib.ListN.{length, take}
-use lib.Seq.{take-all}
+use Rattle.arithmetic.proofs.Kit.{_≡_, refl, sym, ap, ap₂, _∙_, List, ℕ, suc, _+_, _-_, _*_, _≤_, _<_, add-one, arith, needs, Float, length, take, take-all}
 use Rattle.refusal.specs.Outcomes.{Outcome, accepted, checked}
-use Rattle.sheet.specs.Over.{over, after}
+use Rattle.sheet.specs.Over.{over, overOrLeft}
 use Rattle.sheet.specs.Row.{rowOutcome}
-use Rattle.sheet.specs.Sheet.{celsius, rows, bare}
+use Rattle.sheet.specs.Sheet.{celsiusOfRow, rows, bare}
 use Rattle.sheet.proofs.OnAPage.{over-length, over-front}
 use Rattle.sheet.proofs.Outcomes.{bare-accepted, bare-refused, line-length, more, stopped, stays}
 use Rattle.sheet.proofs.page.write_rows.Statement.{statement}
@@ -29,7 +21,7 @@ abbrev turn : tie.After-write-row Inv-loop μ-loop → tie.At-loop Inv-loop μ-l
 turn w = w .before .before .before .before
 
 abbrev outcomeOf : tie.After-write-row Inv-loop μ-loop → Outcome (List ℕ)
-outcomeOf w = let a = turn w .before .before .args in rowOutcome (a .altitude-m) (a .pressure-hpa) (a .humidity-percent) (celsius (turn w .loop .n))
+outcomeOf w = let a = turn w .before .before .args in rowOutcome (a .altitude-m) (a .pressure-hpa) (a .humidity-percent) (celsiusOfRow (turn w .loop .n))
 
 row-is : (w : tie.After-write-row Inv-loop μ-loop) → checked (w .write-row .result) ≡ bare (outcomeOf w)
 row-is w =
@@ -37,28 +29,12 @@ row-is w =
     w .write-row .ensures .0
     ∙ ap (λ (t : Float). bare (rowOutcome (a .altitude-m) (a .pressure-hpa) (a .humidity-percent) t)) (w .before .celsius .ensures)
 
-page-is : (w : tie.After-write-row Inv-loop μ-loop) → w .write-row .last .0 ≡ after (turn w .loop .page) (30 * turn w .loop .n) (outcomeOf w)
+page-is : (w : tie.After-write-row Inv-loop μ-loop) → w .write-row .last .0 ≡ overOrLeft (turn w .loop .page) (30 * turn w .loop .n) (outcomeOf w)
 page-is w =
     let a = turn w .before .before .args in
     w .write-row .ensures .1
-    ∙ ap (λ (t : Float). after (turn w .loop .page) (30 * turn w .loop .n) (rowOutcome (a .altitude-m) (a .pressure-hpa) (a .humidity-percent) t))
+    ∙ ap (λ (t : Float). overOrLeft (turn w .loop .page) (30 * turn w .loop .n) (rowOutcome (a .altitude-m) (a .pressure-hpa) (a .humidity-percent) t))
     (w .before .celsius .ensures)
-
-loop-holds : tie.Need-loop-holds Inv-loop μ-loop
-unfolding rows
-loop-holds c = (omega arith, c .before .pre, refl)
-
-cast-at : tie.Need-cast-at Inv-loop μ-loop
-cast-at c = omega arith
-
-mul-at : tie.Need-mul-at Inv-loop μ-loop
-mul-at c = omega arith
-
-celsius-requires : tie.Need-celsius-requires Inv-loop μ-loop
-celsius-requires c κs = omega arith
-
-write-row-requires : tie.Need-write-row-requires Inv-loop μ-loop
-write-row-requires c κs = omega arith
 
 returns : tie.Need-returns Inv-loop μ-loop
 returns c =
@@ -73,12 +49,6 @@ returns c =
     ap (rows (a .altitude-m) (a .pressure-hpa) (a .humidity-percent)) rest
     ∙ stays (a .altitude-m) (a .pressure-hpa) (a .humidity-percent) (suc n) (51 - suc n) here
 
-add-n : tie.Need-add-n Inv-loop μ-loop
-add-n c = omega arith
-
-loop-less : tie.Need-loop-less Inv-loop μ-loop
-loop-less c = omega arith
-
 loop-again : tie.Need-loop-again Inv-loop μ-loop
 loop-again c =
     let w = c .before .before .before .before in
@@ -86,10 +56,10 @@ loop-again c =
     let n = turn w .loop .n in
     let page = turn w .loop .page in
     let good = bare-accepted (outcomeOf w) (sym (row-is w) ∙ ap checked (c .enum-told .given .1)) in
-    let long = line-length (a .altitude-m) (a .pressure-hpa) (a .humidity-percent) (celsius n) (good .0) (good .1) in
+    let long = line-length (a .altitude-m) (a .pressure-hpa) (a .humidity-percent) (celsiusOfRow n) (good .0) (good .1) in
     let below : n < 51 = w .before .before .before .loop-test .taken in
     let room : 30 * n + length (good .0) ≤ length page = omega (arith, turn w .loop .inv .1) in
-    let written : w .write-row .last .0 ≡ over page (30 * n) (good .0) = page-is w ∙ ap (after page (30 * n)) (good .1) in
+    let written : w .write-row .last .0 ≡ over page (30 * n) (good .0) = page-is w ∙ ap (overOrLeft page (30 * n)) (good .1) in
     let next : 30 * (n + 1) ≡ 30 * n + length (good .0) = omega arith in (
       omega arith,
       ap length written ∙ over-length page (30 * n) (good .0) room ∙ turn w .loop .inv .1,
@@ -108,21 +78,6 @@ returns-2 c =
 
 pub write-rows-spec : {M : Type 1} → statement M
 write-rows-spec =
-    tie.close
-    (tie.spec
-    Inv-loop
-    μ-loop
-    loop-holds
-    cast-at
-    mul-at
-    celsius-requires
-    write-row-requires
-    (λ c. search needs)
-    (λ c. search needs)
-    returns
-    (λ c. search needs)
-    add-n
-    loop-less
-    loop-again
-    (λ c. search needs)
-    returns-2)
+    tie.close (tie.spec Inv-loop μ-loop (λ c. unfold rows in (omega arith, c .before .pre, refl)) (λ c. omega arith) (λ c. omega arith) (λ c κs. omega arith)
+    (λ c κs. omega arith) (λ c. search needs) (λ c. search needs) returns (λ c. search needs) (λ c. omega arith) (λ c. omega arith) loop-again
+    (λ c. search needs) returns-2)

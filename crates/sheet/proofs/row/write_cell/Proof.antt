@@ -1,11 +1,6 @@
 -- `sheet::row::write_cell` meets its contract. Assumes nothing.
-use mathlib.Core.Path.{_≡_, ap, _∙_}
-use mathlib.Core.List.{List, [], _∷_}
-use Prim.Native.Nat.{ℕ, _+_, _-_, _<_}
-use native.Mathlib.Omega.{arith}
-use borrow.Author.Needs.{needs}
-use lib.ListN.{length, drop, set, length-append, length-drop, length-map}
-use lib.Seq.{take-all}
+use Rattle.arithmetic.proofs.Kit.{_≡_, ap, _∙_, List, [], _∷_, ℕ, _+_, _-_, _<_, arith, needs, length, drop, set, length-append, length-drop, take-all}
+use lib.ListN.{length-map}
 use Rattle.sheet.proofs.OnAPage.{copied, ended}
 use Rattle.sheet.proofs.row.write_cell.Statement.{statement}
 use Rattle.sheet.proofs.row.write_cell.Tie as tie
@@ -13,9 +8,6 @@ use Rattle.sheet.proofs.row.write_cell.Tie as tie
 -- what owning the array tells
 room : (c : tie.Start) → length (c .args .text .bytes) ≡ 16
 room c = simp length-map at (c .good .1 .1 .0 .1 .1 .0 .1 .0 .1)
-
-part-copy-end : tie.Need-part-copy-end
-part-copy-end c = omega (arith, room (c .before .before .before))
 
 returns : tie.Need-returns
 returns c =
@@ -34,17 +26,5 @@ returns c =
 
 pub write-cell-spec : {M : Type 1} → statement M
 write-cell-spec =
-    tie.close
-    (tie.spec
-    (λ c. search needs)
-    (λ c. search needs)
-    (λ c. search needs)
-    part-copy-end
-    (λ c. search needs)
-    (λ c. search needs)
-    (λ c. search needs)
-    (λ c κs. search needs)
-    (λ c. search needs)
-    (λ c. search needs)
-    (λ c. search needs)
-    returns)
+    tie.close (tie.spec (λ c. search needs) (λ c. search needs) (λ c. search needs) (λ c. omega (arith, room (c .before .before .before))) (λ c. search needs)
+    (λ c. search needs) (λ c. search needs) (λ c κs. search needs) (λ c. search needs) (λ c. search needs) (λ c. search needs) returns)

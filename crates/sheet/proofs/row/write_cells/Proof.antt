@@ -1,10 +1,5 @@
 -- `sheet::row::write_cells` meets its contract: each cell begins where the one before it ends. Assumes nothing.
-use mathlib.Core.Path.{_≡_}
-use mathlib.Core.List.{_++_}
-use Prim.Native.Nat.{_+_}
-use native.Mathlib.Omega.{arith}
-use borrow.Author.Needs.{needs}
-use lib.ListN.{length, length-append}
+use Rattle.arithmetic.proofs.Kit.{_≡_, _++_, _+_, arith, needs, length, length-append}
 use Rattle.sheet.specs.Over.{lastPlaces}
 use Rattle.sheet.proofs.OnAPage.{then-over}
 use Rattle.sheet.proofs.row.write_cells.Statement.{statement}
@@ -34,14 +29,5 @@ returns c =
 
 pub write-cells-spec : {M : Type 1} → statement M
 write-cells-spec =
-    tie.close
-    (tie.spec
-    (λ c κs. search needs)
-    (λ c. search needs)
-    (λ c κs. search needs)
-    (λ c. search needs)
-    (λ c κs. search needs)
-    (λ c. search needs)
-    (λ c κs. search needs)
-    (λ c. search needs)
-    returns)
+    tie.close (tie.spec (λ c κs. search needs) (λ c. search needs) (λ c κs. search needs) (λ c. search needs) (λ c κs. search needs) (λ c. search needs)
+    (λ c κs. search needs) (λ c. search needs) returns)

@@ -1,9 +1,6 @@
 -- `sheet::row::write_figures` meets its contract: its tests are those of the columns, and its four cells the row. Assumes nothing.
-use mathlib.Core.Path.{_≡_, sym, ap, _∙_}
-use mathlib.Core.Bool.{_||_}
-use borrow.Author.Needs.{needs}
-use lib.Dec.{ltb}
-use Rattle.sheet.specs.Over.{over, after}
+use Rattle.arithmetic.proofs.Kit.{_≡_, sym, ap, _∙_, _||_, needs, ltb}
+use Rattle.sheet.specs.Over.{over, overOrLeft}
 use Rattle.sheet.specs.Row.{isTooWide}
 use Rattle.sheet.specs.Sheet.{bare}
 use Rattle.sheet.proofs.Cells.{narrow, tests-are, cells-are}
@@ -30,7 +27,7 @@ returns c =
     let fourth = c .before .before .before .before .before in
     let a = fourth .before .before .before .before .before .args in
     let refusal = sym (figures-refused (a .temperature-c) (a .figures) (sym (tested fourth) ∙ c .if1 .taken)) in
-    (ap bare refusal, ap (after (a .page .now) (a .at)) refusal)
+    (ap bare refusal, ap (overOrLeft (a .page .now) (a .at)) refusal)
 
 returns-2 : tie.Need-returns-2
 returns-2 c =
@@ -48,18 +45,8 @@ returns-2 c =
           ∙ ap (over (a .page .now) (a .at))
           (cells-are (a .temperature-c) (a .figures) (first .decimal-text .ensures) (second .decimal-text2 .ensures) (third .decimal-text3 .ensures)
           (fourth .decimal-text4 .ensures) (narrow (a .temperature-c) (a .figures) fits))
-          ∙ ap (after (a .page .now) (a .at)) row,
+          ∙ ap (overOrLeft (a .page .now) (a .at)) row,
     )
 
 pub write-figures-spec : {M : Type 1} → statement M
-write-figures-spec =
-    tie.close
-    (tie.spec
-    (λ c κs. search needs)
-    (λ c κs. search needs)
-    (λ c κs. search needs)
-    (λ c κs. search needs)
-    returns
-    (λ c κs. search needs)
-    (λ c. search needs)
-    returns-2)
+write-figures-spec = tie.close (tie.spec (λ c κs. search needs) (λ c κs. search needs) (λ c κs. search needs) (λ c κs. search needs) returns (λ c κs. search needs) (λ c. search needs) returns-2)

@@ -1,8 +1,7 @@
 -- `sheet::row::write_row` meets its contract, by what the station's air says. Assumes nothing.
-use mathlib.Core.Path.{sym, ap, _∙_}
-use borrow.Author.Needs.{needs}
-use Rattle.answered.specs.Judged.{outcome}
-use Rattle.sheet.specs.Over.{after}
+use Rattle.arithmetic.proofs.Kit.{sym, ap, _∙_, needs}
+use Rattle.refusal.specs.Judged.{outcome}
+use Rattle.sheet.specs.Over.{overOrLeft}
 use Rattle.sheet.specs.Sheet.{bare}
 use Rattle.sheet.proofs.Outcomes.{air-refused, air-accepted}
 use Rattle.sheet.proofs.row.write_row.Statement.{statement}
@@ -15,8 +14,8 @@ returns c =
     let a = air .before .before .args in
     let refusal =
     sym (air-refused (a .altitude-m) (a .pressure-hpa) (a .humidity-percent) (a .temperature-c)
-    (sym (air .air .ensures) ∙ ap outcome (told .refusal .given .1))) in
-    (ap bare refusal, ap (after (a .page .now) (a .at)) refusal)
+    (sym (air .answer-of .ensures) ∙ ap outcome (told .refusal .given .1))) in
+    (ap bare refusal, ap (overOrLeft (a .page .now) (a .at)) refusal)
 
 returns-2 : tie.Need-returns-2
 returns-2 c =
@@ -26,17 +25,8 @@ returns-2 c =
     let a = air .before .before .args in
     let row =
     sym (air-accepted (a .altitude-m) (a .pressure-hpa) (a .humidity-percent) (a .temperature-c)
-    (sym (air .air .ensures) ∙ ap outcome (told .figures .given .1))) in
-    (written .write-figures .ensures .0 ∙ ap bare row, written .write-figures .ensures .1 ∙ ap (after (a .page .now) (a .at)) row)
+    (sym (air .answer-of .ensures) ∙ ap outcome (told .figures .given .1))) in
+    (written .write-figures .ensures .0 ∙ ap bare row, written .write-figures .ensures .1 ∙ ap (overOrLeft (a .page .now) (a .at)) row)
 
 pub write-row-spec : {M : Type 1} → statement M
-write-row-spec =
-    tie.close
-    (tie.spec
-    (λ c κs. search needs)
-    (λ c. search needs)
-    (λ c. search needs)
-    (λ c κs. search needs)
-    returns
-    (λ c. search needs)
-    returns-2)
+write-row-spec = tie.close (tie.spec (λ c κs. search needs) (λ c. search needs) (λ c. search needs) (λ c κs. search needs) returns (λ c. search needs) returns-2)

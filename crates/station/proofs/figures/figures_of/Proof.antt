@@ -1,8 +1,7 @@
 -- `station::figures::figures_of` meets its contract, figure by figure. Assumes nothing.
-use mathlib.Core.Path.{ap, _∙_}
-use borrow.Author.Needs.{needs}
+use Rattle.arithmetic.proofs.Kit.{ap, _∙_, needs}
 use Rattle.arithmetic.specs.Places.{places}
-use Rattle.altitudes.specs.Altitudes.{pressureAltitude}
+use Rattle.atmosphere.specs.Altitudes.{pressureAltitude}
 use Rattle.air.specs.declared.figures.AirFigures.{AirFigures}
 use Rattle.station.specs.Figures.{inCipmRange, figuresWith}
 use Rattle.station.proofs.figures.figures_of.Statement.{statement}

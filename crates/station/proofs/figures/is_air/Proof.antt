@@ -1,5 +1,5 @@
 -- `station::figures::is_air` meets its contract. Assumes nothing.
-use borrow.Author.Needs.{needs}
+use Rattle.arithmetic.proofs.Kit.{needs}
 use Rattle.station.proofs.figures.is_air.Statement.{statement}
 use Rattle.station.proofs.figures.is_air.Tie as tie
 
@@ -18,14 +18,5 @@ returns c =
 
 pub is-air-spec : {M : Type 1} → statement M
 is-air-spec =
-    tie.close
-    (tie.spec
-    (λ c κs. search needs)
-    (λ c κs. search needs)
-    (λ c κs. search needs)
-    (λ c κs. search needs)
-    (λ c κs. search needs)
-    (λ c κs. search needs)
-    (λ c κs. search needs)
-    (λ c κs. search needs)
-    returns)
+    tie.close (tie.spec (λ c κs. search needs) (λ c κs. search needs) (λ c κs. search needs) (λ c κs. search needs) (λ c κs. search needs)
+    (λ c κs. search needs) (λ c κs. search needs) (λ c κs. search needs) returns)

@@ -1,7 +1,5 @@
 -- `trim::search::first_by` meets its contract: one change after the other. Assumes nothing.
-use mathlib.Core.Path.{_≡_, _∙_}
-use borrow.Author.Needs.{needs}
-use lib.ListN.{drop}
+use Rattle.arithmetic.proofs.Kit.{_≡_, _∙_, needs, drop}
 use Rattle.trim.specs.InOrder.{changesOf, firstOf}
 use Rattle.trim.proofs.First.{turns-here, turns-later, only-one}
 use Rattle.trim.proofs.search.first_by.Statement.{statement}
@@ -20,33 +18,11 @@ after-three : (c : tie.After-enum-told6) → let a = c .before .before .before .
     firstOf (a .start) (drop 3 (changesOf (a .tenths))) ≡ firstOf (a .start) (changesOf (a .tenths))
 after-three c = turns-later _ _ _ (c .before .before .tried3 .ensures) (c .enum-told6 .given .1) ∙ after-two (c .before .before .before)
 
-returns : tie.Need-returns
-returns c = turns-here _ _ _ (c .before .before .tried .ensures) (c .enum-told .given .1)
-
-returns-2 : tie.Need-returns-2
-returns-2 c = turns-here _ _ _ (c .before .before .tried2 .ensures) (c .enum-told3 .given .1) ∙ after-one (c .before .before .before)
-
-returns-3 : tie.Need-returns-3
-returns-3 c = turns-here _ _ _ (c .before .before .tried3 .ensures) (c .enum-told5 .given .1) ∙ after-two (c .before .before .before)
-
-returns-4 : tie.Need-returns-4
-returns-4 c = c .tried4 .ensures ∙ only-one _ _ ∙ after-three (c .before)
-
 pub first-by-spec : {M : Type 1} → statement M
 first-by-spec =
-    tie.close
-    (tie.spec
-    (λ c κs. search needs)
-    (λ c. search needs)
-    returns
-    (λ c. search needs)
-    (λ c κs. search needs)
-    (λ c. search needs)
-    returns-2
-    (λ c. search needs)
-    (λ c κs. search needs)
-    (λ c. search needs)
-    returns-3
-    (λ c. search needs)
-    (λ c κs. search needs)
-    returns-4)
+    tie.close (tie.spec (λ c κs. search needs) (λ c. search needs) (λ c. turns-here _ _ _ (c .before .before .tried .ensures) (c .enum-told .given .1))
+    (λ c. search needs) (λ c κs. search needs) (λ c. search needs)
+    (λ c. turns-here _ _ _ (c .before .before .tried2 .ensures) (c .enum-told3 .given .1) ∙ after-one (c .before .before .before)) (λ c. search needs)
+    (λ c κs. search needs) (λ c. search needs)
+    (λ c. turns-here _ _ _ (c .before .before .tried3 .ensures) (c .enum-told5 .given .1) ∙ after-two (c .before .before .before)) (λ c. search needs)
+    (λ c κs. search needs) (λ c. c .tried4 .ensures ∙ only-one _ _ ∙ after-three (c .before)))

@@ -1,12 +1,9 @@
 -- `trim::search::next_from` meets its contract. The loop's invariant: of all the changes, those of the counts left have the first that gives another class.
 -- The measure is the number of counts left. Assumes nothing.
-use mathlib.Core.Path.{_≡_, refl, sym, ap, _∙_}
-use Prim.Native.Nat.{ℕ, suc, _+_, _-_, _≤_}
-use native.Mathlib.Omega.{arith}
-use borrow.Author.Needs.{needs}
+use Rattle.arithmetic.proofs.Kit.{_≡_, refl, sym, ap, _∙_, ℕ, suc, _+_, _-_, _≤_, arith, needs}
 use Rattle.refusal.specs.Outcomes.{accepted}
-use Rattle.trim_change.specs.declared.changes.Found.{Found}
-use Rattle.trim_change.specs.declared.changes.Start.{Start}
+use Rattle.trim.specs.declared.changes.Found.{Found}
+use Rattle.trim.specs.declared.changes.Start.{Start}
 use Rattle.trim.specs.InOrder.{changesOf, changesFrom, changes, orElse, firstOf}
 use Rattle.trim.specs.Search.{nextFrom}
 use Rattle.trim.proofs.First.{first-append}
@@ -37,10 +34,6 @@ Inv-loop start tenths₀ tenths = (tenths ≤ 201) × (firstOf start changes ≡
 abbrev μ-loop : tie.MeasureT-loop
 μ-loop start tenths₀ tenths = 201 - tenths
 
-loop-holds : tie.Need-loop-holds Inv-loop μ-loop
-unfolding changes
-loop-holds c = (omega arith, refl)
-
 returns : tie.Need-returns Inv-loop μ-loop
 returns c =
     let told = c .before in
@@ -65,16 +58,5 @@ returns-2 c =
 
 pub next-from-spec : {M : Type 1} → statement M
 next-from-spec =
-    tie.close
-    (tie.spec
-    Inv-loop
-    μ-loop
-    loop-holds
-    (λ c κs. search needs)
-    (λ c. search needs)
-    returns
-    (λ c. search needs)
-    (λ c. omega arith)
-    (λ c. omega arith)
-    loop-again
-    returns-2)
+    tie.close (tie.spec Inv-loop μ-loop (λ c. unfold changes in (omega arith, refl)) (λ c κs. search needs) (λ c. search needs) returns (λ c. search needs)
+    (λ c. omega arith) (λ c. omega arith) loop-again returns-2)

@@ -1,20 +1,16 @@
 -- `trim::search::next_trim_class` meets its contract: a refusal of the reading is the last word. Assumes nothing.
-use mathlib.Core.Path.{_≡_, refl, sym, ap, _∙_}
-use mathlib.Core.Bool.{false}
-use mathlib.Core.List.{List}
-use Prim.Native.Nat.{ℕ}
-use borrow.Author.Needs.{needs}
+use Rattle.arithmetic.proofs.Kit.{_≡_, refl, sym, ap, _∙_, false, List, ℕ, needs}
 use Rattle.refusal.specs.declared.Check.{Check}
 use Rattle.refusal.specs.Outcomes.{Outcome, accepted, _⟫_, checked}
-use Rattle.entries.specs.declared.Readings.{Readings}
+use Rattle.record.specs.declared.entries.Readings.{Readings}
 use Rattle.record.specs.declared.readings.Read.{Read}
-use Rattle.record.specs.Readings.{readRecord, parts, partsOf}
+use Rattle.record.specs.Readings.{readRecord, parts, readParts}
 use Rattle.record.proofs.Parts.{outcome-of-parts}
 use Rattle.trim.specs.Search.{nextOf, nextTrimClass}
 use Rattle.trim.proofs.search.next_trim_class.Statement.{statement}
 use Rattle.trim.proofs.search.next_trim_class.Tie as tie
 
-by-read : (s : List ℕ) (r : Read) {k : Check} → r .check ≡ k → parts r ≡ partsOf (readRecord false s)
+by-read : (s : List ℕ) (r : Read) {k : Check} → r .check ≡ k → parts r ≡ readParts (readRecord false s)
     → ((checked k ⟫ (λ _. accepted (r .readings))) ⟫ nextOf) ≡ nextTrimClass s
 unfolding nextTrimClass
 by-read s r told e = ap (λ (o : Outcome Readings). o ⟫ nextOf) (ap (λ (k : Check). checked k ⟫ (λ _. accepted (r .readings))) (sym told) ∙ outcome-of-parts r (readRecord false s) e)
@@ -32,12 +28,4 @@ returns-2 c =
     (c .next-trim-class-of-readings .ensures ∙ by-read s (read .read-record .result) (told .enum-told .given .1) (read .read-record .ensures .0), refl)
 
 pub next-trim-class-spec : {M : Type 1} → statement M
-next-trim-class-spec =
-    tie.close
-    (tie.spec
-    (λ c κs. search needs)
-    (λ c. search needs)
-    (λ c. search needs)
-    (λ c κs. search needs)
-    returns
-    returns-2)
+next-trim-class-spec = tie.close (tie.spec (λ c κs. search needs) (λ c. search needs) (λ c. search needs) (λ c κs. search needs) returns returns-2)

@@ -1,11 +1,9 @@
 -- `trim::search::next_trim_class_of_readings` meets its contract: a refusal of the readings is the last word. Assumes nothing.
-use mathlib.Core.Path.{_≡_, sym, ap, _∙_}
-use Prim.Native.Nat.{ℕ}
-use borrow.Author.Needs.{needs}
+use Rattle.arithmetic.proofs.Kit.{_≡_, sym, ap, _∙_, ℕ, needs}
 use Rattle.refusal.specs.Outcomes.{Outcome, _⟫_}
-use Rattle.entries.specs.declared.Readings.{Readings}
-use Rattle.trim_class.specs.declared.classes.Class.{Class}
-use Rattle.trim_class.specs.Classes.{classified, classOf}
+use Rattle.record.specs.declared.entries.Readings.{Readings}
+use Rattle.trim.specs.declared.classes.Class.{Class}
+use Rattle.trim.specs.Classes.{classified, classOf}
 use Rattle.trim.specs.Search.{nextWith, nextOf}
 use Rattle.trim.proofs.search.next_trim_class_of_readings.Statement.{statement}
 use Rattle.trim.proofs.search.next_trim_class_of_readings.Tie as tie
@@ -27,12 +25,4 @@ returns-2 c =
     c .next-with .ensures ∙ by-class (class .before .args .readings) (told .class .given .1) (class .class-of .ensures)
 
 pub next-trim-class-of-readings-spec : {M : Type 1} → statement M
-next-trim-class-of-readings-spec =
-    tie.close
-    (tie.spec
-    (λ c κs. search needs)
-    (λ c. search needs)
-    (λ c. search needs)
-    (λ c κs. search needs)
-    returns
-    returns-2)
+next-trim-class-of-readings-spec = tie.close (tie.spec (λ c κs. search needs) (λ c. search needs) (λ c. search needs) (λ c κs. search needs) returns returns-2)

@@ -1,12 +1,10 @@
 -- `trim::search::next_with` meets its contract, by the two entries. Assumes nothing.
-use mathlib.Core.Path.{_≡_, refl, sym, ap₂, _∙_}
-use Prim.Native.Nat.{ℕ}
-use borrow.Author.Needs.{needs}
+use Rattle.arithmetic.proofs.Kit.{_≡_, refl, sym, ap₂, _∙_, ℕ, needs}
 use Rattle.refusal.specs.Outcomes.{_⟫_}
-use Rattle.entries.specs.declared.Entry.{Entry}
-use Rattle.entries.specs.declared.Readings.{Readings}
+use Rattle.record.specs.declared.entries.Entry.{Entry}
+use Rattle.record.specs.declared.entries.Readings.{Readings}
 use Rattle.fields.specs.Fields.{temperature, measuredPressure}
-use Rattle.entries.specs.Entries.{entryOf}
+use Rattle.record.specs.Entries.{entryOf}
 use Rattle.trim.specs.Search.{nextFrom, startOf, nextWith}
 use Rattle.trim.proofs.search.next_with.Statement.{statement}
 use Rattle.trim.proofs.search.next_with.Tie as tie
@@ -41,15 +39,5 @@ returns-3 c =
 
 pub next-with-spec : {M : Type 1} → statement M
 next-with-spec =
-    tie.close
-    (tie.spec
-    (λ c κs. search needs)
-    (λ c. search needs)
-    (λ c. search needs)
-    (λ c κs. search needs)
-    (λ c. search needs)
-    (λ c. search needs)
-    (λ c κs. search needs)
-    returns
-    returns-2
-    returns-3)
+    tie.close (tie.spec (λ c κs. search needs) (λ c. search needs) (λ c. search needs) (λ c κs. search needs) (λ c. search needs) (λ c. search needs)
+    (λ c κs. search needs) returns returns-2 returns-3)

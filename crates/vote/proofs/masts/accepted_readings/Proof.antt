@@ -1,19 +1,15 @@
 -- `vote::masts::accepted_readings` meets its contract: a refusal of the reading, or else of the judge, is the last word. Assumes nothing.
-use mathlib.Core.Path.{_≡_, refl, sym, ap, _∙_}
-use mathlib.Core.Bool.{false}
-use mathlib.Core.List.{List}
-use Prim.Native.Nat.{ℕ}
-use borrow.Author.Needs.{needs}
+use Rattle.arithmetic.proofs.Kit.{_≡_, refl, sym, ap, _∙_, false, List, ℕ, needs}
 use Rattle.refusal.specs.declared.Check.{Check}
 use Rattle.refusal.specs.Outcomes.{Outcome, accepted, _⟫_, checked}
-use Rattle.entries.specs.declared.Readings.{Readings}
+use Rattle.record.specs.declared.entries.Readings.{Readings}
 use Rattle.record.specs.declared.readings.Read.{Read}
-use Rattle.record.specs.Readings.{readRecord, parts, partsOf}
+use Rattle.record.specs.Readings.{readRecord, parts, readParts}
 use Rattle.record.proofs.Parts.{outcome-of-parts}
-use Rattle.answered.specs.declared.judge.Figures.{Figures}
-use Rattle.answered.specs.declared.judge.Answer.{Answer}
+use Rattle.refusal.specs.declared.judge.Figures.{Figures}
+use Rattle.refusal.specs.declared.judge.Answer.{Answer}
 use Rattle.mast.specs.Judge.{judged}
-use Rattle.answered.specs.Judged.{outcome}
+use Rattle.refusal.specs.Judged.{outcome}
 use Rattle.vote.specs.Vote.{acceptedReadings}
 use Rattle.vote.proofs.masts.accepted_readings.Statement.{statement}
 use Rattle.vote.proofs.masts.accepted_readings.Tie as tie
@@ -21,7 +17,7 @@ use Rattle.vote.proofs.masts.accepted_readings.Tie as tie
 abbrev whereAccepted : Readings → Outcome Readings
 whereAccepted r = judged r ⟫ (λ _. accepted r)
 
-by-read : (s : List ℕ) (r : Read) {k : Check} → r .check ≡ k → parts r ≡ partsOf (readRecord false s) → ((checked k ⟫ (λ _. accepted (r .readings))) ⟫ whereAccepted) ≡ acceptedReadings s
+by-read : (s : List ℕ) (r : Read) {k : Check} → r .check ≡ k → parts r ≡ readParts (readRecord false s) → ((checked k ⟫ (λ _. accepted (r .readings))) ⟫ whereAccepted) ≡ acceptedReadings s
 unfolding acceptedReadings
 by-read s r told e = ap (λ (o : Outcome Readings). o ⟫ whereAccepted) (ap (λ (k : Check). checked k ⟫ (λ _. accepted (r .readings))) (sym told) ∙ outcome-of-parts r (readRecord false s) e)
 
@@ -43,22 +39,7 @@ passed c told =
     by-answer (read .read-record .result .readings) told (c .judge-readings .ensures)
     ∙ by-read (read .before .before .args .bytes .now) (read .read-record .result) (c .before .before .enum-told2 .given .1) (read .read-record .ensures .0)
 
-returns-2 : tie.Need-returns-2
-returns-2 c = (passed (c .before .before .before) (c .before .refusal .given .1), refl)
-
-returns-3 : tie.Need-returns-3
-returns-3 c = (passed (c .before .before) (c .enum-told3 .given .1), refl)
-
 pub accepted-readings-spec : {M : Type 1} → statement M
 accepted-readings-spec =
-    tie.close
-    (tie.spec
-    (λ c κs. search needs)
-    (λ c. search needs)
-    returns
-    (λ c. search needs)
-    (λ c κs. search needs)
-    (λ c. search needs)
-    (λ c. search needs)
-    returns-2
-    returns-3)
+    tie.close (tie.spec (λ c κs. search needs) (λ c. search needs) returns (λ c. search needs) (λ c κs. search needs) (λ c. search needs) (λ c. search needs)
+    (λ c. (passed (c .before .before .before) (c .before .refusal .given .1), refl)) (λ c. (passed (c .before .before) (c .enum-told3 .given .1), refl)))

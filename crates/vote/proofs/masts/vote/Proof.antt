@@ -1,15 +1,12 @@
 -- `vote::masts::vote` meets its contract: mast by mast, a refusal is the last word. Assumes nothing.
-use mathlib.Core.Path.{_≡_, refl, sym, ap, _∙_}
-use mathlib.Core.List.{List}
-use Prim.Native.Nat.{ℕ}
-use borrow.Author.Needs.{needs}
+use Rattle.arithmetic.proofs.Kit.{_≡_, refl, sym, ap, _∙_, List, ℕ, needs}
 use Rattle.refusal.specs.declared.Check.{Check}
 use Rattle.refusal.specs.Outcomes.{Outcome, accepted, _⟫_, checked}
-use Rattle.entries.specs.declared.Readings.{Readings}
+use Rattle.record.specs.declared.entries.Readings.{Readings}
 use Rattle.record.specs.declared.readings.Read.{Read}
 use Rattle.record.specs.Readings.{readOutcome}
-use Rattle.answered.specs.declared.judge.Answer.{Answer}
-use Rattle.answered.specs.Judged.{outcome}
+use Rattle.refusal.specs.declared.judge.Answer.{Answer}
+use Rattle.refusal.specs.Judged.{outcome}
 use Rattle.vote.specs.Vote.{VoteOutcome, byNoMast, acceptedReadings, afterMast, vote, votedOutcome}
 use Rattle.vote.proofs.masts.vote.Statement.{statement}
 use Rattle.vote.proofs.masts.vote.Tie as tie
@@ -52,39 +49,12 @@ voted : (c : tie.After-vote-readings) {v : Answer} → let one = c .before .befo
     c .vote-readings .result ≡ v → byNoMast (outcome v) ≡ vote (a .a .now) (a .b .now) (a .c .now)
 voted c told = ap byNoMast (sym (ap outcome told) ∙ c .vote-readings .ensures) ∙ third (c .before .before .before) (c .before .enum-told3 .given .1)
 
-returns : tie.Need-returns
-returns c = (first (c .before .before .before) (c .before .check .given .1), (refl, (refl, refl)))
-
-returns-2 : tie.Need-returns-2
-returns-2 c = (second (c .before .before .before) (c .before .check2 .given .1), (refl, (refl, refl)))
-
-returns-3 : tie.Need-returns-3
-returns-3 c = (third (c .before .before .before) (c .before .check3 .given .1), (refl, (refl, refl)))
-
-returns-4 : tie.Need-returns-4
-returns-4 c = (voted (c .before .before .before) (c .before .figures .given .1), (refl, (refl, refl)))
-
-returns-5 : tie.Need-returns-5
-returns-5 c = (voted (c .before .before .before) (c .before .refusal .given .1), (refl, (refl, refl)))
-
 pub vote-spec : {M : Type 1} → statement M
 vote-spec =
-    tie.close
-    (tie.spec
-    (λ c κs. search needs)
-    (λ c. search needs)
-    returns
-    (λ c. search needs)
-    (λ c κs. search needs)
-    (λ c. search needs)
-    returns-2
-    (λ c. search needs)
-    (λ c κs. search needs)
-    (λ c. search needs)
-    returns-3
-    (λ c. search needs)
-    (λ c κs. search needs)
-    (λ c. search needs)
-    (λ c. search needs)
-    returns-4
-    returns-5)
+    tie.close (tie.spec (λ c κs. search needs) (λ c. search needs) (λ c. (first (c .before .before .before) (c .before .check .given .1), (refl, (refl, refl))))
+    (λ c. search needs) (λ c κs. search needs) (λ c. search needs)
+    (λ c. (second (c .before .before .before) (c .before .check2 .given .1), (refl, (refl, refl)))) (λ c. search needs) (λ c κs. search needs)
+    (λ c. search needs) (λ c. (third (c .before .before .before) (c .before .check3 .given .1), (refl, (refl, refl)))) (λ c. search needs)
+    (λ c κs. search needs) (λ c. search needs) (λ c. search needs)
+    (λ c. (voted (c .before .before .before) (c .before .figures .given .1), (refl, (refl, refl))))
+    (λ c. (voted (c .before .before .before) (c .before .refusal .given .1), (refl, (refl, refl)))))

@@ -1,12 +1,9 @@
 -- `vote::masts::vote_readings` meets its contract. Assumes nothing.
-use mathlib.Core.Path.{_≡_, sym, ap, _∙_}
-use mathlib.Core.Bool.{Bool, cond}
-use mathlib.Core.List.{[]}
-use borrow.Author.Needs.{needs}
+use Rattle.arithmetic.proofs.Kit.{_≡_, sym, ap, _∙_, Bool, cond, [], needs}
 use Rattle.refusal.specs.Outcomes.{refused}
-use Rattle.entries.specs.declared.Readings.{Readings}
+use Rattle.record.specs.declared.entries.Readings.{Readings}
 use Rattle.mast.specs.Judge.{judged}
-use Rattle.voted.specs.Fields.{anyNotInAll, voted}
+use Rattle.vote.specs.Fields.{anyNotInAll, voted}
 use Rattle.vote.specs.Vote.{votedOutcome}
 use Rattle.vote.proofs.masts.vote_readings.Statement.{statement}
 use Rattle.vote.proofs.masts.vote_readings.Tie as tie
@@ -15,9 +12,6 @@ tested : (a b c : Readings) {t : Bool} → anyNotInAll a b c ≡ t → cond t (r
 unfolding votedOutcome
 tested a b c e = ap (λ (t : Bool). cond t (refused 21 []) (judged (voted a b c))) (sym e)
 
-returns : tie.Need-returns
-returns c = let a = c .before .before .args in tested (a .a) (a .b) (a .c) (sym (c .before .any-not-in-all .ensures) ∙ c .if1 .taken)
-
 returns-2 : tie.Need-returns-2
 returns-2 c =
     let test = c .before .before in
@@ -25,4 +19,7 @@ returns-2 c =
     c .judge-readings .ensures ∙ ap judged (c .before .voted .ensures) ∙ tested (a .a) (a .b) (a .c) (sym (test .before .any-not-in-all .ensures) ∙ test .if1 .left)
 
 pub vote-readings-spec : {M : Type 1} → statement M
-vote-readings-spec = tie.close (tie.spec (λ c κs. search needs) returns (λ c κs. search needs) (λ c κs. search needs) returns-2)
+vote-readings-spec =
+    tie.close (tie.spec (λ c κs. search needs)
+    (λ c. let a = c .before .before .args in tested (a .a) (a .b) (a .c) (sym (c .before .any-not-in-all .ensures) ∙ c .if1 .taken)) (λ c κs. search needs)
+    (λ c κs. search needs) returns-2)

@@ -1,2 +1,0 @@
--- How long the words of a refusal are.
-pub mod Short

@@ -1,2 +1,0 @@
--- What the contracts of `advice` cite: the words of a refusal.
-pub mod Advice

@@ -1,3 +1,0 @@
-// Pressure altitude and density altitude: figures of src/atmosphere.rs, each formula as double
-// operations in the source's order.
-pub mod altitudes;

@@ -1,2 +1,0 @@
--- A text that grows.
-pub mod Appending

@@ -1,2 +1,0 @@
--- What the contracts of `answer_lines` cite: the lines.
-pub mod Lines

@@ -1,9 +1,0 @@
--- What each case of the judge's answer stands for. Definitions only.
-use Rattle.refusal.specs.Outcomes.{Outcome, accepted, refusal}
-use Rattle.answered.specs.declared.judge.Figures.{Figures}
-use Rattle.answered.specs.declared.judge.Answer.{Answer}
-use Rattle.answered.specs.declared.judge.Answer.the-variants as answer
-
-abbrev pub outcome : Answer → Outcome Figures
-outcome (answer.Figures f) = accepted f
-outcome (answer.Refused c) = refusal c

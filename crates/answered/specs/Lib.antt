@@ -1,3 +1,0 @@
--- What answers stand for.
-pub mod Judged
-pub mod Inverted

@@ -1,3 +1,0 @@
-// The load for the acceptance bench: the text of its records, and how many of them are asked for.
-pub mod asked;
-pub mod pages;

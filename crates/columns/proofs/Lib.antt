@@ -1,2 +1,0 @@
--- A figure's column.
-pub mod Columns

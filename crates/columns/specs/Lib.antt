@@ -1,2 +1,0 @@
--- What the contracts of `columns` cite: a figure in a line.
-pub mod Columns

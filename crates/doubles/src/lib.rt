@@ -1,2 +1,0 @@
-// Rust's helpers on doubles, as src/atmosphere.rs uses them.
-pub mod doubles;

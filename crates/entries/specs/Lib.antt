@@ -1,2 +1,0 @@
--- What the contracts of `entries` cite: readings by meaning.
-pub mod Entries

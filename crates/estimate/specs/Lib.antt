@@ -1,2 +1,0 @@
--- What the contract of `estimate` cites.
-pub mod Estimate

@@ -1,3 +1,0 @@
--- What the proofs of the functions use.
-mod Four
-mod SheetValues

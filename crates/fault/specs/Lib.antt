@@ -1,2 +1,0 @@
--- What the contract of `reading_of` cites.
-pub mod Fault

@@ -1,2 +1,0 @@
--- What the contracts of `item_answers` cite: items, and the record of them.
-pub mod Items

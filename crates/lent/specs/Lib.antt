@@ -1,2 +1,0 @@
--- What the contracts of `lent`, and of the exported functions that lend, cite.
-pub mod Lent

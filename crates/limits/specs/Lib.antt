@@ -1,2 +1,0 @@
--- What the contracts of `limits` cite: the checks on readings.
-pub mod Checks

@@ -1,2 +1,0 @@
--- A record that is read into a buffer.
-pub mod Buffer

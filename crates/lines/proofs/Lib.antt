@@ -1,0 +1,3 @@
+-- A record that is read into a buffer.
+pub mod Buffer
+pub mod InRoom

@@ -1,2 +1,0 @@
-// The records of the load, written.
-pub mod records;

@@ -1,0 +1,14 @@
+-- `mast::checks::check_celsius` meets its contract. Assumes nothing.
+use Rattle.arithmetic.proofs.Kit.{sym, ap, _∙_, needs}
+use Rattle.record.specs.declared.entries.Entry.{Entry}
+use Rattle.refusal.specs.Outcomes.{passed}
+use Rattle.mast.specs.Checks.{present}
+use Rattle.density_altitude.specs.Inverse.{temperatureRows}
+use Rattle.mast.proofs.checks.check_celsius.Statement.{statement}
+use Rattle.mast.proofs.checks.check_celsius.Tie as tie
+
+pub check-celsius-spec : {M : Type 1} → statement M
+check-celsius-spec =
+    tie.close (tie.spec (λ c. search needs) (λ c. search needs) (λ c κs. search needs)
+    (λ c. ap (λ (e : Entry). passed (present temperatureRows e)) (sym (c .enum-told .given .1)))
+    (λ c. c .check-temperature .ensures ∙ ap (λ (e : Entry). passed (present temperatureRows e)) (sym (c .before .before .entry .given .1))))

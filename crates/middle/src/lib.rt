@@ -1,2 +1,0 @@
-// The middle of three doubles.
-pub mod middle;

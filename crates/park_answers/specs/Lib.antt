@@ -1,2 +1,0 @@
--- What the contracts of `park_answers` cite: the words that are typed.
-pub mod Typed

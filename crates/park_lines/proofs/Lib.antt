@@ -1,2 +1,0 @@
--- How long the lines are.
-pub mod Short

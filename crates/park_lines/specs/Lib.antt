@@ -1,2 +1,0 @@
--- What the contracts of `park_lines` cite: the lines.
-pub mod ParkLines

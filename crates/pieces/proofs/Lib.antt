@@ -1,2 +1,0 @@
--- A text that grows piece by piece.
-pub mod Growing

@@ -1,3 +1,0 @@
--- The walks of the field reader's functions.
-pub mod Thin
-pub mod Held

@@ -1,2 +1,0 @@
-// The reader of a record, field by field.
-pub mod reader;

@@ -1,2 +1,0 @@
--- What is written into a buffer of 154 bytes.
-pub mod InRoom

@@ -1,2 +1,0 @@
--- What the contracts of `resolved` cite: what is resolved.
-pub mod Resolved

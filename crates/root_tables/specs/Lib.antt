@@ -1,2 +1,0 @@
--- What the contracts of `root_tables` cite.
-pub mod Tables

@@ -1,2 +1,0 @@
--- The laws of the definitions, a file for each idea.
-pub mod Carried

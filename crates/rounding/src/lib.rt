@@ -1,2 +1,0 @@
-// A double taken apart, and the double nearest to a fraction of whole numbers.
-pub mod nearest;

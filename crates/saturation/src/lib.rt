@@ -1,2 +1,0 @@
-// The saturation pressure of water vapour: src/atmosphere.rs's, as double operations in the source's order.
-pub mod saturation;

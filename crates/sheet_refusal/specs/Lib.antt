@@ -1,2 +1,0 @@
--- What the contracts of `sheet_refusal` cite.
-pub mod SheetRefusal

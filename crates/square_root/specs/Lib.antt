@@ -1,2 +1,0 @@
--- What the contracts of `square_root` cite.
-pub mod Sqrt

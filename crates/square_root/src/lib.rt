@@ -1,2 +1,0 @@
-// The square root of a double.
-pub mod sqrt;

@@ -1,2 +1,0 @@
-// A change of one reading, and the trim class that it gives.
-pub mod changes;

@@ -1,2 +1,0 @@
-// The trim class of readings.
-pub mod classes;

@@ -1,2 +1,0 @@
--- What the contract of `typed` cites.
-pub mod Typed

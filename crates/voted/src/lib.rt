@@ -1,2 +1,0 @@
-// The vote on the fields of three records.
-pub mod by_field;

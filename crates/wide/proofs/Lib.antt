@@ -1,2 +1,0 @@
--- The laws of the floor of a square root.
-pub mod Root

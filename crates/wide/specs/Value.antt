@@ -1,6 +1,0 @@
--- The natural number that a pair of 64-bit words stands for. Definitions only.
-use Prim.Native.Nat.{ℕ, _+_, _*_, _^_}
-use Rattle.wide.specs.declared.words.Wide.{Wide}
-
-abbrev pub value : Wide → ℕ
-value w = w .hi * 2 ^ 64 + w .lo
