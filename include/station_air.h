@@ -59,7 +59,7 @@ enum station_air_status {
     /* a field's header or data is cut */
     STATION_AIR_CUT = 5,
     STATION_AIR_UNKNOWN_TAG = 6,
-    /* a field's length is not 8 */
+    /* a field's length is not 8, or not 4 for a count */
     STATION_AIR_WRONG_LENGTH = 7,
     STATION_AIR_REPEATED_TAG = 8,
     /* two of 03, 04 and 07, or 06 with 01, 03, 04 or 07 */
