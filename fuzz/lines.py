@@ -18,8 +18,8 @@ PROGRAM = "target/bin/ask"
 SECONDS = 60
 DIGITS = "0123456789ABCDEFabcdef"
 
-# What `park` says of a refused sheet is not all in a document, and a report takes its time.
-LEFT_OUT = "park sheet", "report"
+# A report takes its time.
+LEFT_OUT = ("report",)
 
 # So many bytes go by a pipe in pieces.
 BY_PIPE = 200_000

@@ -8,21 +8,43 @@
  * functions here and in station_air_rules.h. Where nothing else is said, a NaN among the numbers
  * gives NaN.
  *
- * Needed: x86-64, and the floating-point environment that a program starts with: rounding to
- * nearest, subnormals not flushed to 0, exceptions masked. The functions do not set it. A `bool` is
- * true or false, in C 1 or 0.
+ * Needed: x86-64 with the System V calls of Linux, and the floating-point environment that a program
+ * starts with: rounding to nearest, subnormals not flushed to 0, exceptions masked. The functions do
+ * not set it. A `bool` is true or false, in C 1 or 0.
  *
  * Given: no function allocates, keeps anything from one call to the next, or calls anything but
  * memcpy and memset, so several threads may call at once, each with lent arrays and numbers of its
  * own. Every call ends.
  *
+ * Stack, at most, a quarter above what bench/stack.sh measures: 16 kB for station_air_vote; 15 kB for the
+ * two judges, station_air_next_trim_class and station_air_setting_sheet; 2 kB for what reads, writes or
+ * converts a record and for station_air_load_record; 256 bytes for station_air_trim_class,
+ * station_air_keeps_pressure, station_air_keeps_temperature, station_air_ln, station_air_log_word,
+ * station_air_sqrt and station_air_version; 13 kB for all others.
+ *
+ * Time, on one core of a server: a judgement takes about a microsecond, a vote some four, a setting sheet
+ * some fifty, station_air_next_trim_class up to a millisecond; every other call a microsecond or less. Of
+ * a record that is longer than any can be, what comes after the first fault is not read.
+ *
  * Arrays. An array goes as a pointer and the number of its elements, and the pointer points to that
- * many elements; with the number 0 it may be NULL. Arrays and numbers that a call writes overlap
- * nothing else that it takes. An array that is only read is left as it was.
+ * many elements; with the number 0 it may be NULL. A pointer without a number, `in_range`, `mast`,
+ * `length` and `implausible`, points to one element and is never NULL. Arrays and numbers that a call
+ * writes overlap nothing else that it takes. An array that is only read is left as it was.
+ *
+ * A record (docs/RECORD.md has more) is a run of fields, each a tag of one byte, a length of two and
+ * the data, the highest byte first:
+ *     tag       01  02  03  04  05  06  07   length 00 08, data a double
+ *     or        11  12  13  14  15  16  17   length 00 04, data a signed count of thousandths
+ * in hex, of altitude m, temperature degrees Celsius, station pressure hPa, QNH hPa, humidity percent,
+ * density altitude m and measured station pressure hPa. The two tags of a reading are its two forms;
+ * what is said below of 01 to 07 holds of 11 to 17 too. Tags come in any order, each reading once. A
+ * record is all the bytes that it is passed as: it has no end of its own, and what follows its last
+ * field is read as another. 01 or 06 is there; with 06 only 02 and 05; of 03, 04 and 07 at most one.
  *
  * Names. "Density altitude" is the FAA's: of station_air_for_density_altitude,
- * station_air_faa_density_altitude_ft and a record's tag 06. The seventh figure is the
- * density-matched altitude, another number: it is no density altitude to ask with. */
+ * station_air_resolve_atmosphere_for_density_altitude, station_air_faa_density_altitude_ft and a record's
+ * tag 06. The seventh figure is the density-matched altitude, another number: it is no density altitude
+ * to ask with. */
 #ifndef STATION_AIR_H
 #define STATION_AIR_H
 
@@ -30,12 +52,20 @@
 #include <stddef.h>
 #include <stdint.h>
 
+#if !defined(__x86_64__) || defined(__ILP32__) || defined(_WIN32)
+#error "libstation_air.a is for x86-64 with the System V calling convention and 64-bit pointers"
+#endif
+
 #ifdef __cplusplus
 extern "C" {
 #endif
 
-/* Grows whenever an answer to some call can differ from before. */
-#define STATION_AIR_VERSION 6
+/* Grows whenever a function is added, or an answer to some call can differ from before. */
+#define STATION_AIR_VERSION 7
+
+/* The version of the archive: where it is not STATION_AIR_VERSION, header and archive are not of one
+ * build. */
+uint32_t station_air_version(void);
 
 /* ---- several numbers, with a status ---- */
 
@@ -59,8 +89,9 @@ enum station_air_status {
     /* a field's header or data is cut */
     STATION_AIR_CUT = 5,
     STATION_AIR_UNKNOWN_TAG = 6,
-    /* a field's length is not 8, or not 4 for a count */
+    /* a field's length is not 8 for a double, or not 4 for a count */
     STATION_AIR_WRONG_LENGTH = 7,
+    /* a tag comes twice, or a reading in both forms */
     STATION_AIR_REPEATED_TAG = 8,
     /* two of 03, 04 and 07, or 06 with 01, 03, 04 or 07 */
     STATION_AIR_CLASH = 9,
@@ -83,7 +114,7 @@ enum station_air_status {
     STATION_AIR_TOO_WIDE = 17,
     /* the buffer is shorter than the record that is to be written */
     STATION_AIR_BUFFER_TOO_SHORT = 18,
-    /* to the strict judge: a tag is below the one before it */
+    /* to the strict judge and reader: a tag is below the one before it */
     STATION_AIR_TAG_FALLS = 19,
     /* no count of thousandths in the signed 32-bit range gives exactly this double */
     STATION_AIR_NO_COUNT = 20,
@@ -102,7 +133,8 @@ enum station_air_status {
 enum station_air_value { STATION_AIR_VALUE = 0, STATION_AIR_RESOLVED_ALTITUDE_M = 1 };
 
 /* The places of station_air_judge, station_air_judge_strictly and station_air_vote;
- * station_air_for_density_altitude has the first three. */
+ * station_air_for_density_altitude and station_air_resolve_atmosphere_for_density_altitude have the first
+ * three. */
 enum station_air_figure {
     STATION_AIR_ALTITUDE_M = 0,
     STATION_AIR_TEMPERATURE_C = 1,
@@ -117,10 +149,25 @@ enum station_air_figure {
 /* The places of station_air_standard_atmosphere. */
 enum station_air_standard { STATION_AIR_STANDARD_TEMPERATURE_K = 0, STATION_AIR_STANDARD_PRESSURE_PA = 1 };
 
+/* The places of station_air_station_pressure_plausibility. */
+enum station_air_plausibility { STATION_AIR_PLAUSIBLE_STANDARD_PA = 0, STATION_AIR_PLAUSIBLE_RATIO = 1 };
+
 /* The places of station_air_calculate_atmosphere. */
 enum station_air_air { STATION_AIR_AIR_DENSITY_KG_M3 = 0, STATION_AIR_AIR_SPEED_OF_SOUND_MPS = 1 };
 
-/* The places of the readings that station_air_write takes: a field's tag less 1. */
+/* The tags of a record's fields in doubles; the tag of a count has STATION_AIR_TAG_OF_COUNTS more. */
+enum station_air_tag {
+    STATION_AIR_TAG_ALTITUDE_M = 0x01,
+    STATION_AIR_TAG_TEMPERATURE_C = 0x02,
+    STATION_AIR_TAG_STATION_PRESSURE_HPA = 0x03,
+    STATION_AIR_TAG_QNH_HPA = 0x04,
+    STATION_AIR_TAG_HUMIDITY_PERCENT = 0x05,
+    STATION_AIR_TAG_DENSITY_ALTITUDE_M = 0x06,
+    STATION_AIR_TAG_MEASURED_PRESSURE_HPA = 0x07,
+    STATION_AIR_TAG_OF_COUNTS = 0x10
+};
+
+/* The places of the readings of station_air_write and station_air_read: a double's tag less 1. */
 enum station_air_reading {
     STATION_AIR_READING_ALTITUDE_M = 0,
     STATION_AIR_READING_TEMPERATURE_C = 1,
@@ -146,10 +193,13 @@ enum station_air_trim {
 enum station_air_places {
     STATION_AIR_JUDGE_PLACES = 8,
     STATION_AIR_FOR_DENSITY_ALTITUDE_PLACES = 3,
+    STATION_AIR_RESOLVE_ATMOSPHERE_FOR_DENSITY_ALTITUDE_PLACES = 3,
     STATION_AIR_STANDARD_ATMOSPHERE_PLACES = 2,
+    STATION_AIR_STATION_PRESSURE_PLAUSIBILITY_PLACES = 2,
     STATION_AIR_CALCULATE_ATMOSPHERE_PLACES = 2,
     /* of the forms, of the values and of the counts */
     STATION_AIR_WRITE_PLACES = 7,
+    STATION_AIR_READ_PLACES = 7,
     STATION_AIR_VOTE_PLACES = 8,
     STATION_AIR_NEXT_TRIM_CLASS_PLACES = 2,
     STATION_AIR_NEXT_TRIM_CLASS_ANSWER_PLACES = 4,
@@ -164,7 +214,7 @@ enum station_air_bytes {
     STATION_AIR_LOAD_RECORD_BYTES_AT_MOST = 28
 };
 
-/* Judges a mast record, all of its bytes (docs/RECORD.md has the form of a record). Needs 8 places.
+/* Judges a mast record. Needs 8 places.
  * 0: altitude m, temperature degrees Celsius, station pressure hPa, density kg/m3, speed of sound
  * m/s, pressure altitude m, density-matched altitude m, and the mole fraction of water vapour that the
  * density uses, at most 1. All are finite; pressure, density and speed of sound are above 0.
@@ -172,7 +222,13 @@ enum station_air_bytes {
  * range that CIPM-2007 states, 15 to 27 degrees Celsius and 600 to 1,100 hPa, ends included; every
  * other status leaves it as it was. Else the first check that fails gives 1 to 15, in the order of
  * docs/RECORD.md; an empty record is 10. 255: fewer than 8 places, whatever the record. The record is
- * left as it was. */
+ * left as it was.
+ * DEFAULTS. More than 1 m from sea level a temperature within 0.1 of 15 degrees (02), and a station
+ * pressure within 0.5 of 1013.25 hPa (03), count as not measured, and the standard atmosphere's stand in
+ * their place: at 3,000 m a thermometer that passes from 15.2 to 15.1 degrees raises the density by more
+ * than 7 percent, at 1,586 m by nearly 4. A sender whose readings are measured sends the pressure as 07
+ * and a temperature from 14.9 to 15.1 as 15.2, which moves the density by about a thousandth; or it calls
+ * station_air_calculate_atmosphere, which has no such rule. */
 uint32_t station_air_judge(const uint8_t *record, size_t record_length, double *places, size_t places_length,
                            bool *in_range);
 
@@ -193,17 +249,20 @@ uint32_t station_air_vote(const uint8_t *first, size_t first_length, const uint8
                           const uint8_t *third, size_t third_length, double *places, size_t places_length,
                           bool *in_range, uint32_t *mast);
 
+/* The trim class of a density: how many of 1.00, 1.05, 1.10, 1.15, 1.20 and 1.25 kg/m3 are at or below
+ * it, each as its double; 0 to 6, and 0 of NaN. */
+uint32_t station_air_trim_class(double density_kg_m3);
+
 /* How close the next trim class is: the smallest change of a record's temperature or measured station
- * pressure that gives another class. The class is how many of the densities 1.00, 1.05, 1.10, 1.15,
- * 1.20 and 1.25 kg/m3 are at or below the record's. A change is k tenths of a degree or of a
- * hectopascal, k from 1 to 200, up or down: +-k / 10 is added to the value, and the record is judged
- * again; one that is refused does not count. Of equal k temperature comes before pressure, up before
- * down. Needs 2 places and 4 of the answer. 0: the answer is the class, the tag of the field to change,
- * 2 or 7, the tenths with their sign, and the class that they give; where none of the changes gives
- * another, the tag and the tenths are 0 and the fourth number is the class again. The places keep what
- * they held. 1 to 15: station_air_judge refuses the record, with these values. 22: it is accepted, but
- * has no temperature or no measured pressure. A refusal leaves the answer. 255: fewer places of the one
- * or the other. */
+ * pressure that gives another class. The class is station_air_trim_class of the record's density. A
+ * change is k tenths of a degree or of a hectopascal, k from 1 to 200, up or down: +-k / 10 is added to
+ * the value, and the record is judged again; one that is refused does not count. Of equal k temperature
+ * comes before pressure, up before down. Needs 2 places and 4 of the answer. 0: the answer is the class,
+ * the tag of the reading to change, 2 or 7 also where the record has it as a count, the tenths with their
+ * sign, and the class that they give; where none of the changes gives another, the tag and the tenths are
+ * 0 and the fourth number is the class again. The places keep what they held. 1 to 15: station_air_judge
+ * refuses the record, with these values. 22: it is accepted, but has no temperature or no measured
+ * pressure. A refusal leaves the answer. 255: fewer places of the one or the other. */
 uint32_t station_air_next_trim_class(const uint8_t *record, size_t record_length, double *places, size_t places_length,
                                      int32_t *answer, size_t answer_length);
 
@@ -218,6 +277,24 @@ uint32_t station_air_next_trim_class(const uint8_t *record, size_t record_length
 uint32_t station_air_write(const uint8_t *forms, size_t forms_length, const double *values, size_t values_length,
                            const int32_t *counts, size_t counts_length, uint8_t *out, size_t out_length,
                            size_t *length);
+
+/* Reads a record into three arrays, as station_air_write takes them: the first 7 places of each are
+ * written. The form says whether a reading is absent, 0, a double, 1, or a count, 2; the value is its
+ * double, whatever the form, NaN for every NaN, and 0 where it is absent; the count is its count of
+ * thousandths, and 0 where it is none. 0: the arrays are written. 5 to 8: the record is unreadable. 255:
+ * fewer than 7 forms, 7 values or 7 counts, whatever the record. Every status but 0 leaves the arrays as
+ * they were, and 0 the places after the first 7. The record is left as it was. A record is read whether
+ * station_air_judge accepts it or not.
+ * Writing the arrays again gives the record of these readings by rising tag, so the same bytes where the
+ * strict reader takes it and it has no NaN; and reading what was written gives the same forms, the
+ * values of the doubles and the counts of the counts. */
+uint32_t station_air_read(const uint8_t *record, size_t record_length, uint8_t *forms, size_t forms_length,
+                          double *values, size_t values_length, int32_t *counts, size_t counts_length);
+
+/* As station_air_read, of a record whose tags rise. 19: a tag is below the one before it; in each field it
+ * is checked after 8. */
+uint32_t station_air_read_strictly(const uint8_t *record, size_t record_length, uint8_t *forms, size_t forms_length,
+                                   double *values, size_t values_length, int32_t *counts, size_t counts_length);
 
 /* Writes a record converted to counts, or to doubles, to the start of `out`, its fields in their old order;
  * a field that is in the asked form stays as it is. 0: `length` points to a number that is set to how many
@@ -261,10 +338,23 @@ uint32_t station_air_setting_sheet(double altitude_m, double pressure_hpa, doubl
 uint32_t station_air_for_density_altitude(double density_altitude_m, bool temperature_given, double temperature_c,
                                           double *places, size_t places_length);
 
+/* The same station without its checks: what the formulas give, air or not. Needs 3 places. 0: altitude m,
+ * temperature degrees Celsius, station pressure hPa. 255: fewer than 3 places. */
+uint32_t station_air_resolve_atmosphere_for_density_altitude(double density_altitude_m, bool temperature_given,
+                                                             double temperature_c, double *places,
+                                                             size_t places_length);
+
 /* The ICAO standard atmosphere at a geometric altitude. Needs 2 places. 0: temperature K, pressure
  * Pa. An altitude below -5,000 m counts as -5,000 m and one above 84,000 m as 84,000 m, the
  * infinities too. NaN gives two NaNs. 255: fewer than 2 places. */
 uint32_t station_air_standard_atmosphere(double altitude_m, double *places, size_t places_length);
+
+/* Whether a station pressure, Pa, can belong to an altitude. Needs 2 places. 0: the standard atmosphere's
+ * pressure there, Pa, and the station pressure over it; `implausible` points to a bool that is set to
+ * whether that ratio is below 0.85, above 1.08 or NaN. Recorded weather stays inside. 255: fewer than 2
+ * places; it leaves `implausible`. */
+uint32_t station_air_station_pressure_plausibility(double station_pressure_pa, double altitude_m, double *places,
+                                                   size_t places_length, bool *implausible);
 
 /* Density and speed of sound of moist air. Needs 2 places. 0: density kg/m3, speed of sound m/s.
  * A temperature or pressure that is not given is the standard atmosphere's at the altitude, and its
@@ -305,6 +395,14 @@ double station_air_reduced_qnh(double qnh_hpa, double altitude_m);
  * temperature below 173.15 K counts as 173.15 K there, and above 647.096 K psv is NaN. */
 double station_air_water_vapor_mole_fraction_uncapped(double temperature_c, double pressure_hpa,
                                                       double humidity_percent);
+
+/* The density, kg/m3, of moist air by CIPM-2007, with that mole fraction, at most 1. NaN where a reading is
+ * NaN. station_air_calculate_atmosphere is the same of a temperature that went to kelvin and back, so its
+ * last bits may differ. */
+double station_air_calculate_air_density_cimp(double temperature_c, double pressure_hpa, double humidity_percent);
+
+/* The speed of sound, m/s, in moist air, of kelvin and pascals. */
+double station_air_moist_speed_of_sound(double temperature_k, double pressure_pa, double humidity_percent);
 
 /* ---- the four altitudes ---- */
 

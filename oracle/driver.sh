@@ -4,10 +4,7 @@
 set -euo pipefail
 here=$(cd "$(dirname "$0")" && pwd)
 root=$(dirname "$here")
-library=$root/target/staticlib/libstation_air.a
 "$here/build.sh"
-if [ ! -e "$library" ] || [ -n "$(find "$root/crates" -name '*.rt' -newer "$library" -print -quit)" ]; then
-    "$root/examples/library.sh"
-fi
+"$root/examples/library.sh"
 rustc --edition 2021 -C opt-level=3 -C codegen-units=1 "$@" --cfg library \
-    -L native="$(dirname "$library")" --crate-name driver -o "$root/target/oracle/driver" "$here/src/main.rs"
+    -L native="$root/target/staticlib" --crate-name driver -o "$root/target/oracle/driver" "$here/src/main.rs"

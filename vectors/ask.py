@@ -67,6 +67,7 @@ OF_THE_SOURCE = {
     "standard_altitude_above_tropopause_m": "DOUBLE",
     "resolve_atmosphere_for_density_altitude": "DOUBLE DOUBLE|none",
     "station_for_density_altitude": "DOUBLE DOUBLE|none",
+    "station_pressure_plausibility": "DOUBLE DOUBLE",
 }
 EVERY = ARGUMENTS | OF_THE_SOURCE
 

@@ -9,6 +9,7 @@ from sys import argv
 
 import ask
 import bounds
+import park
 import report
 
 CRATES = Path(__file__).resolve().parent.parent / "crates"
@@ -50,6 +51,8 @@ def hold(name, lines, answers):
         assert all(isinstance(ask.understood(line), tuple) for line in lines), name
     if name == "reports":
         report.hold(answers)
+    if name == "words":
+        park.hold(answers)
 
 
 def main(folder):

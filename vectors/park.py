@@ -1,135 +1,297 @@
 """What `park` prints for words that are typed, and the list `words`; or holds a program to it.
 
-The words are understood as docs/PARK.md says: a decimal is checked by its form and counted with decimal.Decimal. The reports are those
-of report.py, the rows of a sheet the oracle's. Nothing of the proved code is called. Arguments: the folder to write the list's questions
-to; or `compare` and a program, which is run on the words of each case.
+The words are understood as docs/PARK.md says, and a reading is computed from its typed decimal in fractions. The reports are those of
+report.py, the figures of a sheet the oracle's. Nothing of the proved code is called. Arguments: the folder to write the list's questions
+to; or `compare` and a program, which is run on the words of each case; or `print` and words.
 """
 
-from decimal import Decimal
 from fractions import Fraction
-from re import fullmatch
+from os import fsencode
+from pathlib import Path
+from re import fullmatch, match
 from subprocess import run
-from sys import argv
+from sys import argv, stdout
+from typing import NamedTuple
 
 import oracle
 import report
+from report import ALTITUDE, DENSITY, DENSITY_ALTITUDE, HUMIDITY, MEASURED, QNH, STATION, TEMPERATURE, Asked, decimal, text_of, words_on
 from words import question, save
 
+DOCUMENT = Path(__file__).resolve().parent.parent / "docs/PARK.md"
+
+# tag and an example
 MEANINGS = {
-    "altitude": report.ALTITUDE,
-    "temperature": report.TEMPERATURE,
-    "station-pressure": report.STATION,
-    "qnh": report.QNH,
-    "humidity": report.HUMIDITY,
-    "density-altitude": report.DENSITY_ALTITUDE,
-    "pressure": report.MEASURED,
+    "altitude": (ALTITUDE, "1586"),
+    "temperature": (TEMPERATURE, "24"),
+    "station-pressure": (STATION, "841.9"),
+    "qnh": (QNH, "1019.3"),
+    "humidity": (HUMIDITY, "32"),
+    "density-altitude": (DENSITY_ALTITUDE, "2100"),
+    "pressure": (MEASURED, "841.9"),
 }
+
+# the exact reading by its number; the first unit is SI's, and needs not be written
+LENGTHS = {"m": lambda x: x, "ft": lambda x: x * Fraction("0.3048")}
+DEGREES = {"C": lambda x: x, "F": lambda x: (x - 32) * Fraction(5, 9), "K": lambda x: x - Fraction("273.15")}
+PRESSURES = {"hPa": lambda x: x, "kPa": lambda x: 10 * x, "inHg": lambda x: x * Fraction("33.8639")}
+PERCENT = {"percent": lambda x: x, "%": lambda x: x}
+UNITS = {ALTITUDE: LENGTHS, TEMPERATURE: DEGREES, STATION: PRESSURES, QNH: PRESSURES, HUMIDITY: PERCENT, DENSITY_ALTITUDE: LENGTHS, MEASURED: PRESSURES}
 LEAST, GREATEST = -(2**31), 2**31 - 1
 
 UNKNOWN = (
     "unknown word, expected altitude=, temperature=, pressure=, station-pressure=, qnh=, humidity= or density-altitude= and a number"
 )
 NOT_A_NUMBER = "not a number, expected digits with up to three decimals, as 1586 or -12.5"
-TOO_MANY = "more than three decimals, expected thousandths at most, as 841.897"
-OUT_OF_RANGE = "out of range, expected a number from -2147483.648 to 2147483.647"
+TOO_MANY = {3: "more than three decimals, expected thousandths at most, as 841.897", 4: "more than four decimals, as 30.1025inHg"}
+OUT_OF_RANGE = {
+    3: "out of range, expected a number from -2147483.648 to 2147483.647",
+    4: "out of range, expected a number from -214748.3648 to 214748.3647",
+}
 REPEATED = "repeated, expected each reading once"
+TOO_LONG = "the command line is too long: at most 4,096 bytes, a newline counted for each word\n"
+SHEET_ONLY = (
+    "a sheet takes altitude=, one pressure and humidity=, and no temperature= or density-altitude=: its rows have the temperatures\n"
+)
+SHEET_NEEDS = (
+    "a sheet needs altitude= and one of pressure=, station-pressure= and qnh=, as park sheet altitude=1586 pressure=841.9 humidity=32\n"
+)
+HELP = "help", "--help", "-h"
+QUOTED, LONGEST = 64, 4096
 
-USAGE = """\
-usage: park altitude=1586 temperature=24 qnh=1019.3 humidity=32
-       park sheet altitude=1586 pressure=841.9 humidity=32
-words in any order, each a number with up to three decimals:
-  altitude=          m
-  temperature=       C
-  pressure=          hPa, measured at the station
-  station-pressure=  hPa, of a mast that sends 1013.25 until it is set up
-  qnh=               hPa
-  humidity=          percent
-  density-altitude=  m, in place of altitude and pressure
-"""
-SHEET_NEEDS = "a sheet needs altitude= and pressure=, as park sheet altitude=1586 pressure=841.9 humidity=32\n"
-SHEET_ONLY = "a sheet takes altitude=, pressure= and humidity= and no other word\n"
-SHEET_REFUSED = {12: "the pressure is not above 0 hPa", 13: "the humidity is not from 0 to 100 percent"}
-QUOTED = 64
+# the minus sign U+2212, as the bytes of UTF-8
+MINUS = "\u2212".encode().decode("latin-1")
 
 
-# ---- words
-def count_of(text):
-    """The count of thousandths of a decimal, or what is wrong with it."""
-    form = fullmatch(r"[+-]?([0-9]+)(?:\.([0-9]+))?", text)
+class Typed(NamedTuple):
+    """Readings by tag; the lines of the written units; and whether the altitude's point may mean thousands."""
+
+    readings: dict
+    lines: list
+    point: bool
+
+
+# ---- words: a character a byte
+def escaped(text):
+    return "".join(c if 32 <= ord(c) <= 126 else f"\\x{ord(c):02X}" for c in text)
+
+
+def problem_line(word, problem):
+    return f'"{escaped(word[:QUOTED])}": {problem}\n'
+
+
+def either(names):
+    *others, last = names
+    return f"{', '.join(others)} or {last}"
+
+
+def misspelled(word):
+    """What is wrong with a word before its number is looked at, and how it is typed; or nothing."""
+    name, mark, typed = word.partition("=")
+    start = word[:QUOTED]
+    if not mark and word in MEANINGS:
+        return f"a name without =, type {word}={MEANINGS[word][1]}"
+    if not mark or name not in MEANINGS:
+        return UNKNOWN
+    if " " in typed:
+        return f"a blank, type {escaped(start.replace(' ', ''))}"
+    if "," in typed:
+        return f"a comma, type {escaped(start.replace(',', '.'))} for decimals, {escaped(start.replace(',', ''))} for thousands"
+    if typed.startswith(MINUS):
+        return f"a minus sign that is no hyphen, type {escaped(start.replace(MINUS, '-', 1))}"
+
+
+def value_of(tag, typed):
+    """The exact reading of what is typed behind the `=`, its unit, and whether its point may mean thousands; or what is wrong with it."""
+    number = match(r"[0-9+.-]*", typed)[0]
+    unit = typed[len(number) :]
+    form = fullmatch(r"[+-]?[0-9]+(?:\.([0-9]+))?", number)
     if form is None:
         return NOT_A_NUMBER
-    if len(form[2] or "") > 3:
-        return TOO_MANY
-    count = int(Decimal(text).scaleb(3)) if len(text) < 28 else int(Fraction(text) * 1000)
-    return count if LEAST <= count <= GREATEST else OUT_OF_RANGE
+    if unit and unit not in UNITS[tag]:
+        return f"unknown unit, expected {either(UNITS[tag])}"
+    places, decimals = 4 if unit == "inHg" else 3, len(form[1] or "")
+    if decimals > places:
+        return TOO_MANY[places]
+    count = int(Fraction(number) * 10**places)
+    if not LEAST <= count <= GREATEST:
+        return OUT_OF_RANGE[places]
+    return UNITS[tag][unit or next(iter(UNITS[tag]))](Fraction(number)), unit, decimals == 3 and abs(count) < 10000
+
+
+def stored(exact):
+    """A count where it is a whole one, else the nearest double."""
+    count = exact * 1000
+    return int(count) if count.denominator == 1 and LEAST <= count <= GREATEST else float(exact)
 
 
 def understood(words):
-    """Counts by tag, or the line on the first word that is not understood."""
-    readings = {}
+    """What is typed, or the line on the first word that is not understood."""
+    readings, lines, of_thousands = {}, [], False
     for word in words:
-        name, mark, decimal = word.partition("=")
-        if not mark or name not in MEANINGS:
-            return f'"{word[:QUOTED]}": {UNKNOWN}\n'
-        count = count_of(decimal)
-        if isinstance(count, str):
-            return f'"{word[:QUOTED]}": {count}\n'
-        if MEANINGS[name] in readings:
-            return f'"{word[:QUOTED]}": {REPEATED}\n'
-        readings[MEANINGS[name]] = count
-    return readings
+        if (problem := misspelled(word)) is not None:
+            return problem_line(word, problem)
+        name, _, typed = word.partition("=")
+        tag, _ = MEANINGS[name]
+        value = value_of(tag, typed)
+        if isinstance(value, str):
+            return problem_line(word, value)
+        if tag in readings:
+            return problem_line(word, REPEATED)
+        exact, unit, point = value
+        readings[tag] = stored(exact)
+        if unit:
+            lines.append(f"{word[:QUOTED]} is {decimal(float(exact), 3)} {next(iter(UNITS[tag]))}")
+        of_thousands |= tag == ALTITUDE and point
+    return Typed(readings, lines, of_thousands)
+
+
+# ---- the sheet
+ROWS = range(-10, 41)
+
+# of the figures: place, decimals, width
+COLUMNS = [(1, 1, 6), (DENSITY, 4, 7), (4, 1, 6), (6, 0, 7)]
+TOO_WIDE = 17
+PRESSURE_SOURCES = STATION, QNH, MEASURED
+
+
+def is_no_sheet(readings):
+    """What is printed in place of a sheet for these readings, whatever their values."""
+    if readings.keys() & {TEMPERATURE, DENSITY_ALTITUDE}:
+        return SHEET_ONLY
+    if ALTITUDE not in readings or len(readings.keys() & {*PRESSURE_SOURCES}) != 1:
+        return SHEET_NEEDS
+
+
+def resolved(readings, station, standard, reduced):
+    """The pressure that a sheet is made for, and its source."""
+    if MEASURED in readings:
+        return report.given(readings, MEASURED), "measured"
+    if QNH in readings:
+        return report.value(reduced), f"from the QNH {report.shown(report.given(readings, QNH), 3)} hPa"
+    if station == "none\n":
+        return report.value(standard) / 100, "the standard atmosphere's, for a mast that is not set up"
+    return report.given(readings, STATION), "a mast's"
+
+
+def resolved_pressures(all_readings):
+    asked = []
+    for readings in all_readings:
+        altitude, hpa = report.given(readings, ALTITUDE), report.given(readings, *PRESSURE_SOURCES)
+        asked.append(question("resolve_station_pressure", hpa, altitude))
+        asked.append(question("calculate_icao_standard_atmosphere", altitude))
+        asked.append(question("reduce_qnh_to_station_pressure", hpa, altitude))
+    said = oracle.answers(asked)
+    return [resolved(readings, next(said), next(said), next(said)) for readings in all_readings]
+
+
+def row_of(answer):
+    """A row without its class, or the number by which it is refused."""
+    if isinstance(answer, int):
+        return answer
+    texts = [decimal(answer[0][place], decimals).rjust(width) for place, decimals, width in COLUMNS]
+    return TOO_WIDE if any(len(text) > width for text, (*_, width) in zip(texts, COLUMNS)) else " ".join(texts)
+
+
+def heading(readings, hpa, source, standard_pa):
+    doubt = "" if report.is_plausible(hpa, standard_pa) else ", implausible at this altitude"
+
+    def line(name, x, unit):
+        return f"{name} {report.shown(x, 3):>16} {unit}"
+
+    return [
+        "setting sheet for the trim brakes",
+        "park ______________________________ date ____________",
+        line("altitude", report.given(readings, ALTITUDE), "m"),
+        line("pressure", hpa, f"hPa, {source}{doubt}"),
+        line("humidity", report.given(readings, HUMIDITY) or 0.0, "percent"),
+        f"{'temp':>6} {'density':>7} {'sound':>6} {'matched':>7} {'class':>5}",
+        f"{'C':>6} {'kg/m3':>7} {'m/s':>6} {'m':>7}",
+    ]
+
+
+def limit_lines(densities):
+    """For each limit the first degree at which the density is below it, three on a line."""
+    said = []
+    for limit in reversed(report.CLASS_DENSITIES):
+        first = next((str(degrees) for degrees, density in zip(ROWS, densities) if density < limit), "-")
+        said.append(f"below {decimal(limit, 2)} from{first:>5} C")
+    return ["   ".join(said[:3]), "   ".join(said[3:])]
+
+
+def sheet_text(readings, hpa, source, standard_pa, rows_said, answers):
+    """The page, or its refusal."""
+    if report.given(readings, *PRESSURE_SOURCES) <= 0:
+        rows_said = "refused 12\n"
+    rows = list(map(row_of, answers))
+    refused = next((i for i, row in enumerate(rows) if isinstance(row, int)), None)
+    if rows_said in ("refused 11\n", "refused 12\n", "refused 13\n"):
+        return text_of([rows_said.strip(), *words_on(int(rows_said.split()[1]), typed=True)])
+    if refused is not None:
+        assert rows_said == f"refused {rows[refused]}\n"
+        return text_of([f"refused {rows[refused]}", f"row: {decimal(ROWS[refused], 1)} C", *words_on(rows[refused], typed=True)])
+    assert rows_said == text_of(rows)
+    densities = [answer[0][DENSITY] for answer in answers]
+    classed = [f"{row} {report.trim_class(density):>5}" for row, density in zip(rows, densities)]
+    return text_of([*heading(readings, hpa, source, standard_pa), *classed, *limit_lines(densities)])
+
+
+def sheets(all_readings):
+    pressures = resolved_pressures(all_readings)
+    asked, airs = [], []
+    for readings, (hpa, _) in zip(all_readings, pressures):
+        humidity = report.given(readings, HUMIDITY) or 0.0
+        asked.append(question("sheet", report.given(readings, ALTITUDE), hpa, humidity))
+        # no band acts at sea level, and air whose temperature and pressure are given is the same at every altitude
+        airs += [report.record_of(report.air(0.0, float(degrees), hpa, humidity)) for degrees in ROWS]
+    standards = oracle.answers(question("calculate_icao_standard_atmosphere", report.given(readings, ALTITUDE)) for readings in all_readings)
+    answers = report.answers(airs)
+    for readings, (hpa, source), standard, rows_said in zip(all_readings, pressures, standards, oracle.answers(asked)):
+        yield sheet_text(readings, hpa, source, report.value(standard), rows_said, [next(answers) for _ in ROWS])
 
 
 # ---- what is printed
-def heading(altitude, pressure, humidity):
-    def line(name, count, unit):
-        return f"{name} {report.decimal(count / 1000, 3):>16} {unit}\n"
-
-    return (
-        "setting sheet for the trim brakes, date ____________\n"
-        + line("altitude", altitude, "m")
-        + line("pressure", pressure, "hPa")
-        + line("humidity", humidity, "percent")
-        + f"{'temp':>6} {'density':>7} {'sound':>6} {'matched':>7}\n"
-        + f"{'C':>6} {'kg/m3':>7} {'m/s':>6} {'m':>7}\n"
-    )
+class Sheet(NamedTuple):
+    readings: dict
 
 
-def text_or_counts(readings):
-    """What is printed in place of a sheet, or the counts of altitude, pressure and humidity that it is asked by."""
-    if readings.keys() - {report.ALTITUDE, report.MEASURED, report.HUMIDITY}:
-        return SHEET_ONLY
-    if not {report.ALTITUDE, report.MEASURED} <= readings.keys():
-        return SHEET_NEEDS
-    return readings[report.ALTITUDE], readings[report.MEASURED], readings.get(report.HUMIDITY, 0)
-
-
-def sheets(all_counts):
-    """Each sheet under its heading, or its refusal."""
-    questions = [question("sheet", *(count / 1000 for count in counts)) for counts in all_counts]
-    for counts, rows in zip(all_counts, oracle.answers(questions)):
-        if rows.startswith("refused "):
-            yield f"{rows}{SHEET_REFUSED[int(rows.split()[1])]}\n"
-        else:
-            yield heading(*counts) + rows
+def usage():
+    """What stands below the command in the document's section."""
+    section = DOCUMENT.read_text().split("\n## Usage\n")[1].split("\n## ")[0]
+    _, *lines = (line[4:] for line in section.splitlines() if line.startswith("    "))
+    return text_of(lines)
 
 
 def text_or_asked(words):
-    """What is printed for the words where no figure is needed; else the readings of a report, or the counts of a sheet."""
-    if not words:
-        return USAGE
+    """What is printed for the words where no figure is needed; else what is typed, or a sheet's readings."""
+    if not words or words[0] in HELP:
+        return usage()
     if words[0] != "sheet":
         return understood(words)
     said = understood(words[1:])
-    return said if isinstance(said, str) else text_or_counts(said)
+    return said if isinstance(said, str) else is_no_sheet(said.readings) or Sheet(said.readings)
 
 
 def printed(cases):
     """What is printed for the words of each case."""
     said = [text_or_asked(words) for words in cases]
-    reported = report.reports([asked for asked in said if isinstance(asked, dict)])
-    ruled = sheets([asked for asked in said if isinstance(asked, tuple)])
-    return [text if isinstance(text, str) else next(reported if isinstance(text, dict) else ruled) for text in said]
+    typed = report.reports(Asked(one.readings, True, one.point) for one in said if isinstance(one, Typed))
+    ruled = sheets([one.readings for one in said if isinstance(one, Sheet)])
+    for one in said:
+        match one:
+            case str():
+                yield one
+            case Typed():
+                yield text_of(one.lines) + next(typed)
+            case Sheet():
+                yield next(ruled)
+
+
+def of_arguments(all_arguments):
+    """What is printed for each command line's arguments, of which one with a newline is as many words."""
+    lines = ["".join(argument + "\n" for argument in arguments) for arguments in all_arguments]
+    fitting = printed([line.split("\n")[:-1] for line in lines if len(line) <= LONGEST])
+    return [next(fitting) if len(line) <= LONGEST else TOO_LONG for line in lines]
 
 
 # ---- the cases
@@ -141,7 +303,200 @@ DECIMALS = [
     "1e3", "", "1.2.3", "..", ".", ".5", "5.", "-", "+", "+-3", "--3", "0x10", " 1", "1 ", "1,5", "12.345", "12.3456", "12.0000", "1.2345x",
     "1.x", "x", "nan", "inf", "NaN", "99999999999999999999", "-99999999999999999999.999", "4294967.296", "4294967296", "0" * 70 + "1",
     "0" * 70 + "1.5", "1" + "0" * 70, "=5", "5=6", "1/2", "1_000", "9" * 300, "1." + "0" * 300,
+    "1.000,5", "1,586", "1,5,6", ",", "1 5", "5 m", "-,5", "\t1", MINUS + "5", MINUS + MINUS, MINUS, "5" + MINUS, "\x7f5", "5\xb0C",
 ]
+
+# units of the other names too, and what is none
+WRITTEN = [
+    *["m", "ft", "C", "F", "K", "hPa", "kPa", "inHg", "percent", "%", "M", "Ft", "feet", "'", "f", "c", "hpa", "HPA", "Pa", "inhg", "in", "mbar"],
+    *["%%", "e3", "e", "x10", "m ", "=6"],
+]
+
+# awkward ones, with a half of the third decimal in feet (78.125) and inches of mercury (625), and the ends of the counts
+NUMBERS = {
+    "m": ["1586", "0.001", "-0", "2147483.647"],
+    "ft": ["5203", "1", "0.001", "-0.001", "78.125", "-78.125", "5000", "3.281", "1312.336", "2147483.647", "-2147483.648", "2147483.648"],
+    "C": ["24", "-0.001"],
+    "F": ["75", "32", "-40", "0", "-459.67", "-459.669", "-459.671", "59", "58.82", "59.18", "58.819", "59.181", "0.001", "122", "2147483.647"],
+    "K": ["297.15", "0", "0.001", "273.15", "288.15", "288.05", "288.25", "288.049", "288.251", "-2147483.648"],
+    "hPa": ["841.897", "1019.3"],
+    "kPa": ["84.19", "101.325", "0.001", "-0.001", "2147483.647", "214748.364", "214748.365"],
+    "inHg": [
+        *["30.10", "30.1025", "29.9213", "24.8612", "0.0001", "-0.0001", "625", "0.00001", "30.10250"],
+        *["214748.3647", "214748.3648", "-214748.3648", "-214748.3649"],
+    ],
+    "percent": ["32", "100.001"],
+    "%": ["32", "0.32", "100", "-1"],
+}
+
+
+BESIDE = {ALTITUDE: "altitude=1586", TEMPERATURE: "temperature=24", MEASURED: "pressure=841.897"}
+
+
+def with_units():
+    """Every name with every unit, and each unit's numbers."""
+    for name, (tag, example) in MEANINGS.items():
+        for unit in WRITTEN:
+            yield [f"{name}={example}{unit}"]
+        named = {tag, *(PRESSURE_SOURCES if tag in PRESSURE_SOURCES else ())}
+        beside = [] if tag == DENSITY_ALTITUDE else [word for other, word in BESIDE.items() if other not in named]
+        for unit in UNITS[tag]:
+            yield from ([f"{name}={number}{unit}", *beside] for number in NUMBERS[unit])
+    yield ["altitude=5203ft", "temperature=75F", "qnh=30.10inHg", "humidity=32%"]
+    yield ["humidity=32percent", "pressure=84.19kPa", "temperature=297.15K", "altitude=1586m"]
+    yield ["density-altitude=7000ft", "temperature=75F"]
+    yield ["altitude=5203ft", "altitude=5203ft"]
+    yield ["altitude=5203ft", "temperature=75f"]
+    yield ["temperature=" + "0" * 60 + "75.5F", "altitude=1586"]
+    yield ["temperature=75F", "altitude=5203ft", "pressure=-1kPa"]
+
+
+def mistakes():
+    """Those of which docs/PARK.md says what is printed."""
+    yield ["altitude=1586", "temperature=15", "pressure=841.897", "humidity=32"]
+    yield ["altitude=1586", "temperature=24", "station-pressure=1013.25", "humidity=32"]
+    yield ["altitude=1586", "temperature=24", "pressure=1019.3", "humidity=32"]
+    yield ["altitude=1586", "temperature=24", "qnh=841.9", "humidity=32"]
+    yield ["altitude=5203", "temperature=24", "pressure=841.9", "humidity=32"]
+    yield ["altitude=5203", "temperature=24", "qnh=1019.3", "humidity=32"]
+    yield ["altitude=1586", "temperature=75", "pressure=841.9", "humidity=32"]
+    yield ["altitude=1586", "temperature=297.15", "pressure=841.9", "humidity=32"]
+    yield ["altitude=1586", "temperature=24", "pressure=84.19", "humidity=32"]
+    yield ["altitude=1586", "temperature=24", "qnh=30.1", "humidity=32"]
+    yield ["altitude=1586", "temperature=24", "pressure=24.862", "humidity=32"]
+    yield ["altitude=1.586", "temperature=24", "qnh=1019.3", "humidity=32"]
+    yield ["altitude=1,586", "temperature=24", "qnh=1019.3", "humidity=32"]
+    yield ["altitude=1586", "temperature=24", "qnh=1019.3", "humidity=0.32"]
+    yield ["altitude=1586", "temperature=" + MINUS + "5", "qnh=1019.3", "humidity=32"]
+    yield ["altitude=1586", "temperature=24", "qnh=1019.3"]
+    yield ["density-altitude=7000", "temperature=24"]
+    yield ["density-altitude=2100", "temperature=15"]
+    for altitude in ["9.999", "10.000", "-9.999", "-10.000", "9.999ft", "10.000ft", "0.000", "1.58", "1.5860", "0001.586m", "-01.586ft", "1586.000"]:
+        yield [f"altitude={altitude}", "temperature=24", "qnh=1019.3"]
+        yield [f"density-altitude={altitude}", "temperature=24"]
+
+
+# what is said, words with a place for a number, and two numbers of which one has it said
+TURNS = [
+    ("14.9 to 15.1 C", "altitude=1586 temperature={} pressure=841.9", "14.899", "14.9"),
+    ("14.9 to 15.1 C", "altitude=1586 temperature={} pressure=841.9", "15.1", "15.101"),
+    ("14.9 to 15.1 C", "altitude={} temperature=15", "1", "1.001"),
+    ("14.9 to 15.1 C", "altitude={} temperature=15 humidity=50", "-1.001", "-1"),
+    ("14.9 to 15.1 C", "altitude=1586 temperature={}F qnh=1019.3", "58.819", "58.82"),
+    ("1012.75 to 1013.75 hPa", "altitude=300 temperature=24 station-pressure={}", "1012.75", "1012.751"),
+    ("1012.75 to 1013.75 hPa", "altitude=300 temperature=15 station-pressure={}", "1013.749", "1013.75"),
+    ("1012.75 to 1013.75 hPa", "altitude={} station-pressure=1013.25", "1", "1.001"),
+    ("1012.75 to 1013.75 hPa", "altitude={} station-pressure=1013.25", "-1.001", "-1"),
+    ("weather stays", "altitude=1586 temperature=24 pressure={}", "711.208", "711.209"),
+    ("weather stays", "altitude=1586 temperature=24 pressure={}", "903.652", "903.653"),
+    ("weather stays", "altitude=1586 temperature=24 station-pressure={}", "711.208", "711.209"),
+    ("weather stays", "altitude=1586 temperature=24 qnh={}", "866.359", "866.36"),
+    ("weather stays", "altitude=1586 temperature=24 qnh={}", "1091.322", "1091.323"),
+    ("weather stays", "altitude={} temperature=24 pressure=1013.25", "644.465", "644.466"),
+    ("if it is a QNH", "altitude=3000 temperature=24 pressure={}", "870.921", "870.922"),
+    ("if it is a QNH", "altitude=3000 temperature=24 station-pressure={}", "1088.666", "1088.667"),
+    ("if it was measured", "altitude=1586 temperature=24 qnh={}", "711.208", "711.209"),
+    ("if it was measured", "altitude=3000 temperature=24 qnh={}", "757.308", "757.309"),
+    ("if the altitude is in feet", "altitude=5203 temperature=24 pressure={}", "711.219", "711.22"),
+    ("if the altitude is in feet", "altitude=5203 temperature=24 pressure={}", "903.666", "903.667"),
+    ("in kPa", "altitude=1586 temperature=24 pressure={}", "71.12", "71.121"),
+    ("in kPa", "altitude=1586 temperature=24 station-pressure={}", "90.365", "90.366"),
+    ("in kPa", "altitude=1586 temperature=24 qnh={}", "86.635", "86.636"),
+    ("in kPa", "altitude=1586 temperature=24 qnh={}", "109.132", "109.133"),
+    ("in inches of mercury", "altitude=1586 temperature=24 qnh={}", "25.583", "25.584"),
+    ("in inches of mercury", "altitude=1586 temperature=24 qnh={}", "32.226", "32.227"),
+    ("in inches of mercury", "altitude=1586 temperature=24 pressure={}", "26.684", "26.685"),
+    ("outside -40 to 50 C", "altitude=1586 temperature={} pressure=841.9", "-40.001", "-40"),
+    ("outside -40 to 50 C", "altitude=1586 temperature={} pressure=841.9", "50", "50.001"),
+    ("outside -40 to 50 C", "altitude={}", "8472.816", "8472.817"),
+    ("Fahrenheit", "altitude=1586 temperature={} pressure=841.9", "122", "122.001"),
+    ("in kelvins", "altitude=1586 temperature={} pressure=841.9", "233.149", "233.15"),
+    ("in kelvins", "altitude=1586 temperature={} pressure=841.9", "323.15", "323.151"),
+    ("outside -500 to 5000 m", "altitude={} temperature=24", "-500.001", "-500"),
+    ("outside -500 to 5000 m", "altitude={} temperature=24", "5000", "5000.001"),
+    ("outside -500 to 5000 m", "density-altitude={} temperature=-20", "4909.84", "4909.841"),
+    ("try: altitude=", "altitude={} temperature=24", "16404.199", "16404.2"),
+    ("try: altitude=", "altitude={} temperature=24", "-1640.42", "-1640.419"),
+    ("try: density-altitude=", "density-altitude={}", "16404.199", "16404.2"),
+    ("try: density-altitude=", "density-altitude={}", "-1640.42", "-1640.419"),
+    ("is nearly dry air", "altitude=1586 temperature=24 humidity={}", "0", "0.001"),
+    ("is nearly dry air", "altitude=1586 temperature=24 humidity={}", "1", "1.001"),
+    ("trim class 1", "altitude=0 temperature=24 pressure={}", "852.733", "852.734"),
+    ("trim class 2", "altitude=0 temperature=24 pressure={}", "895.358", "895.359"),
+    ("trim class 3", "altitude=0 temperature=24 pressure={}", "937.981", "937.982"),
+    ("trim class 4", "altitude=0 temperature=24 pressure={}", "980.604", "980.605"),
+    ("trim class 5", "altitude=0 temperature=24 pressure={}", "1023.225", "1023.226"),
+    ("trim class 6", "altitude=0 temperature=24 pressure={}", "1065.845", "1065.846"),
+    ("refused 14", "altitude=1586 temperature=40 pressure={} humidity=100", "73.98", "73.981"),
+    ("refused 4\n", "density-altitude={}", "44283.085", "44283.086"),
+    ("refused 3\n", "altitude=0 temperature={}", "-273.15", "-273.149"),
+    ("refused 13\n", "altitude=0 humidity={}", "100", "100.001"),
+    ("refused 15\n", "altitude={} qnh=1013.25", "44642.093", "44642.094"),
+    ("by less than four decimals", "altitude=0 temperature=24 pressure={}", "852.69", "852.691"),
+    ("by less than four decimals", "altitude=0 temperature=24 pressure={}", "895.315", "895.316"),
+    ("by less than four decimals", "altitude=0 temperature=24 pressure={}", "937.939", "937.94"),
+    ("by less than four decimals", "altitude=0 temperature=24 pressure={}", "980.561", "980.562"),
+    ("by less than four decimals", "altitude=0 temperature=24 pressure={}", "1023.183", "1023.184"),
+    ("by less than four decimals", "altitude=0 temperature=24 pressure={}", "1065.803", "1065.804"),
+]
+
+
+def at_turns():
+    for _, form, *numbers in TURNS:
+        yield from (form.format(number).split(" ") for number in numbers)
+
+
+def of_sheets():
+    yield ["sheet"]
+    yield ["sheet", *PARK]
+    yield ["sheet", *reversed(PARK)]
+    yield ["sheet", *PARK[:2]]
+    yield ["sheet", "altitude=1586", "qnh=1019.3", "humidity=32"]
+    yield ["sheet", "altitude=5203ft", "qnh=30.10inHg", "humidity=32%"]
+    yield ["sheet", "altitude=78.125ft", "pressure=24.8625inHg"]
+    yield ["sheet", "altitude=60", "pressure=1008.3", "humidity=60"]
+    yield ["sheet", "altitude=60", "pressure=100.83kPa", "humidity=60"]
+    for hpa in ["1012.75", "1012.751", "1013.749", "1013.75", "841.897", "1013.25hPa"]:
+        yield ["sheet", "altitude=1586", f"station-pressure={hpa}", "humidity=32"]
+    for altitude in ["1", "1.001", "-1", "-1.001", "0", "3.281ft", "3.28ft"]:
+        yield ["sheet", f"altitude={altitude}", "station-pressure=1013.25"]
+    yield ["sheet", "pressure=1065.25", "altitude=-430.5", "humidity=100"]
+    yield ["sheet", "altitude=+4300", "humidity=0.001", "pressure=000600"]
+    yield ["sheet", "altitude=1.586", "pressure=500"]
+    yield ["sheet", "altitude=3000", "pressure=1200"]
+    yield ["sheet", *PARK[:1]]
+    yield ["sheet", *PARK[1:]]
+    yield ["sheet", PARK[2]]
+    yield ["sheet", PARK[0], "pressure=841.9", "qnh=1019.3"]
+    yield ["sheet", PARK[0], "station-pressure=841.9", "qnh=1019.3"]
+    yield ["sheet", PARK[0], "station-pressure=841.9", "qnh=1019.3", "pressure=841.9"]
+    for other in ["temperature=24", "density-altitude=1000"]:
+        yield ["sheet", *PARK, other]
+        yield ["sheet", other]
+        yield ["sheet", *PARK, "qnh=1", other]
+    yield ["sheet", *PARK, "qnh=1019.3"]
+    yield ["sheet", *PARK, PARK[0]]
+    yield ["sheet", *PARK, "altitude=x"]
+    yield ["sheet", *PARK, "height=1"]
+    yield ["sheet", "altitude=1,586"]
+    yield ["sheet", "temperature=24", "altitude=5 m"]
+    yield ["sheet", "sheet", *PARK]
+    yield [*PARK, "sheet"]
+    # refused: the pressure, the humidity, both; a row by 14, 15 and 17
+    for pressure in ["pressure", "station-pressure", "qnh"]:
+        for value in ["0", "-0.001", "-5inHg"]:
+            yield ["sheet", PARK[0], f"{pressure}={value}"]
+            yield ["sheet", PARK[0], f"{pressure}={value}", "humidity=-1"]
+        yield ["sheet", PARK[0], f"{pressure}=841.897", "humidity=100.001"]
+        yield ["sheet", PARK[0], f"{pressure}=841.897", "humidity=-0.001"]
+        for value in ["2", "7", "20", "50", "73", "75"]:
+            yield ["sheet", PARK[0], f"{pressure}={value}", "humidity=100"]
+        for value in ["0.001", "1", "2147483.647", "2147483.647kPa", "100000", "79000", "75500"]:
+            yield ["sheet", "altitude=0", f"{pressure}={value}"]
+    for altitude in ["44000", "45000", "2147483.647", "-2147483.648"]:
+        yield ["sheet", f"altitude={altitude}", "qnh=1013.25"]
+        yield ["sheet", f"altitude={altitude}", "qnh=1013.25", "humidity=101"]
+        yield ["sheet", f"altitude={altitude}", "pressure=1013.25"]
 
 
 def cases():
@@ -150,10 +505,10 @@ def cases():
     yield PARK
     yield from ([word] for word in GOOD)
     yield list(reversed(GOOD))
-    for decimal in DECIMALS:
-        yield [f"altitude={decimal}"]
-        yield ["altitude=100", f"temperature={decimal}", "pressure=1000"]
-        yield ["density-altitude=1000", f"humidity={decimal}"]
+    for number in DECIMALS:
+        yield [f"altitude={number}"]
+        yield ["altitude=100", f"temperature={number}", "pressure=1000"]
+        yield ["density-altitude=1000", f"humidity={number}"]
     for name in MEANINGS:
         yield [f"{name}=1"]
         yield [f"{name}=1", f"{name}=1"]
@@ -162,36 +517,48 @@ def cases():
         for word in [name, f"{name}:1", f"{name.capitalize()}=1", f"{name.upper()}=1", f" {name}=1", f"{name} =1", f"-{name}=1", f"{name}s=1", f"{name[:-1]}=1"]:
             yield [word]
             yield ["altitude=100", word]
-    for word in ["", "=", "=5", "altitude", "Altitude=5", "height=5", "x", "sheet", "sheet=1", "help", "--help", "a" * 64, "b" * 65, "c" * 300 + "=1", '"']:
+    words = ["", "=", "=5", "altitude", "Altitude=5", "height=5", "x", "sheet", "sheet=1", *HELP, "-help", '"', "\x80=\xff", "\\"]
+    for word in [*words, "a" * 64, "b" * 65, "c" * 300 + "=1"]:
+        yield [word]
         yield [word, "altitude=1"]
         yield ["altitude=1", word]
         yield ["sheet", word]
+    # a word that is cut when it is shown, with what is mended behind the cut and before it
+    ones = "1" * 60
+    for typed in [f"{ones},5", f"1,5{ones}", f" {ones}{ones}", f"{ones} 5", MINUS + ones, "1" + "\xe9" * 60 + ",", ", " * 40]:
+        yield [f"altitude={typed}"]
     yield ["altitude=x", "height=1"]
     yield ["height=1", "altitude=x"]
     yield ["altitude=1", "altitude=1", "temperature=1.2345"]
     yield ["temperature=1.2345", "altitude=1", "altitude=1"]
     yield ["altitude=9999999", "altitude=x"]
+    yield ["altitude=1", "altitude=9999999"]
     yield ["altitude=0", "station-pressure=1000", "qnh=1000"]
     yield ["density-altitude=0", "altitude=0"]
-    yield ["sheet"]
-    yield ["sheet", *PARK]
-    yield ["sheet", *reversed(PARK)]
-    yield ["sheet", *PARK[:2]]
-    yield ["sheet", "pressure=1065.25", "altitude=-430.5", "humidity=100"]
-    yield ["sheet", "altitude=+4300", "humidity=0.001", "pressure=000600"]
-    yield ["sheet", *PARK[:1]]
-    yield ["sheet", *PARK[1:]]
-    yield ["sheet", PARK[2]]
-    yield ["sheet", PARK[0], "pressure=0"]
-    yield ["sheet", PARK[0], "pressure=-0.001", "humidity=-1"]
-    yield ["sheet", *PARK[:2], "humidity=100.001"]
-    yield ["sheet", *PARK[:2], "humidity=-0.001"]
-    for other in ["temperature=24", "qnh=1019.3", "station-pressure=841.897", "density-altitude=1000"]:
-        yield ["sheet", *PARK, other]
-        yield ["sheet", other]
-    yield ["sheet", *PARK, PARK[0]]
-    yield ["sheet", "sheet", *PARK]
-    yield [*PARK, "sheet"]
+    yield from mistakes()
+    yield from with_units()
+    yield from at_turns()
+    yield from of_sheets()
+
+
+def arguments():
+    """Command lines that are no question to `ask`: about as long as one may be, and with a newline in an argument."""
+    for length in [LONGEST - 1, LONGEST, LONGEST + 1, 2 * LONGEST]:
+        yield ["x" * (length - 1)]
+        yield ["altitude=1586", "x" * (length - 15)]
+    yield ["altitude=1"] * 400
+    yield ["altitude=1586\ntemperature=24", "qnh=1019.3"]
+    yield ["altitude=1586\n"]
+    yield ["\n"]
+    yield ["help\nx"]
+
+
+def hold(answers):
+    """Each of TURNS is said for one of its two numbers."""
+    said = dict(zip(map(tuple, cases()), answers))
+    for phrase, form, *numbers in TURNS:
+        low, high = (phrase in said[tuple(form.format(number).split(" "))] for number in numbers)
+        assert low != high, (phrase, form)
 
 
 def questions():
@@ -201,9 +568,9 @@ def questions():
 
 def compare(program):
     """Each case by the program itself, whose arguments are the words."""
-    differ, all_cases = 0, list(cases())
-    for words, said in zip(all_cases, printed(all_cases)):
-        got = run([program, *words], capture_output=True, check=True).stdout.decode("ascii")
+    differ, all_cases = 0, [*cases(), *arguments()]
+    for words, said in zip(all_cases, of_arguments(all_cases)):
+        got = run([program, *(word.encode("latin-1") for word in words)], capture_output=True, check=True).stdout.decode("latin-1")
         if got != said:
             differ += 1
             print(f"{words}\nexpected:\n{said}got:\n{got}")
@@ -213,5 +580,7 @@ def compare(program):
 if __name__ == "__main__":
     if argv[1] == "compare":
         compare(argv[2])
+    elif argv[1] == "print":
+        stdout.write(of_arguments([[fsencode(word).decode("latin-1") for word in argv[2:]]])[0])
     else:
         save(argv[1], "words", questions())

@@ -134,6 +134,83 @@ static void write_record(void) {
     expect(out[0] == 0x11 && out[2] == 4, "its tag and its length");
 }
 
+static void read_record(void) {
+    /* 0 m as a double, 20 degrees and 1,000 hPa measured as counts */
+    const uint8_t mixed[25] = {1,    0, 8, 0, 0, 0,    0,    0, 0, 0, 0, /* altitude */
+                               0x12, 0, 4, 0, 0, 0x4E, 0x20,              /* temperature */
+                               0x17, 0, 4, 0, 0x0F, 0x42, 0x40};          /* measured pressure */
+    uint8_t forms[8];
+    double values[8];
+    int32_t counts[8];
+    uint8_t out[STATION_AIR_RECORD_BYTES_AT_MOST];
+    size_t length = 0;
+
+    memset(forms, 9, sizeof forms);
+    clear(values, 8);
+    memset(counts, 0xFF, sizeof counts);
+    expect(station_air_read(NULL, 0, NULL, 0, NULL, 0, NULL, 0) == STATION_AIR_TOO_SHORT, "read, all at NULL");
+    expect(station_air_read(mixed, 25, forms, 6, values, 7, counts, 7) == STATION_AIR_TOO_SHORT, "read, a form too few");
+    expect(station_air_read(mixed, 25, forms, 7, values, 6, counts, 7) == STATION_AIR_TOO_SHORT, "read, a value too few");
+    expect(station_air_read(unknown_tag, 3, forms, 7, values, 7, counts, 6) == STATION_AIR_TOO_SHORT,
+           "read, a count too few, whatever the record");
+    expect(station_air_read(mixed, 24, forms, 8, values, 8, counts, 8) == STATION_AIR_CUT, "read, a byte too few");
+    expect(station_air_read_strictly(falling, sizeof falling, forms, 8, values, 8, counts, 8) == STATION_AIR_TAG_FALLS,
+           "read strictly, a tag that falls");
+    expect(forms[0] == 9 && forms[6] == 9 && untouched(values, 0, 8) && counts[0] == -1 && counts[6] == -1,
+           "a refusal leaves the three arrays");
+    expect(station_air_read(mixed, sizeof mixed, forms, 8, values, 8, counts, 8) == STATION_AIR_FIGURES, "a record of both forms");
+    expect(forms[0] == STATION_AIR_FORM_DOUBLE && forms[1] == STATION_AIR_FORM_COUNT && forms[2] == STATION_AIR_FORM_ABSENT
+               && forms[6] == STATION_AIR_FORM_COUNT && forms[7] == 9,
+           "its forms, and the place after them");
+    expect(values[0] == 0 && values[1] == 20 && values[2] == 0 && values[6] == 1000 && values[7] == UNTOUCHED,
+           "its values, whatever the form");
+    expect(counts[0] == 0 && counts[1] == 20000 && counts[2] == 0 && counts[6] == 1000000 && counts[7] == -1, "its counts");
+    expect(station_air_write(forms, 7, values, 7, counts, 7, out, sizeof out, &length) == STATION_AIR_FIGURES
+               && length == sizeof mixed && memcmp(out, mixed, sizeof mixed) == 0,
+           "and written again, the same bytes");
+    expect(station_air_read(falling, sizeof falling, forms, 7, values, 7, counts, 7) == STATION_AIR_FIGURES
+               && values[STATION_AIR_READING_TEMPERATURE_C] == 20 && counts[1] == 0,
+           "a tag that falls, to the first reader");
+    expect(station_air_read_strictly(NULL, 0, forms, 7, values, 7, counts, 7) == STATION_AIR_FIGURES && forms[0] == 0
+               && forms[6] == 0,
+           "an empty record at NULL has no reading");
+    expect(STATION_AIR_TAG_ALTITUDE_M - 1 == STATION_AIR_READING_ALTITUDE_M && mixed[11] == STATION_AIR_TAG_OF_COUNTS + STATION_AIR_TAG_TEMPERATURE_C
+               && mixed[18] == STATION_AIR_TAG_OF_COUNTS + STATION_AIR_TAG_MEASURED_PRESSURE_HPA,
+           "tags and places");
+}
+
+static void trim_class(void) {
+    expect(station_air_trim_class(1.0) == 1 && station_air_trim_class(nextafter(1.0, 0)) == 0, "class 1 from 1.00 on");
+    expect(station_air_trim_class(1.25) == 6 && station_air_trim_class(INFINITY) == 6, "class 6 from 1.25 on");
+    expect(station_air_trim_class(NAN) == 0 && station_air_trim_class(-1) == 0, "class 0 of NaN and of what is below 0");
+}
+
+static void plausibility(void) {
+    double places[ROOM];
+    bool implausible = true;
+
+    clear(places, ROOM);
+    expect(station_air_station_pressure_plausibility(101325, 0, NULL, 0, &implausible) == STATION_AIR_TOO_SHORT && implausible,
+           "plausibility, NULL");
+    expect(station_air_station_pressure_plausibility(101325, 0, places, 1, &implausible) == STATION_AIR_TOO_SHORT && implausible
+               && untouched(places, 0, ROOM),
+           "plausibility, a place too few");
+    expect(station_air_station_pressure_plausibility(86126.25, 0, places, ROOM, &implausible) == STATION_AIR_FIGURES
+               && !implausible && places[STATION_AIR_PLAUSIBLE_STANDARD_PA] == 101325
+               && places[STATION_AIR_PLAUSIBLE_RATIO] == 0.85 && untouched(places, 2, ROOM),
+           "the least plausible ratio");
+    expect(station_air_station_pressure_plausibility(109431, 0, places, 2, &implausible) == STATION_AIR_FIGURES
+               && !implausible && places[STATION_AIR_PLAUSIBLE_RATIO] == 1.08,
+           "the greatest");
+    expect(station_air_station_pressure_plausibility(101325, 3310.128, places, 2, &implausible) == STATION_AIR_FIGURES
+               && implausible && places[STATION_AIR_PLAUSIBLE_RATIO] > 1.5,
+           "sea level's pressure on a mountain");
+    implausible = false;
+    expect(station_air_station_pressure_plausibility(NAN, 0, places, 2, &implausible) == STATION_AIR_FIGURES && implausible
+               && isnan(places[STATION_AIR_PLAUSIBLE_RATIO]),
+           "NaN is implausible");
+}
+
 static void convert(void) {
     const uint8_t counted[7] = {0x11, 0, 4, 0, 0, 0, 0};
     uint8_t out[11];
@@ -273,6 +350,27 @@ static void others(void) {
                && untouched(places, 2, ROOM),
            "and its two values");
 
+    clear(places, ROOM);
+    expect(station_air_resolve_atmosphere_for_density_altitude(0, false, 0, NULL, 0) == STATION_AIR_TOO_SHORT,
+           "resolved density altitude, NULL");
+    expect(station_air_resolve_atmosphere_for_density_altitude(0, true, 15, places, 2) == STATION_AIR_TOO_SHORT
+               && untouched(places, 0, ROOM),
+           "resolved density altitude, a place too few");
+    expect(station_air_resolve_atmosphere_for_density_altitude(0, true, 15, places, ROOM) == STATION_AIR_FIGURES
+               && places[STATION_AIR_ALTITUDE_M] == 0 && places[STATION_AIR_TEMPERATURE_C] == 15
+               && places[STATION_AIR_PRESSURE_HPA] == 1013.25 && untouched(places, 3, ROOM),
+           "the station at sea level");
+    expect(station_air_resolve_atmosphere_for_density_altitude(NAN, false, 0, places, 3) == STATION_AIR_FIGURES
+               && isnan(places[STATION_AIR_ALTITUDE_M]),
+           "no density altitude is refused");
+
+    double air[2];
+    expect(station_air_calculate_atmosphere(0, true, 15, true, 1013.25, 0, air, 2) == STATION_AIR_FIGURES
+               && station_air_calculate_air_density_cimp(15, 1013.25, 0) == air[STATION_AIR_AIR_DENSITY_KG_M3]
+               && station_air_moist_speed_of_sound(288.15, 101325, 0) == air[STATION_AIR_AIR_SPEED_OF_SOUND_MPS],
+           "density and speed of sound, each by itself");
+    expect(station_air_version() == STATION_AIR_VERSION, "header and archive are of one version");
+
     expect(station_air_power(1, 26) == 1 && isnan(station_air_power(1, 27)), "exponents by number");
 }
 
@@ -280,6 +378,9 @@ int main(void) {
     judge();
     judge_strictly();
     write_record();
+    read_record();
+    trim_class();
+    plausibility();
     convert();
     load_record();
     vote();

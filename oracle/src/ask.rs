@@ -212,6 +212,10 @@ fn called(function: &Function, inputs: &[&str]) -> String {
             _ => format!("some {}", shown(value(figures[1]))),
         },
         "station_for_density_altitude" => station(&figures),
+        "station_pressure_plausibility" => {
+            let implausible = figures[2].word() == 1;
+            format!("{} {implausible}", all_shown(&values(&figures[..2])))
+        }
         _ => all_shown(&values(&figures)),
     })
 }

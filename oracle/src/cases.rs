@@ -58,6 +58,15 @@ pub fn hold(functions: &[Function]) {
         1013.25
     );
 
+    // the source's own figures of its plausible station pressures
+    let implausible = |p: f64, h: f64| at("station_pressure_plausibility", &[p, h])[2] == 1;
+    let ratio = at("station_pressure_plausibility", &[101_325.0, 3310.128])[1];
+    assert!((f64::from_bits(ratio) - 1.503).abs() < 5e-4 && implausible(101_325.0, 3310.128));
+    assert!(!implausible(101_325.0, 640.0) && implausible(101_325.0, 650.0));
+    assert!(!implausible(86_126.25, 0.0) && implausible(86_126.2, 0.0));
+    assert!(!implausible(109_431.0, 0.0) && implausible(109_431.1, 0.0));
+    assert!(implausible(f64::NAN, 0.0) && implausible(101_325.0, f64::NAN));
+
     assert!((value("pressure_altitude_m", &[0.0]) - 178_325.0).abs() < 0.5);
     assert!(value("pressure_altitude_m", &[-1.0]).is_nan());
 

@@ -66,9 +66,9 @@ pub fn compare_rules(calls: u64) -> bool {
 }
 
 fn show(rows: &[Row]) {
-    println!("{:<36}{:>12}{:>13}", "function", "calls", "differences");
+    println!("{:<40}{:>12}{:>13}", "function", "calls", "differences");
     for row in rows {
-        println!("{:<36}{:>12}{:>13}", row.name, row.calls, row.differences);
+        println!("{:<40}{:>12}{:>13}", row.name, row.calls, row.differences);
     }
 }
 

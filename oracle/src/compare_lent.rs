@@ -62,6 +62,12 @@ pub fn row() -> Row {
             exports::for_density_altitude(d, t, lent)
         });
     }
+    check("resolve_atmosphere_for_density_altitude", 3, &|lent, _| {
+        exports::resolve_atmosphere_for_density_altitude(0.0, None, lent)
+    });
+    check("station_pressure_plausibility", 2, &|lent, mark| {
+        exports::station_pressure_plausibility(101_325.0, 3000.0, lent, mark)
+    });
     for (altitude, room) in [(0.0, PAGE), (f64::NAN, PAGE), (0.0, 0)] {
         check("setting_sheet", 1, &|lent, _| {
             exports::setting_sheet(altitude, 1000.0, 50.0, &mut filled(room), lent)

@@ -35,7 +35,7 @@ impl Pair {
     }
 }
 
-pub const PAIRS: [Pair; 11] = [
+pub const PAIRS: [Pair; 15] = [
     Pair {
         name: "calculate_icao_standard_atmosphere",
         ours: |x| lent(|places| exports::standard_atmosphere(at(x, 0), places)),
@@ -99,6 +99,45 @@ pub const PAIRS: [Pair; 11] = [
             ))
         },
         theirs: same,
+    },
+    Pair {
+        name: "calculate_air_density_cimp",
+        ours: |x| {
+            number(exports::calculate_air_density_cimp(
+                at(x, 0),
+                at(x, 1),
+                at(x, 2),
+            ))
+        },
+        theirs: same,
+    },
+    Pair {
+        name: "moist_speed_of_sound",
+        ours: |x| number(exports::moist_speed_of_sound(at(x, 0), at(x, 1), at(x, 2))),
+        theirs: same,
+    },
+    Pair {
+        name: "resolve_atmosphere_for_density_altitude",
+        ours: |x| {
+            lent(|places| exports::resolve_atmosphere_for_density_altitude(at(x, 0), x[1], places))
+        },
+        theirs: figures,
+    },
+    Pair {
+        name: "station_pressure_plausibility",
+        ours: |x| {
+            let mut implausible = false;
+            let mut answer = lent(|places| {
+                exports::station_pressure_plausibility(at(x, 0), at(x, 1), places, &mut implausible)
+            });
+            answer.push(implausible.into());
+            answer
+        },
+        theirs: |words| {
+            let mut answer = figures(words[..2].to_vec());
+            answer.push(words[2]);
+            answer
+        },
     },
     Pair {
         name: "station_for_density_altitude",

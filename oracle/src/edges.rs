@@ -27,6 +27,12 @@ const STATION_TEMPERATURES: [Option<f64>; 13] = [
     Some(1e15),
 ];
 
+/// Sea level, the source's two altitudes, the ends of document 01's range, layers, and the clamps.
+const PLAUSIBLE_ALTITUDES: [f64; 12] = [
+    0.0, 645.0, 3310.128, -500.0, 5000.0, 1586.0, 11_000.0, 25_000.0, 84_000.0, 90_000.0, -5000.0,
+    -6000.0,
+];
+
 pub fn edges(name: &str) -> Vec<Inputs> {
     match name {
         "enhanced_compressibility_factor" => dense_air(),
@@ -43,6 +49,7 @@ pub fn edges(name: &str) -> Vec<Inputs> {
         "density_matched_altitude_m" => matched_at_tropopause(),
         "resolve_station_pressure" => default_bands(&[1012.75, 1013.75]),
         "resolve_station_temperature" => default_bands(&[14.9, 15.1]),
+        "station_pressure_plausibility" => plausible_ends(),
         "nws_pressure_altitude_ft" => nws_ends(),
         "pressure_altitude_m" => [nws_ends(), layer_tops(name, &LAYER_TOPS, 1000.0)].concat(),
         "standard_pressure_altitude_m" => {
@@ -117,6 +124,33 @@ fn default_bands(sides: &[f64]) -> Vec<Inputs> {
     for x in sides.iter().flat_map(|side| near(*side, 1)) {
         for altitude in [near(1.0, 1), near(-1.0, 1)].concat() {
             inputs.push(given(&[x, altitude]));
+        }
+    }
+    inputs
+}
+
+/// Pressures about the two ends of the plausible ratios, at altitudes low and high.
+fn plausible_ends() -> Vec<Inputs> {
+    let plausibility = named(&FUNCTIONS, "station_pressure_plausibility");
+    let mut inputs = Vec::new();
+    for altitude in PLAUSIBLE_ALTITUDES {
+        let ratio = |p: f64| f64::from_bits(plausibility.at(&[p, altitude])[1].word());
+        let (_, least) = edge(0.0, 300_000.0, |p| ratio(p) < 0.85);
+        let (greatest, _) = edge(0.0, 300_000.0, |p| ratio(p) <= 1.08);
+        for p in [near(least, 3), near(greatest, 3)].concat() {
+            inputs.push(given(&[p, altitude]));
+        }
+        for p in [
+            101_325.0,
+            0.0,
+            -0.0,
+            -101_325.0,
+            5e-324,
+            f64::MAX,
+            f64::INFINITY,
+            f64::NAN,
+        ] {
+            inputs.push(given(&[p, altitude]));
         }
     }
     inputs

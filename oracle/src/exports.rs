@@ -20,6 +20,18 @@ unsafe extern "C" {
         pressure_hpa: f64,
         humidity_percent: f64,
     ) -> f64;
+    #[link_name = "station_air_calculate_air_density_cimp"]
+    pub safe fn calculate_air_density_cimp(
+        temperature_c: f64,
+        pressure_hpa: f64,
+        humidity_percent: f64,
+    ) -> f64;
+    #[link_name = "station_air_moist_speed_of_sound"]
+    pub safe fn moist_speed_of_sound(
+        temperature_k: f64,
+        pressure_pa: f64,
+        humidity_percent: f64,
+    ) -> f64;
     #[link_name = "station_air_keeps_pressure"]
     pub safe fn keeps_pressure(pressure_hpa: f64, altitude_m: f64) -> bool;
     #[link_name = "station_air_keeps_temperature"]
@@ -56,6 +68,20 @@ unsafe extern "C" {
         temperature_c: f64,
         lent: *mut f64,
         places: usize,
+    ) -> u32;
+    fn station_air_resolve_atmosphere_for_density_altitude(
+        density_altitude_m: f64,
+        temperature_given: bool,
+        temperature_c: f64,
+        lent: *mut f64,
+        places: usize,
+    ) -> u32;
+    fn station_air_station_pressure_plausibility(
+        station_pressure_pa: f64,
+        altitude_m: f64,
+        lent: *mut f64,
+        places: usize,
+        implausible: &mut bool,
     ) -> u32;
     fn station_air_judge(
         record: *const u8,
@@ -168,6 +194,40 @@ pub fn for_density_altitude(
             temperature_c.unwrap_or(NOT_GIVEN),
             lent.as_mut_ptr(),
             lent.len(),
+        )
+    }
+}
+
+pub fn resolve_atmosphere_for_density_altitude(
+    density_altitude_m: f64,
+    temperature_c: Option<f64>,
+    lent: &mut [f64],
+) -> u32 {
+    unsafe {
+        station_air_resolve_atmosphere_for_density_altitude(
+            density_altitude_m,
+            temperature_c.is_some(),
+            temperature_c.unwrap_or(NOT_GIVEN),
+            lent.as_mut_ptr(),
+            lent.len(),
+        )
+    }
+}
+
+pub fn station_pressure_plausibility(
+    station_pressure_pa: f64,
+    altitude_m: f64,
+    lent: &mut [f64],
+    implausible: &mut bool,
+) -> u32 {
+    let (places, lent) = (lent.len(), lent.as_mut_ptr());
+    unsafe {
+        station_air_station_pressure_plausibility(
+            station_pressure_pa,
+            altitude_m,
+            lent,
+            places,
+            implausible,
         )
     }
 }

@@ -47,7 +47,7 @@ fn station(answer: Result<(f64, f64, f64), AtmosphereError>) -> Vec<Figure> {
     }
 }
 
-pub const FUNCTIONS: [Function; 27] = [
+pub const FUNCTIONS: [Function; 28] = [
     Function {
         list: "layers",
         name: "geometric_to_geopotential_height_m",
@@ -303,5 +303,18 @@ pub const FUNCTIONS: [Function; 27] = [
         name: "station_for_density_altitude",
         inputs: &[Given(DensityAltitude), Maybe(Celsius)],
         answer: |x| station(station_for_density_altitude(at(x, 0), x[1])),
+    },
+    Function {
+        list: "station",
+        name: "station_pressure_plausibility",
+        inputs: &[Given(Pascals), Given(Altitude)],
+        answer: |x| {
+            let judged = station_pressure_plausibility(at(x, 0), at(x, 1));
+            vec![
+                Number("standard", judged.icao_standard_pa),
+                Number("ratio", judged.ratio),
+                Choice("implausible", judged.implausible.into()),
+            ]
+        },
     },
 ];

@@ -9,6 +9,7 @@ use super::moist::saturation_at;
 use super::moist::sound_speed_of;
 use atmosphere::given::Reading;
 use atmosphere::layers::calculate_icao_standard_atmosphere;
+use atmosphere::layers::standard_temperature_k;
 
 // A temperature and a pressure, as the formulas take them and as they are shown.
 pub struct Conditions {
@@ -67,27 +68,26 @@ pub(crate) fn conditions_at(
                 }
             }
         },
-        Reading::FromLayer => {
-            let standard = calculate_icao_standard_atmosphere(altitude_m);
-            match press_override_hpa {
-                Reading::Given(pressure_hpa) => {
-                    Conditions {
-                        temp_k: standard.temperature_k,
-                        pressure_pa: pressure_hpa * 100.0,
-                        shown_c: standard.temperature_k - 273.15,
-                        shown_hpa: pressure_hpa,
-                    }
-                }
-                Reading::FromLayer => {
-                    Conditions {
-                        temp_k: standard.temperature_k,
-                        pressure_pa: standard.pressure_pa,
-                        shown_c: standard.temperature_k - 273.15,
-                        shown_hpa: standard.pressure_pa / 100.0,
-                    }
+        Reading::FromLayer => match press_override_hpa {
+            Reading::Given(pressure_hpa) => {
+                let temperature_k = standard_temperature_k(altitude_m);
+                Conditions {
+                    temp_k: temperature_k,
+                    pressure_pa: pressure_hpa * 100.0,
+                    shown_c: temperature_k - 273.15,
+                    shown_hpa: pressure_hpa,
                 }
             }
-        }
+            Reading::FromLayer => {
+                let standard = calculate_icao_standard_atmosphere(altitude_m);
+                Conditions {
+                    temp_k: standard.temperature_k,
+                    pressure_pa: standard.pressure_pa,
+                    shown_c: standard.temperature_k - 273.15,
+                    shown_hpa: standard.pressure_pa / 100.0,
+                }
+            }
+        },
     }
 }
 

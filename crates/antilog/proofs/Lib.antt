@@ -6,10 +6,12 @@ pub mod HowNear
 pub mod LogDigits
 pub mod Ordered
 pub mod OneFraction
+mod LaterRoots
 mod Window
 mod Tested
 mod Nearly
 mod Entries
+mod Excluded
 pub mod Near
 pub mod NearestWhole
 pub mod RootDigits

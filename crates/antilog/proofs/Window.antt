@@ -1,11 +1,12 @@
 -- Where the estimate puts the antilog's root, and that a number between two that round to one double rounds to it too. Assumes nothing.
-use Rattle.arithmetic.proofs.Kit.{_≡_, sym, ap, _∙_, subst, false, ℕ, _+_, _*_, _/_, _%_, _^_, _≤_, _<_, le-trans, le-of-eq, lt-of-le-of-lt, mul-le-mul-right, mul-lt-mul-of-pos-right, mod-eq-of-lt, arith, ℤ, T, pow-pos, pow-add, binary64, up, down, fits, le, round-fits}
+use Rattle.arithmetic.proofs.Kit.{_≡_, refl, sym, ap, _∙_, subst, subst₂, Bool, true, false, cond, ℕ, _+_, _*_, _/_, _%_, _^_, _≤_, _<_, le-trans, le-of-eq, lt-of-le-of-lt, mul-le-mul-right, mul-lt-mul-of-pos-right, mod-eq-of-lt, mul-one, arith, ℤ, pos, negsuc, _-ℤ_, T, Float, pow-pos, pow-add, binary64, up, down, fits, le, round-fits}
 use Rattle.antilog.specs.Estimate.{estimate}
 use Rattle.antilog.proofs.Near.{estimate-near, Estimates}
 use Rattle.arithmetic.proofs.Powers.{pow-scaled, lt-of-powers, le-of-powers}
 use Rattle.arithmetic.specs.Nearest.{nearestScaled}
 use Rattle.antilog.specs.Antilog.{antilogRoot}
 use Rattle.arithmetic.specs.Places.{places}
+use Rattle.arithmetic.proofs.Compared.{at-most, below, turned, more-places}
 use Rattle.arithmetic.proofs.Order.{unsigned, antisymmetric, le-trans-double}
 use Rattle.arithmetic.proofs.Rounding.{round-unsigned, scaled-mono}
 use Rattle.antilog.proofs.Distance.{antilogRoot-below, antilogRoot-above}
@@ -40,20 +41,41 @@ pub record Window (half Y : ℕ) : Type 0 where
   pub low : half ≤ Y + 3
   pub high : Y ≤ half + 10
 
--- of the estimate for f's lowest 60 bits, which are all of them
-pub window : (f A : ℕ) → f < 2 ^ places → A ≡ estimate (f % 2 ^ 60) → Window (A / 2) (antilogRoot places f)
-window f A short made =
-    let is : Estimates f A = subst (λ (n : ℕ). Estimates f n) (sym (made ∙ ap estimate (mod-eq-of-lt short))) (estimate-near f short) in
-    let Y : ℕ = antilogRoot places f in
-    let above : A < (Y + 4) * 2 ^ 1 = not-far-above places f Y A (antilogRoot-above places f short) (is .neverTooGreat) in
-    let below : Y * 2 ^ 1 ≤ A + 19 = not-far-below places f Y A (antilogRoot-below places f short) (is .atMostNineteenTooSmall) in
+-- of the estimate for f as a number of 60 places, of which it has p
+pub window : (p q f A : ℕ) → p + q ≡ 60 → f < 2 ^ p → A ≡ estimate (f * 2 ^ q % 2 ^ 60) → Window (A / 2) (antilogRoot p f)
+window p q f A all short made =
+    let g : ℕ = f * 2 ^ q in
+    let fits : g < 2 ^ 60 = subst (λ (n : ℕ). g < n) (sym (pow-add 2 p q) ∙ ap (λ (n : ℕ). 2 ^ n) all) (mul-lt-mul-of-pos-right short (pow-pos q)) in
+    let is : Estimates g A = subst (λ (n : ℕ). Estimates g n) (sym (made ∙ ap estimate (mod-eq-of-lt fits))) (estimate-near g fits) in
+    let Y : ℕ = antilogRoot p f in
+    let over : 2 ^ (62 * 2 ^ 60 + g) < (Y + 4) ^ 2 ^ 60 =
+    subst (λ (n : ℕ). 2 ^ (62 * 2 ^ n + g) < (Y + 4) ^ 2 ^ n) all (more-places (turned below) 62 p q f (Y + 4) (antilogRoot-above p f short)) in
+    let under : Y ^ 2 ^ 60 ≤ 2 ^ (62 * 2 ^ 60 + g) =
+    subst (λ (n : ℕ). Y ^ 2 ^ n ≤ 2 ^ (62 * 2 ^ n + g)) all (more-places at-most 62 p q f Y (antilogRoot-below p f short)) in
+    let above : A < (Y + 4) * 2 ^ 1 = not-far-above 60 g Y A over (is .neverTooGreat) in
+    let not-above : Y * 2 ^ 1 ≤ A + 19 = not-far-below 60 g Y A under (is .atMostNineteenTooSmall) in
     record { low = omega arith; high = omega arith }
+
+-- of all places
+pub of-all : (f A : ℕ) → f < 2 ^ places → A ≡ estimate (f % 2 ^ 60) → Window (A / 2) (antilogRoot places f)
+of-all f A short made = window 60 0 f A refl short (made ∙ ap (λ (n : ℕ). estimate (n % 2 ^ 60)) (sym (mul-one f)))
 
 -- ---- a number between two that round alike
 
-pub rounds-alike : (e : ℤ) (low m high : ℕ) → low ≤ m → m ≤ high → T (le (nearestScaled high e) (nearestScaled low e)) → nearestScaled low e ≡ nearestScaled m e
+rounds-alike : (e : ℤ) (low m high : ℕ) → low ≤ m → m ≤ high → T (le (nearestScaled high e) (nearestScaled low e)) → nearestScaled low e ≡ nearestScaled m e
 rounds-alike e low m high h k ends =
     let double : (n : ℕ) → T (fits binary64 (nearestScaled n e)) = λ n. round-fits binary64 false (n * up e) (down e) in
     let plus : (n : ℕ) → T (unsigned (nearestScaled n e)) = λ n. round-unsigned binary64 (n * up e) (down e) in
     antisymmetric (nearestScaled low e) (nearestScaled m e) (plus low) (plus m) (double low) (double m) (scaled-mono e h)
     (le-trans-double (nearestScaled m e) (nearestScaled high e) (nearestScaled low e) (double m) (double high) (double low) (scaled-mono e k) ends)
+
+-- what is answered where the ends round alike
+pub alike : (e : ℤ) (Y : ℕ) {from to : ℕ} {low high : Float} → low ≡ nearestScaled from e → high ≡ nearestScaled to e → le high low ≡ true
+    → from ≤ Y → Y ≤ to → low ≡ nearestScaled Y e
+alike e Y {from} {to} is-low is-high test below above =
+    let ends : T (le (nearestScaled to e) (nearestScaled from e)) = subst₂ (λ (x y : Float). T (le x y)) is-high is-low (subst T (sym test) tt) in
+    is-low ∙ rounds-alike e from Y to below above ends
+
+-- the exponent of two that a root is scaled by
+abbrev pub exponent : Bool → ℕ → ℤ
+exponent negative whole = cond negative (negsuc whole) (pos whole) -ℤ pos 62

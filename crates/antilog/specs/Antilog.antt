@@ -13,6 +13,12 @@ unfolding root
 antilogRoot zero f = 2 ^ 62
 antilogRoot (suc places) f = root (antilogRoot places (f % 2 ^ places) * 2 ^ (62 + f / 2 ^ places))
 
+-- the same from any Y, of n bits
+unfoldable pub laterRoots : (n Y f : ℕ) → ℕ
+unfolding root
+laterRoots zero Y f = Y
+laterRoots (suc n) Y f = root (laterRoots n Y (f % 2 ^ n) * 2 ^ (62 + f / 2 ^ n))
+
 -- k = floor(P / 2^places), f the remainder; the double nearest to Y * 2^(k - 62)
 unfoldable pub antilog : ℕ → ℤ → Float
 unfolding antilogRoot round

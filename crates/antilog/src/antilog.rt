@@ -1,11 +1,11 @@
 // The antilog: 2 to the power of a word, by repeated square roots, as the nearest double.
 ghost use mathlib.Core.Path.{_≡_};
 ghost use mathlib.Core.Bool.{cond};
-ghost use Prim.Native.Nat.{_^_, _<_};
+ghost use Prim.Native.Nat.{_-_, _^_, _≤_, _<_};
 ghost use lib.IntN.{pos, negsuc, _-ℤ_};
 ghost use Rattle.arithmetic.specs.Whole.{wordValue};
 ghost use Rattle.arithmetic.specs.Nearest.{nearestScaled};
-ghost use Rattle.antilog.specs.Antilog.{antilogRoot, antilog};
+ghost use Rattle.antilog.specs.Antilog.{antilogRoot, laterRoots, antilog};
 ghost use Rattle.arithmetic.specs.Places.{places};
 use crate::estimate::estimate;
 use arithmetic::nearest::nearest_product;
@@ -19,17 +19,21 @@ use roots::quick::quick_root;
 use roots::reciprocal_table::reciprocal_table;
 use roots::root_table::root_table;
 
-// 2^62 times 2 to the power f / 2^60, from f's lowest bit to its highest. The radicand, y * 2^62 or
-// y * 2^63, has its upper word from y's upper bits, and from 125 to 126 bits.
-fn antilog_root(f: u64) -> u64
-    requires { ⌜ f < 2 ^ places ⌝ }
-    ensures { λ r. ⌜ r ≡ antilogRoot places f ⌝ }
+// What the roots from a place on make of y, one for each bit that is left, lowest first. The radicand,
+// y * 2^62 or y * 2^63, has its upper word from y's upper bits, and from 125 to 126 bits.
+fn later_roots(
+    start: u64,
+    first: u32,
+    bits: u64,
+    roots: &[u64; 768],
+    reciprocals: &[u32; 768],
+) -> u64
+    requires { ⌜ (first ≤ places) × (bits < 2 ^ (places - first)) ⌝ }
+    ensures { λ r. ⌜ r ≡ laterRoots (places - first) start bits ⌝ }
 {
-    let roots = root_table();
-    let reciprocals = reciprocal_table();
-    let mut y = 0x4000_0000_0000_0000u64;
-    let mut rest = f;
-    let mut place = 0u32;
+    let mut y = start;
+    let mut rest = bits;
+    let mut place = first;
     while place < PLACES {
         let bit = rest % 2;
         y = quick_root(
@@ -37,8 +41,8 @@ fn antilog_root(f: u64) -> u64
                 hi: y >> (2 - bit),
                 lo: y << (62 + bit),
             },
-            &roots,
-            &reciprocals,
+            roots,
+            reciprocals,
         );
         rest = rest / 2;
         place += 1;
@@ -60,9 +64,30 @@ fn scaled(y: u64, negative: bool, whole: u64) -> f64
     nearest_product(y, whole - 62)
 }
 
+// The same of the root for f, by its roots. The first 54 are estimated, and the last six are taken of both
+// ends of what they can be: each root halves the distance, so that the ends mostly round alike. All sixty
+// are taken only where they do not.
+fn scaled_by_roots(f: u64, negative: bool, whole: u64) -> f64
+    requires { ⌜ (f < 2 ^ places) × (whole < 2 ^ 62) ⌝ }
+    ensures { λ r. ⌜ r ≡ nearestScaled (antilogRoot places f) (cond negative (negsuc whole) (pos whole) -ℤ pos 62) ⌝ }
+{
+    let roots = root_table();
+    let reciprocals = reciprocal_table();
+    let early = estimate(f % 0x40_0000_0000_0000 * 64) / 2;
+    let last = f / 0x40_0000_0000_0000;
+    let least = later_roots(early - 3, 54, last, &roots, &reciprocals);
+    let most = later_roots(early + 10, 54, last, &roots, &reciprocals);
+    let low = scaled(least, negative, whole);
+    if scaled(most, negative, whole) <= low {
+        return low;
+    }
+    let y = later_roots(0x4000_0000_0000_0000, 0, f, &roots, &reciprocals);
+    scaled(y, negative, whole)
+}
+
 // The same of the root for f. Half its estimate is at most 3 above it and at most 10 below it, and of
 // these bits the double keeps all but ten: where both ends round alike, as they mostly do, so does the
-// root, and only else is it taken.
+// root, and only else are roots taken.
 fn scaled_root(f: u64, negative: bool, whole: u64) -> f64
     requires { ⌜ (f < 2 ^ places) × (whole < 2 ^ 62) ⌝ }
     ensures { λ r. ⌜ r ≡ nearestScaled (antilogRoot places f) (cond negative (negsuc whole) (pos whole) -ℤ pos 62) ⌝ }
@@ -73,7 +98,7 @@ fn scaled_root(f: u64, negative: bool, whole: u64) -> f64
     if high <= low {
         return low;
     }
-    scaled(antilog_root(f), negative, whole)
+    scaled_by_roots(f, negative, whole)
 }
 
 // 2 to the power w, w being in units of 2^-60.

@@ -5,7 +5,7 @@ mod table;
 ghost use mathlib.Core.Path.{_≡_};
 ghost use Prim.Native.Nat.{_%_, _^_, _<_};
 ghost use Rattle.antilog.specs.Estimate.{multiplied, estimate};
-use crate::estimate::table::excess_table;
+use crate::estimate::table::excess;
 use arithmetic::wide::product;
 
 // What 2^(1 / 2^60) exceeds 1 by, in units of 2^-96, likewise.
@@ -27,13 +27,12 @@ fn multiplied(a: u64, excess: u64, k: u64) -> u64
 pub fn estimate(f: u64) -> u64
     ensures { λ r. ⌜ r ≡ estimate (f % 2 ^ 60) ⌝ }
 {
-    let excesses = excess_table();
     let part = f % 0x1000_0000_0000_0000;
     let mut a = 0x8000_0000_0000_0000;
     let mut j = 0;
     while j < 8 {
         let digit = (part >> (56 - 4 * j)) % 16;
-        a = multiplied(a, excesses[(16 * j + digit) as usize], 4 * j);
+        a = multiplied(a, excess(16 * j + digit), 4 * j);
         j += 1;
     }
     multiplied(a, part % 0x1000_0000 * LAST_EXCESS, 32)

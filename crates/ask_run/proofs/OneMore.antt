@@ -83,7 +83,7 @@ module _ (ended : Bool) (s : List ℕ) (n taken : ℕ) {end next : ℕ} (rest : 
 
 -- each answer is begun with room for the longest
 pub room-again : (n : ℕ) (s : List ℕ) {page middle : List ℕ} {written : ℕ} → Appended page 0 (answersTo n s) middle written → length (answersTo n s) ≤ length page
-    → written + 2048 ≤ length middle → length (answersTo (n + 1) s) ≤ length page
+    → written + 4096 ≤ length middle → length (answersTo (n + 1) s) ≤ length page
 unfolding answersTo
 room-again n s a room free =
     let line = firstLine (linesAfter n s) in

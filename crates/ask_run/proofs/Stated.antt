@@ -4,4 +4,4 @@ use Rattle.lines.specs.Answers.{answerLine}
 
 -- an answer is begun where it has room, with 4,096 bytes free
 abbrev pub HasRoom : Type 0
-HasRoom = (line : List ℕ) → length (answerLine line) ≤ 2048
+HasRoom = (line : List ℕ) → length (answerLine line) ≤ 4096

@@ -5,7 +5,7 @@ use lines::put_line_answer;
 use questions::line_ends::Found;
 use questions::line_ends::first_line;
 
-// An answer is begun with so many bytes free; none is longer than 2,048.
+// An answer is begun with so many bytes free; none is longer than 4,096.
 const LONGEST: usize = 4096;
 
 // How many lines were answered, how many bytes of input they are, and how many the answers are.

@@ -3,7 +3,7 @@
 use Rattle.arithmetic.proofs.Kit.{_≡_, refl, sym, ap, subst, _∙_, Bool, true, false, not, _&&_, cond, true≢false, ℕ, zero, suc, _+_, _≤_, _<_, arith, le-leb, lt-leb, leb-true, leb-false, T, leb, lit≤, Float, nan, inf, fin, binary64, ofBits, fits, lt, le, isNan, is-true, is-false}
 use Rattle.arithmetic.proofs.Order.{number}
 use Rattle.arithmetic.proofs.Strict.{less-of-not-le, not-le-of-less, lt-le-trans}
-use Rattle.atmosphere.specs.Layers.{layers, firstFrom, baseHeight, layerAt, Range, OnlyRange, highestUpTo}
+use Rattle.atmosphere.specs.Layers.{layers, firstFrom, baseHeight, standardHeight, layerAt, layerAir, standardAir, Range, OnlyRange, highestUpTo}
 use Rattle.atmosphere.proofs.FirstLayer.{first-le, told-by-first}
 
 -- ---- a height and a top, two numbers
@@ -130,3 +130,8 @@ unfolding layers layerAt highestUpTo ofBits isNan lt le
 former nan f = refl
 former (inf s) f = sym (highest-is (inf s) f refl 6 (omega (arith, layer-lt (inf s))) (omega arith))
 former (fin s m e) f = sym (highest-is (fin s m e) f refl 6 (omega (arith, layer-lt (fin s m e))) (omega arith))
+
+-- ---- the standard air, of a height and a layer that are the definition's
+pub at-height : (places : ℕ) (altitude H : Float) (i : ℕ) → H ≡ standardHeight altitude → i ≡ layerAt H → layerAir places i H ≡ standardAir places altitude
+unfolding standardAir
+at-height places altitude H i e k = ap (λ (j : ℕ). layerAir places j H) k ∙ ap (λ (G : Float). layerAir places (layerAt G) G) e

@@ -2,3 +2,4 @@
 pub mod Layers
 pub mod Station
 pub mod Altitudes
+pub mod Plausibility

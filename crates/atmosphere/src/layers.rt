@@ -123,3 +123,13 @@ pub fn calculate_icao_standard_atmosphere(altitude_m: f64) -> StandardAir
         pressure_pa: layer_pressure(number, height_diff, temperature),
     }
 }
+
+// The temperature alone, for what takes its pressure from elsewhere: the layer's pressure is a power.
+pub fn standard_temperature_k(altitude_m: f64) -> f64
+    ensures { λ r. ⌜ r ≡ standardAir places «altitude_m» .«temperature_k» ⌝ }
+{
+    let height = standard_geopotential_height_m(altitude_m);
+    let number = layer_number(height);
+    let layer = ICAO_LAYERS[number];
+    layer[1] + layer[3] * (height - layer[0])
+}

@@ -3,4 +3,5 @@
 pub mod altitudes;
 pub mod given;
 pub mod layers;
+pub mod plausibility;
 pub mod resolvers;

@@ -1,5 +1,5 @@
--- A decimal as it is typed, and its count of thousandths: an optional sign (+ or -), one or more digits, optionally a point followed by one to three
--- digits. A text is the list of its bytes. Definitions only.
+-- A decimal as it is typed with up to k decimals, and its count of 10^-k: an optional sign (+ or -), one or more digits, optionally a point followed by one
+-- to k digits. A text is the list of its bytes. Definitions only.
 use Prim.Native.Nat.{ℕ, suc, _+_, _-_, _*_, _^_}
 use mathlib.Core.Bool.{Bool, true, false, _&&_, cond}
 use mathlib.Core.List.{List, [], _∷_, _++_}
@@ -26,9 +26,9 @@ unfoldable pub numberFrom : ℕ → List ℕ → ℕ
 numberFrom n [] = n
 numberFrom n (b ∷ s) = numberFrom (n * 10 + (b - 48)) s
 
--- ---- the count: the digits before and after the point as one number, times ten for each of the three decimals that is not there
-abbrev pub thousandthsOf : List ℕ → List ℕ → ℕ
-thousandthsOf whole decimals = numberFrom 0 (whole ++ decimals) * 10 ^ (3 - length decimals)
+-- ---- the count: the digits before and after the point as one number, times ten for each of the k decimals that is not there
+abbrev pub scaledTo : ℕ → List ℕ → List ℕ → ℕ
+scaledTo k whole decimals = numberFrom 0 (whole ++ decimals) * 10 ^ (k - length decimals)
 
 abbrev pub answer : Counted → Typed
 answer (counted-as.Count n) = Count n
@@ -38,19 +38,19 @@ unfoldable pub inCounts : Bool → ℕ → Typed
 inCounts negative n = answer (counted (signed negative n))
 
 -- ---- what follows the sign: whole digits, and a point with decimals after it, or nothing
-unfoldable pub withDecimals : Bool → List ℕ → List ℕ → Typed
-withDecimals negative whole d =
+unfoldable pub withDecimals : ℕ → Bool → List ℕ → List ℕ → Typed
+withDecimals k negative whole d =
     cond (eqb (length d) 0) NotANumber
-    (cond (eqb (digitsIn d) (length d)) (cond (leb (length d) 3) (inCounts negative (thousandthsOf whole d)) TooManyDecimals) NotANumber)
+    (cond (eqb (digitsIn d) (length d)) (cond (leb (length d) k) (inCounts negative (scaledTo k whole d)) TooManyDecimals) NotANumber)
 
-unfoldable pub afterWhole : Bool → List ℕ → List ℕ → Typed
-afterWhole negative whole [] = inCounts negative (thousandthsOf whole [])
-afterWhole negative whole (b ∷ d) = cond (eqb b 46) (withDecimals negative whole d) NotANumber
+unfoldable pub afterWhole : ℕ → Bool → List ℕ → List ℕ → Typed
+afterWhole k negative whole [] = inCounts negative (scaledTo k whole [])
+afterWhole k negative whole (b ∷ d) = cond (eqb b 46) (withDecimals k negative whole d) NotANumber
 
-unfoldable pub afterSign : Bool → List ℕ → Typed
-afterSign negative t = cond (eqb (digitsIn t) 0) NotANumber (afterWhole negative (take (digitsIn t) t) (drop (digitsIn t) t))
+unfoldable pub afterSign : ℕ → Bool → List ℕ → Typed
+afterSign k negative t = cond (eqb (digitsIn t) 0) NotANumber (afterWhole k negative (take (digitsIn t) t) (drop (digitsIn t) t))
 
 -- ---- the text
-unfoldable pub typed : List ℕ → Typed
-typed [] = NotANumber
-typed (b ∷ s) = cond (eqb b 45) (afterSign true s) (cond (eqb b 43) (afterSign false s) (afterSign false (b ∷ s)))
+unfoldable pub typed : ℕ → List ℕ → Typed
+typed k [] = NotANumber
+typed k (b ∷ s) = cond (eqb b 45) (afterSign k true s) (cond (eqb b 43) (afterSign k false s) (afterSign k false (b ∷ s)))

@@ -1,7 +1,9 @@
-// Decimals as they are typed, read as counts of thousandths.
+// Decimals as they are typed, read as counts of their last decimal.
 ghost use mathlib.Core.Path.{_≡_};
-ghost use Prim.Native.Nat.{_-_, _^_, _≤_, min};
-ghost use Rattle.decimals.specs.Typed.{isDigit, digitsIn, numberFrom, thousandthsOf, inCounts, withDecimals, afterSign, typed};
+ghost use Prim.Native.Nat.{_-_, _≤_, min};
+ghost use lib.ListN.{length};
+ghost use Rattle.decimals.specs.Typed.{isDigit, digitsIn, numberFrom, scaledTo, inCounts, withDecimals, afterSign, typed};
+use crate::count::power_of_ten;
 use thousandths::Counted;
 use thousandths::signed_count;
 
@@ -62,22 +64,6 @@ fn number_from(number: u64, digits: &[u8]) -> u64
     value
 }
 
-// Ten for each of three decimals that is not there.
-fn tens(decimals: usize) -> u64
-    ensures { λ r. ⌜ r ≡ 10 ^ (3 - decimals) ⌝ }
-{
-    if decimals == 0 {
-        return 1000;
-    }
-    if decimals == 1 {
-        return 100;
-    }
-    if decimals == 2 {
-        return 10;
-    }
-    1
-}
-
 fn in_counts(negative: bool, size: u64) -> Typed
     ensures { λ r. ⌜ r ≡ inCounts negative size ⌝ }
 {
@@ -87,16 +73,22 @@ fn in_counts(negative: bool, size: u64) -> Typed
     }
 }
 
-fn from_digits(negative: bool, whole: &[u8], decimals: &[u8]) -> Typed
-    ensures { λ r. ⌜ r ≡ inCounts negative (thousandthsOf (now (whole .entry)) (now (decimals .entry))) ⌝ }
+// A count of units of the last of `places` decimals.
+fn from_digits(negative: bool, whole: &[u8], decimals: &[u8], places: usize) -> Typed
+    requires { ⌜ (length (now decimals) ≤ places) × (places ≤ 4) ⌝ }
+    ensures { λ r. ⌜ r ≡ inCounts negative (scaledTo places (now (whole .entry)) (now (decimals .entry))) ⌝ }
 {
     let size = number_from(number_from(0, whole), decimals);
-    in_counts(negative, size * tens(decimals.len()))
+    in_counts(
+        negative,
+        size * power_of_ten((places - decimals.len()) as u32),
+    )
 }
 
 // The digits before the point, and what follows it.
-fn with_decimals(negative: bool, whole: &[u8], decimals: &[u8]) -> Typed
-    ensures { λ r. ⌜ r ≡ withDecimals negative (now (whole .entry)) (now (decimals .entry)) ⌝ }
+fn with_decimals(negative: bool, whole: &[u8], decimals: &[u8], places: usize) -> Typed
+    requires { ⌜ places ≤ 4 ⌝ }
+    ensures { λ r. ⌜ r ≡ withDecimals places negative (now (whole .entry)) (now (decimals .entry)) ⌝ }
 {
     let n = decimals.len();
     if n == 0 {
@@ -105,44 +97,59 @@ fn with_decimals(negative: bool, whole: &[u8], decimals: &[u8]) -> Typed
     if digits_in(decimals) != n {
         return Typed::NotANumber;
     }
-    if n > 3 {
+    if n > places {
         return Typed::TooManyDecimals;
     }
-    from_digits(negative, whole, decimals)
+    from_digits(negative, whole, decimals, places)
 }
 
 // What follows the sign.
-fn after_sign(negative: bool, text: &[u8]) -> Typed
-    ensures { λ r. ⌜ r ≡ afterSign negative (now (text .entry)) ⌝ }
+fn after_sign(negative: bool, text: &[u8], places: usize) -> Typed
+    requires { ⌜ places ≤ 4 ⌝ }
+    ensures { λ r. ⌜ r ≡ afterSign places negative (now (text .entry)) ⌝ }
 {
     let n = digits_in(text);
     if n == 0 {
         return Typed::NotANumber;
     }
     if n >= text.len() {
-        return from_digits(negative, text, &text[n..]);
+        return from_digits(negative, text, &text[n..], places);
     }
     if text[n] != b'.' {
         return Typed::NotANumber;
     }
     let after = n + 1;
-    with_decimals(negative, &text[..n], &text[after..])
+    with_decimals(negative, &text[..n], &text[after..], places)
 }
 
-// The count of thousandths of a decimal, or why there is none: the text is no decimal, has more than
-// three digits after the point, or its count is out of the signed 32-bit range.
-pub fn read_decimal(text: &[u8]) -> Typed
-    ensures { λ r. ⌜ r ≡ typed (now (text .entry)) ⌝ }
-    ensures kept { λ _. ⌜ now (text .exit) ≡ now (text .entry) ⌝ }
+// A sign or none, and what follows it.
+fn with_sign(text: &[u8], places: usize) -> Typed
+    requires { ⌜ places ≤ 4 ⌝ }
+    ensures { λ r. ⌜ r ≡ typed places (now (text .entry)) ⌝ }
 {
     if text.len() == 0 {
         return Typed::NotANumber;
     }
     if text[0] == b'-' {
-        return after_sign(true, &text[1..]);
+        return after_sign(true, &text[1..], places);
     }
     if text[0] == b'+' {
-        return after_sign(false, &text[1..]);
+        return after_sign(false, &text[1..], places);
     }
-    after_sign(false, text)
+    after_sign(false, text, places)
+}
+
+fn at_most_four(places: usize) -> usize
+    ensures { λ r. ⌜ r ≡ min places 4 ⌝ }
+{
+    if places < 4 { places } else { 4 }
+}
+
+// The count of a decimal in units of the last of `places` decimals, four at most, or why there is none:
+// the text is no decimal, has more decimals than these, or its count is out of the signed 32-bit range.
+pub fn read_decimal(text: &[u8], places: usize) -> Typed
+    ensures { λ r. ⌜ r ≡ typed (min places 4) (now (text .entry)) ⌝ }
+    ensures kept { λ _. ⌜ now (text .exit) ≡ now (text .entry) ⌝ }
+{
+    with_sign(text, at_most_four(places))
 }

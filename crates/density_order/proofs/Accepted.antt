@@ -1,16 +1,8 @@
 -- An accepted answer is the resolved station, whose figures pass the tests of document 01's table. Assumes nothing.
-use Rattle.arithmetic.proofs.Kit.{_≡_, refl, sym, ap, subst, _∙_, Bool, true, false, not, _&&_, ℕ, T, Float, le, and-i, and-l, and-r}
+use Rattle.density_order.proofs.Kit.{_≡_, refl, sym, ap, subst, _∙_, Bool, true, false, not, _&&_, ℕ, T, Float, le, and-i, and-l, and-r, Outcome, accepted, refused, nought, Reading, Given, FromLayer, isFinite, isFiniteAbove, Station, resolve, absoluteZero, hasAir, stationRows, station, Accepted}
 use mathlib.Core.Bool.{Bool·not-not}
-use Rattle.refusal.specs.Outcomes.{Outcome, accepted, refused}
 use Rattle.refusal.specs.Causes.{NoneHolds, ExactlyCaused}
 use Rattle.refusal.proofs.Rows.{exactly}
-use Rattle.arithmetic.specs.Decimals.{nought}
-use Rattle.atmosphere.specs.declared.given.Reading.{Reading}
-use Rattle.atmosphere.specs.declared.given.Reading.the-variants.{Given, FromLayer}
-use Rattle.arithmetic.specs.Doubles.{isFinite, isFiniteAbove}
-use Rattle.refusal.specs.declared.inverse.Station.{Station}
-use Rattle.density_altitude.specs.Inverse.{resolve, absoluteZero, hasAir, stationRows, station}
-use Rattle.density_order.specs.Order.{Accepted}
 
 -- each of 1 to 4 has exactly its cause
 pub caused : (p : ℕ) (d : Float) (t : Reading) → ExactlyCaused (stationRows p d t) (resolve p d t) (station p d t)

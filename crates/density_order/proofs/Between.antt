@@ -1,14 +1,6 @@
 -- What lies between two accepted density altitudes is accepted, and the figures are in order: the pressure altitudes keep the order of the density altitudes.
 -- Assumes nothing.
-use Rattle.arithmetic.proofs.Kit.{sym, subst₂, ℕ, T, Float, binary64, fits, le, ofBits-fits, div-fits}
-use Rattle.arithmetic.specs.Operators.{_⊗_}
-use Rattle.atmosphere.specs.declared.given.Reading.{Reading}
-use Rattle.atmosphere.specs.declared.given.Reading.the-variants.{Given, FromLayer}
-use Rattle.arithmetic.specs.Doubles.{isFinite, isFiniteAbove}
-use Rattle.atmosphere.specs.Altitudes.{foot}
-use Rattle.density_altitude.specs.Inverse.{pressureAltitudeFeet, stationCelsius, resolve, absoluteZero, station}
-use Rattle.density_order.specs.Order.{NoneGiven, InOrder}
-use Rattle.density_altitude.proofs.Figures.{Corrected, corrected-finite, pressure-altitude-rises, pressure-altitude-fits, temperature-falls}
+use Rattle.density_order.proofs.Kit.{sym, subst₂, ℕ, T, Float, binary64, fits, le, ofBits-fits, div-fits, _⊗_, Reading, Given, FromLayer, isFinite, isFiniteAbove, foot, pressureAltitudeFeet, stationCelsius, resolve, absoluteZero, station, NoneGiven, InOrder, Corrected, corrected-finite, pressure-altitude-rises, pressure-altitude-fits, temperature-falls}
 use Rattle.density_order.proofs.Accepted.{Exists, exists, has-air, Granted, is-station}
 use Rattle.density_order.proofs.Heights.{Climbs, finite-between, above-between, to-middle, from-middle, middle-exists}
 

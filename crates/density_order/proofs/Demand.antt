@@ -1,8 +1,5 @@
 -- Demand 3, of the definition, over any number of places from 52 to 60. Assumes nothing.
-use Rattle.arithmetic.proofs.Kit.{sym, subst, subst₂, ℕ, _≤_, T, Float, binary64, fits, le, sub-fits}
-use Rattle.atmosphere.specs.declared.given.Reading.{Reading}
-use Rattle.density_altitude.specs.Inverse.{pressureAltitudeFeet, nwsBase, station}
-use Rattle.density_order.specs.Order.{Accepted, Temperate, InRange, OneMetreApart, Strictly, Demand₃}
+use Rattle.density_order.proofs.Kit.{sym, subst, subst₂, ℕ, _≤_, T, Float, binary64, fits, le, sub-fits, Reading, pressureAltitudeFeet, nwsBase, station, Accepted, Temperate, InRange, OneMetreApart, Strictly, Demand₃}
 use Rattle.density_order.proofs.Accepted.{Granted, granted, is-station}
 use Rattle.density_order.proofs.Between.{between, from-low, to-high}
 use Rattle.density_order.proofs.Spread.{ReadingFits, Bases, altitudes-apart, bases-apart}

@@ -1,16 +1,8 @@
 -- Stations at rising pressure altitudes: the altitude never falls and the pressure never rises, infinities included, and between two stations that exist there
 -- is one, if its temperature can be. Assumes nothing.
-use Rattle.arithmetic.proofs.Kit.{true, false, ℕ, zero, suc, pos, T, Float, nan, inf, fin, binary64, ofBits, mul, div, fits, lt, le, ofBits-fits, and-i, and-l, and-r, sub-fits, mul-fits}
-use Rattle.arithmetic.specs.Decimals.{nought}
-use Rattle.arithmetic.specs.Operators.{_⊗_}
-use Rattle.elementary.specs.Power.{power}
-use Rattle.arithmetic.proofs.Order.{zero-below, le-trans-double}
+use Rattle.density_order.proofs.Kit.{true, false, ℕ, zero, suc, pos, T, Float, nan, inf, fin, binary64, ofBits, mul, div, fits, lt, le, ofBits-fits, and-i, and-l, and-r, sub-fits, mul-fits, nought, _⊗_, power, zero-below, le-trans-double, isFinite, isFiniteAbove, foot, nwsBase, nwsReciprocal, nwsPressure, stationWith, absoluteZero, altitude-rises, base-falls, pressure-falls}
 use Rattle.arithmetic.proofs.Strict.{lt-le-trans}
-use Rattle.arithmetic.specs.Doubles.{isFinite, isFiniteAbove}
 use Rattle.atmosphere.specs.Station.{standardPressure}
-use Rattle.atmosphere.specs.Altitudes.{foot}
-use Rattle.density_altitude.specs.Inverse.{nwsBase, nwsReciprocal, nwsPressure, stationWith, absoluteZero}
-use Rattle.density_altitude.proofs.Figures.{altitude-rises, base-falls, pressure-falls}
 use Rattle.density_order.proofs.Accepted.{Exists}
 
 -- ---- between two doubles

@@ -1,4 +1,5 @@
 -- The laws of the definitions, a file for each idea.
+pub mod Kit
 pub mod Accepted
 pub mod Heights
 pub mod Between

@@ -1,10 +1,8 @@
 -- What owning a double or a reading tells: the format holds it. Assumes nothing.
-use Rattle.arithmetic.proofs.Kit.{_≡_, sym, subst, true, List, Val, T, Float, binary64, fits}
+use Rattle.density_order.proofs.Kit.{_≡_, sym, subst, true, List, Val, T, Float, binary64, fits, Reading, Given, FromLayer}
 use denote.Laws.{Is}
 use denote.Enum.Declared.{row}
 use denote.Enum.Laws.{owed}
-use Rattle.atmosphere.specs.declared.given.Reading.{Reading}
-use Rattle.atmosphere.specs.declared.given.Reading.the-variants.{Given, FromLayer}
 use Rattle.atmosphere.proofs.given.Reading.{the-type}
 use Rattle.atmosphere.proofs.given.Reading.Laws.{the-laws}
 use Rattle.density_order.proofs.Spread.{ReadingFits}

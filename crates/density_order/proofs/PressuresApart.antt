@@ -1,17 +1,13 @@
 -- The pressures of the National Weather Service's formula, 1013.25 hPa times a power: for bases from 1/2 to 2 that lie one part in 2^18 apart, the greater
 -- base has the greater pressure. Assumes nothing.
-use Rattle.arithmetic.proofs.Kit.{true, false, ℕ, zero, suc, _+_, _*_, _^_, _≤_, ℤ, pos, negsuc, T, lit<, lit≤, Float, nan, inf, fin, binary64, ofBits, div, fits, lt, le, positive}
+use Rattle.density_order.proofs.Kit.{true, false, ℕ, zero, suc, _+_, _*_, _^_, _≤_, ℤ, pos, negsuc, T, lit<, lit≤, Float, nan, inf, fin, binary64, ofBits, div, fits, lt, le, positive, _⊗_, power, count-of-le, le-trans-double, nwsReciprocal}
 use lib.Ieee.Positive.{between}
-use Rattle.arithmetic.specs.Operators.{_⊗_}
 use Rattle.arithmetic.specs.Nearest.{unitsOf}
-use Rattle.elementary.specs.Power.{power}
 use Rattle.arithmetic.proofs.Integers.{le-of-pos}
-use Rattle.arithmetic.proofs.Order.{count-of-le, le-trans-double}
 use Rattle.elementary.proofs.Rises.{power-fits}
 use Rattle.arithmetic.proofs.Between.{products-apart}
 use Rattle.elementary.proofs.PowersApart.{powers-parted}
 use Rattle.atmosphere.specs.Station.{standardPressure}
-use Rattle.density_altitude.specs.Inverse.{nwsReciprocal}
 
 -- the exponent, about 5.2553, times 2^58
 abbrev magnitude : ℕ

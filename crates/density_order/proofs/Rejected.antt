@@ -1,14 +1,6 @@
 -- Demand 3 and request K8 reject what specs/Rejected lists: where its hypotheses hold, what it promises is computed to be false. Assumes nothing.
-use Rattle.arithmetic.proofs.Kit.{refl, Float, ofBits, neg, add, sub, mul, div, lt, le}
+use Rattle.density_order.proofs.Kit.{refl, Float, ofBits, neg, add, sub, mul, div, lt, le, power, isFinite, Reading, Station, Outcome, station, Accepted, Strictly, InBetween}
 use lib.Signed.{leZ-yes}
-use Rattle.elementary.specs.Power.{power}
-use Rattle.arithmetic.specs.Doubles.{isFinite}
-use Rattle.atmosphere.specs.declared.given.Reading.{Reading}
-use Rattle.refusal.specs.declared.inverse.Station.{Station}
-use Rattle.refusal.specs.Outcomes.{Outcome}
-use Rattle.density_altitude.specs.Inverse.{station}
-use Rattle.density_order.specs.Order.{Accepted, Strictly}
-use Rattle.density_order.specs.Warmer.{InBetween}
 use Rattle.density_order.specs.Rejected.{RejectedAtTheEdges, Rejected, FalseWarmed, RejectedByWarmth}
 
 -- an inverse that nowhere is strict: at each edge the promise says that it is

@@ -1,21 +1,13 @@
 -- One metre of density altitude, from -500 to 3,000 m and at a temperature from -40 to 50 °C or at the standard one, is 2 ft of pressure altitude at least.
 -- That survives the roundings, in the altitude in metres and in the base of the pressure's power. Assumes nothing.
-use Rattle.arithmetic.proofs.Kit.{_≡_, refl, true, false, ℕ, _+_, _-_, _*_, _^_, _≤_, arith, pos, negsuc, T, lit≤, Float, nan, inf, fin, binary64, ofBits, add, sub, mul, div, fits, lt, le, ofBits-fits, mul-fits, finite}
+use Rattle.density_order.proofs.Kit.{_≡_, refl, true, false, ℕ, _+_, _-_, _*_, _^_, _≤_, arith, pos, negsuc, T, lit≤, Float, nan, inf, fin, binary64, ofBits, add, sub, mul, div, fits, lt, le, ofBits-fits, mul-fits, finite, decimal, one, _⊖_, _⊗_, _⊘_, Reading, Given, FromLayer, foot, nwsFeet, correction, pressureAltitudeFeet, nwsBase, correction-rises, Temperate, InRange, OneMetreApart}
 use lib.Ieee.Positive.{above-of-le}
-use Rattle.arithmetic.specs.Decimals.{decimal, one}
-use Rattle.arithmetic.specs.Operators.{_⊖_, _⊗_, _⊘_}
 use Rattle.arithmetic.specs.Nearest.{unitsOf}
 use Rattle.arithmetic.proofs.CommonDenominator.{above, beneath}
 use Rattle.arithmetic.proofs.Sums.{sub-falls}
 use Rattle.arithmetic.proofs.Counts.{over, under, Small, le-of-sides, small-between, below-large, above-large, gap-of-counts}
 use Rattle.arithmetic.proofs.Near.{Step, step-pos}
 use Rattle.arithmetic.proofs.Apart.{Apart, apart-lt, apart-weaker, sub-apart, sub-from-apart, mul-apart, div-apart}
-use Rattle.atmosphere.specs.declared.given.Reading.{Reading}
-use Rattle.atmosphere.specs.declared.given.Reading.the-variants.{Given, FromLayer}
-use Rattle.atmosphere.specs.Altitudes.{foot, nwsFeet}
-use Rattle.density_altitude.specs.Inverse.{correction, pressureAltitudeFeet, nwsBase}
-use Rattle.density_altitude.proofs.Figures.{correction-rises}
-use Rattle.density_order.specs.Order.{Temperate, InRange, OneMetreApart}
 
 -- ---- the step: 2 ^ -37, in units of 2 ^ -1074, which is that of the doubles below 2 ^ 16
 unfoldable U : ℕ

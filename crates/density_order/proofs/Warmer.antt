@@ -1,18 +1,9 @@
 -- What lies between two accepted temperatures at one density altitude is accepted, and the figures are in order: the pressure altitudes turn the order of the
 -- temperatures. The FAA's density altitudes keep it. Assumes nothing.
-use Rattle.arithmetic.proofs.Kit.{_≡_, sym, subst, subst₂, not, ℕ, T, Float, binary64, fits, lt, le, ofBits-fits, and-i, and-l, and-r}
+use Rattle.density_order.proofs.Kit.{_≡_, sym, subst, subst₂, not, ℕ, T, Float, binary64, fits, lt, le, ofBits-fits, and-i, and-l, and-r, places, _⊘_, Given, isFinite, isFiniteAbove, foot, faaDensityAltitude, pressureAltitudeFeet, resolve, absoluteZero, station, Accepted, Lower, InBetween, FaaNeverFalls, corrected-finite, pressure-altitude-falls, pressure-altitude-fits}
 use lib.Dec.{not-T}
-use Rattle.arithmetic.specs.Places.{places}
-use Rattle.arithmetic.specs.Operators.{_⊘_}
 use Rattle.arithmetic.proofs.Strict.{not-le-of-less}
-use Rattle.atmosphere.specs.declared.given.Reading.the-variants.{Given}
-use Rattle.arithmetic.specs.Doubles.{isFinite, isFiniteAbove}
-use Rattle.atmosphere.specs.Altitudes.{foot, faaDensityAltitude}
 use Rattle.atmosphere.proofs.AltitudeOrder.{faa-never-falls}
-use Rattle.density_altitude.specs.Inverse.{pressureAltitudeFeet, resolve, absoluteZero, station}
-use Rattle.density_order.specs.Order.{Accepted}
-use Rattle.density_order.specs.Warmer.{Lower, InBetween, FaaNeverFalls}
-use Rattle.density_altitude.proofs.Figures.{corrected-finite, pressure-altitude-falls, pressure-altitude-fits}
 use Rattle.density_order.proofs.Accepted.{Exists, exists, has-air, Granted, granted, is-station}
 use Rattle.density_order.proofs.Heights.{Climbs, above-between, to-middle, from-middle, middle-exists}
 

@@ -1,11 +1,5 @@
 -- Doubles above zero: what they are in units of 2 ^ -1074, and which of them are normal. Assumes nothing.
-use Rattle.arithmetic.proofs.Kit.{_≡_, refl, sym, ap, _∙_, Bool, true, false, _&&_, ℕ, suc, _*_, _^_, _≤_, _<_, le-trans, le-of-eq, mul-le-mul-right, le-of-mul-le-mul-right, arith, ℤ, T, eqb, ltb, eqb→eq, ltb→lt, lt→ltb, lit<, pow-add, Float, nan, inf, fin, binary64, up, down, fits, and-l, and-r, num, den, positive}
-use Rattle.arithmetic.specs.Nearest.{unitsOf}
-use Rattle.arithmetic.proofs.CommonDenominator.{above, beneath}
-use Rattle.arithmetic.proofs.Order.{units-exact}
-use Rattle.arithmetic.proofs.Counts.{over, under}
-use Rattle.exact.specs.FunctionsNear.{Normal}
-use Rattle.exact.specs.Exact.{Exact}
+use Rattle.exact.proofs.Kit.{_≡_, refl, sym, ap, _∙_, Bool, true, false, _&&_, ℕ, suc, _*_, _^_, _≤_, _<_, le-trans, le-of-eq, mul-le-mul-right, le-of-mul-le-mul-right, arith, ℤ, T, eqb, ltb, eqb→eq, ltb→lt, lt→ltb, lit<, pow-add, Float, nan, inf, fin, binary64, up, down, fits, and-l, and-r, num, den, positive, unitsOf, above, beneath, units-exact, over, under, Normal, Exact}
 use Rattle.exact.proofs.Rounded.{N}
 use Rattle.exact.proofs.Tracks.{Bounds, Tracks, positive-by}
 

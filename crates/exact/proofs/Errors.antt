@@ -1,5 +1,5 @@
 -- Errors of sums, products and quotients, over natural numbers. Assumes nothing.
-use Rattle.arithmetic.proofs.Kit.{_≡_, ap, ℕ, _+_, _-_, _*_, _≤_, _<_, le-trans, le-of-eq, mul-le-mul-right, mul-le-mul-left, le-of-mul-le-mul-right, lt-of-mul-lt-mul-right, mul-lt-mul-of-pos-right, arith}
+use Rattle.exact.proofs.Kit.{_≡_, ap, ℕ, _+_, _-_, _*_, _≤_, _<_, le-trans, le-of-eq, mul-le-mul-right, mul-le-mul-left, le-of-mul-le-mul-right, lt-of-mul-lt-mul-right, mul-lt-mul-of-pos-right, arith}
 
 -- |a - b| ≤ E and |c - d| ≤ F: the product is E * F at most
 pub product-bound : (a b c d E F : ℕ) → a ≤ b + E → b ≤ a + E → c ≤ d + F → d ≤ c + F → a * c + b * d ≤ a * d + b * c + E * F

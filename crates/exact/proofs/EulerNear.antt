@@ -1,14 +1,7 @@
 -- e by its decimals, and the constants `log2e` and `ln2`: for a number b between the two decimals, 2^62 times the logarithm of b to the base 2 lies between
 -- `log2e` and `log2e` + 1, and 2^62 times that of 2 to the base b between `ln2` and `ln2` + 1. Both are read off the log bits of b ^ 128. Assumes nothing.
-use Rattle.arithmetic.proofs.Kit.{_≡_, refl, sym, ap, _∙_, ℕ, _+_, _*_, _^_, _≤_, _<_, le-trans, le-of-eq, le-of-lt, mul-le-mul-left, mul-le-mul-right, mul-comm, mul-right-comm, mul-pos, add-assoc, le-of-mul-le-mul-right, one-le-pow, pow-le-pow-left, arith, lit<, lit≤, pow-pos, pow-mono, pow-add}
-use Rattle.antilog.specs.Log.{logBits}
-use Rattle.elementary.specs.Exp.{log2e}
-use Rattle.elementary.specs.Ln.{ln2}
-use Rattle.arithmetic.specs.Fractions.{Fraction, _isAtMost_}
-use Rattle.exact.specs.FunctionsNear.{eBelow, eAbove}
-use Rattle.arithmetic.proofs.Powers.{pow-product, pow-power, pow-scaled, le-of-powers}
+use Rattle.exact.proofs.Kit.{_≡_, refl, sym, ap, _∙_, ℕ, _+_, _*_, _^_, _≤_, _<_, le-trans, le-of-eq, le-of-lt, mul-le-mul-left, mul-le-mul-right, mul-comm, mul-right-comm, mul-pos, add-assoc, le-of-mul-le-mul-right, one-le-pow, pow-le-pow-left, arith, lit<, lit≤, pow-pos, pow-mono, pow-add, logBits, log2e, ln2, Fraction, _isAtMost_, eBelow, eAbove, pow-product, pow-power, pow-scaled, le-of-powers, logBits-below, logBits-above}
 use Rattle.antilog.proofs.Range.{Mantissa}
-use Rattle.antilog.proofs.Distance.{logBits-below, logBits-above}
 use Rattle.exact.proofs.RootsNear.{power-swap}
 
 -- ---- from a mantissa M of u ^ k / v ^ k, with i for the bits of its logarithm, to u / v itself, whose logarithm compares with C / B

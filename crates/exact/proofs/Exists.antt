@@ -1,10 +1,5 @@
 -- There are fractions that stand for a square root and for a power: what is promised of all of them is promised of some. Assumes nothing.
-use Rattle.arithmetic.proofs.Kit.{_≡_, sym, ap, _∙_, subst, ℕ, zero, suc, _+_, _-_, _*_, _^_, _≤_, _<_, le-refl, le-trans, le-of-eq, le-of-lt, lt-of-lt-of-le, lt-of-le-of-lt, lt-of-not-le, not-le-of-lt, one-mul, ne-of-gt, mul-assoc, mul-right-comm, mul-pos, mul-one, mul-le-mul, mul-le-mul-right, mul-le-mul-left, le-of-mul-le-mul-right, lt-of-mul-lt-mul-right, mul-lt-mul-of-pos-right, one-le-pow, pow-suc, pow-le-pow-left, pow-lt-pow-left, decLe, arith, lit<, lit≤, pow-pos, Float}
-use Rattle.arithmetic.proofs.Counts.{over, under}
-use Rattle.arithmetic.specs.Fractions.{Fraction}
-use Rattle.arithmetic.proofs.Powers.{pow-one, pow-product, lt-of-squares}
-use Rattle.exact.specs.Exact.{Exact, _⊞_, opposite, _⊠_, _÷_}
-use Rattle.exact.specs.Powers.{IsRoot, IsPower}
+use Rattle.exact.proofs.Kit.{_≡_, sym, ap, _∙_, subst, ℕ, zero, suc, _+_, _-_, _*_, _^_, _≤_, _<_, le-refl, le-trans, le-of-eq, le-of-lt, lt-of-lt-of-le, lt-of-le-of-lt, lt-of-not-le, not-le-of-lt, one-mul, ne-of-gt, mul-assoc, mul-right-comm, mul-pos, mul-one, mul-le-mul, mul-le-mul-right, mul-le-mul-left, le-of-mul-le-mul-right, lt-of-mul-lt-mul-right, mul-lt-mul-of-pos-right, one-le-pow, pow-suc, pow-le-pow-left, pow-lt-pow-left, decLe, arith, lit<, lit≤, pow-pos, Float, over, under, Fraction, pow-one, pow-product, lt-of-squares, Exact, _⊞_, opposite, _⊠_, _÷_, IsRoot, IsPower}
 use Rattle.exact.proofs.Rounded.{N, N-pos}
 use Rattle.exact.proofs.Tracks.{Bounds, Tracks}
 

@@ -1,18 +1,8 @@
 -- How far exp lies from the true value, from 20 to 60 places: the floors of x * 2 ^ p and of its product with 1 / ln 2 come to less than three units.
 -- Assumes nothing.
-use Rattle.arithmetic.proofs.Kit.{_≡_, refl, sym, ap, _∙_, subst, Bool, true, false, not, _||_, cond, ℕ, suc, _+_, _-_, _*_, _/_, _^_, _≤_, _<_, le-trans, le-of-eq, lt-of-lt-of-le, mul-pos, mul-one, mul-le-mul-left, mul-le-mul-right, le-of-mul-le-mul-right, div-mul-le-self, lt-div-mul-add, suc-mul, div-lt-iff-lt-mul, le-of-lt, one-le-pow, arith, ℤ, pos, _*ℤ_, T, ltb, nltb→le, lit<, pow-pos, pow-mono, Float, nan, inf, fin, binary64, up, down, minus, lt, eq, le, neg, ofBits, fits, down-pos, num, den, finite}
+use Rattle.exact.proofs.Kit.{_≡_, refl, sym, ap, _∙_, subst, Bool, true, false, not, _||_, cond, ℕ, suc, _+_, _-_, _*_, _/_, _^_, _≤_, _<_, le-trans, le-of-eq, lt-of-lt-of-le, mul-pos, mul-one, mul-le-mul-left, mul-le-mul-right, le-of-mul-le-mul-right, div-mul-le-self, lt-div-mul-add, suc-mul, div-lt-iff-lt-mul, le-of-lt, one-le-pow, arith, ℤ, pos, _*ℤ_, T, ltb, nltb→le, lit<, pow-pos, pow-mono, Float, nan, inf, fin, binary64, up, down, minus, lt, eq, le, neg, ofBits, fits, down-pos, num, den, finite, first-pos, signed, floorDiv, unitsOf, antilog, log2e, expTop, expBottom, floorScaled, expWithin, exp, ln2, Fraction, _isAtMost_, Normal, InBounds, raised, raisedBy, eBelow, eAbove, pow-scaled, le-of-powers, units-exact, minus-above, minus-same, minus-times, floor-minus}
 use lib.Ieee.{level}
-use lib.Ieee.Positive.{first-pos}
-use Rattle.arithmetic.specs.Whole.{signed, floorDiv}
-use Rattle.arithmetic.specs.Nearest.{unitsOf}
-use Rattle.antilog.specs.Antilog.{antilog}
-use Rattle.elementary.specs.Exp.{log2e, expTop, expBottom, floorScaled, expWithin, exp}
-use Rattle.elementary.specs.Ln.{ln2}
-use Rattle.arithmetic.specs.Fractions.{Fraction, _isAtMost_}
-use Rattle.exact.specs.FunctionsNear.{Normal, InBounds, raised, raisedBy, eBelow, eAbove}
-use Rattle.arithmetic.proofs.Powers.{pow-scaled, le-of-powers}
-use Rattle.arithmetic.proofs.Order.{units-exact}
-use Rattle.arithmetic.proofs.Differences.{opposite, minus-above, minus-same, minus-times, floor-minus}
+use Rattle.arithmetic.proofs.Differences.{opposite}
 use Rattle.exact.proofs.RootsNear.{words-raised, shift, Worded, antilog-within}
 use Rattle.exact.proofs.EulerNear.{log2e-word}
 

@@ -1,17 +1,8 @@
 -- exp of a double that tracks a number tracks every fraction that stands for the power of e. Assumes nothing.
-use Rattle.arithmetic.proofs.Kit.{_≡_, sym, ap, _∙_, Bool, true, false, _&&_, List, [], _∷_, ℕ, _+_, _-_, _*_, _/_, _^_, _≤_, _<_, le-trans, le-of-eq, le-of-lt, mul-pos, mul-le-mul-right, mul-le-mul-left, le-of-mul-le-mul-right, pow-le-pow-left, div-mul-le-self, arith, ℤ, T, leb, ltb, eqb, leb→le, ltb→lt, eqb→eq, lit<, lit≤, Float, nan, inf, fin, binary64, up, down, fits, and-r, down-pos, num, den, den-pos}
-use Rattle.arithmetic.specs.Nearest.{unitsOf}
-use Rattle.arithmetic.proofs.CommonDenominator.{above, beneath}
-use Rattle.arithmetic.proofs.Order.{units-exact}
-use Rattle.arithmetic.proofs.Counts.{over, under}
-use Rattle.arithmetic.specs.Fractions.{Fraction, _isAtMost_}
-use Rattle.elementary.specs.Exp.{exp}
-use Rattle.exact.specs.FunctionsNear.{Normal, InBounds, raisedBy, eBelow, eAbove}
+use Rattle.exact.proofs.Kit.{_≡_, sym, ap, _∙_, Bool, true, false, _&&_, List, [], _∷_, ℕ, _+_, _-_, _*_, _/_, _^_, _≤_, _<_, le-trans, le-of-eq, le-of-lt, mul-pos, mul-le-mul-right, mul-le-mul-left, le-of-mul-le-mul-right, pow-le-pow-left, div-mul-le-self, arith, ℤ, T, leb, ltb, eqb, leb→le, ltb→lt, eqb→eq, lit<, lit≤, Float, nan, inf, fin, binary64, up, down, fits, and-r, down-pos, num, den, den-pos, unitsOf, above, beneath, units-exact, over, under, Fraction, _isAtMost_, exp, Normal, InBounds, raisedBy, eBelow, eAbove, Exact, of, IsPower}
 use Rattle.exact.proofs.FunctionsNear.{functions-near-60}
-use Rattle.exact.specs.Exact.{Exact}
 use Rattle.exact.proofs.Rounded.{N, N-pos}
 use Rattle.exact.proofs.Tracks.{Bounds, Tracks}
-use Rattle.exact.specs.Powers.{of, IsPower}
 use Rattle.exact.proofs.Tests.{all, item, test}
 use Rattle.exact.proofs.Relative.{apart-of, both-above, both-below}
 use Rattle.exact.proofs.Above.{Positive, positive-units}

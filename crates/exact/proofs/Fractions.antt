@@ -1,9 +1,5 @@
 -- Fractions compared, multiplied and raised, and powers whose exponent is a fraction, by whole powers. Assumes nothing.
-use Rattle.arithmetic.proofs.Kit.{_≡_, sym, ap, ap₂, _∙_, subst, subst₂, ℕ, _+_, _-_, _*_, _^_, _≤_, _<_, le-refl, le-trans, le-of-eq, lt-of-not-le, mul-one, mul-assoc, mul-comm, mul-right-comm, mul-le-mul, mul-le-mul-right, mul-le-mul-left, le-of-mul-le-mul-right, one-le-pow, pow-le-pow-left, decLe, add-one, arith, pow-add}
-use native.Mathlib.Nat.{pow-zero}
-use Rattle.arithmetic.proofs.Powers.{pow-product, pow-power, le-of-powers, far-one}
-use Rattle.arithmetic.specs.Fractions.{Fraction, _isAtMost_, _toThe_}
-use Rattle.exact.specs.FunctionsNear.{_times_, inverse}
+use Rattle.exact.proofs.Kit.{_≡_, sym, ap, ap₂, _∙_, subst, subst₂, ℕ, _+_, _-_, _*_, _^_, _≤_, _<_, le-refl, le-trans, le-of-eq, lt-of-not-le, mul-one, mul-assoc, mul-comm, mul-right-comm, mul-le-mul, mul-le-mul-right, mul-le-mul-left, le-of-mul-le-mul-right, one-le-pow, pow-le-pow-left, decLe, add-one, arith, pow-add, pow-zero, pow-product, pow-power, le-of-powers, far-one, Fraction, _isAtMost_, _toThe_, _times_, inverse}
 
 fraction : ℕ → ℕ → Fraction
 fraction a b = record { over = a; under = b }

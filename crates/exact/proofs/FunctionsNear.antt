@@ -1,6 +1,6 @@
 -- How far power, exp and ln lie from the true values at 60 places, as for any number of them from 20 to 60: there 2 ^ 5.2559 is 43 units from its answer and e is
 -- 61, most of it their rounding, and F of x = 3 is 1.04 units below. Assumes nothing.
-use Rattle.arithmetic.proofs.Kit.{ℕ, lit≤}
+use Rattle.exact.proofs.Kit.{ℕ, lit≤}
 use Rattle.exact.proofs.PowerNear.{PowerNear, power-near}
 use Rattle.exact.proofs.ExpNear.{ExpNear, exp-near}
 use Rattle.exact.proofs.LnNear.{LnNear, ln-near}

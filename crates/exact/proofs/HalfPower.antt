@@ -1,18 +1,10 @@
 -- The power to j halves of a double that tracks a number tracks the j-th power of every fraction that stands for the number's root: the analysis finds how near, and
 -- `power` is such a power. Assumes nothing.
-use Rattle.arithmetic.proofs.Kit.{_≡_, ap, _∙_, Bool, false, _&&_, List, [], _∷_, ℕ, _+_, _-_, _*_, _/_, _^_, _≤_, _<_, le-trans, le-of-eq, lt-of-lt-of-le, mul-pos, one-le-pow, div-mul-le-self, arith, T, leb, ltb, eqb, leb→le, ltb→lt, eqb→eq, lit<, lit≤, pow-pos, pow-add, Float, binary64, fits, and-r, num, den, positive}
-use Rattle.arithmetic.proofs.Counts.{over, under}
-use Rattle.arithmetic.specs.Fractions.{Fraction, exactValue, _toThe_}
+use Rattle.exact.proofs.Kit.{_≡_, ap, _∙_, Bool, false, _&&_, List, [], _∷_, ℕ, _+_, _-_, _*_, _/_, _^_, _≤_, _<_, le-trans, le-of-eq, lt-of-lt-of-le, mul-pos, one-le-pow, div-mul-le-self, arith, T, leb, ltb, eqb, leb→le, ltb→lt, eqb→eq, lit<, lit≤, pow-pos, pow-add, Float, binary64, fits, and-r, num, den, positive, over, under, Fraction, exactValue, _toThe_, Exponent, power, power-fits, Normal, InBounds, Exact, _⊞_, opposite, of, IsRoot}
 use Rattle.roots.specs.Root.{root}
-use Rattle.elementary.specs.Exponents.{Exponent}
-use Rattle.elementary.specs.Power.{power}
-use Rattle.elementary.proofs.Rises.{power-fits}
-use Rattle.exact.specs.FunctionsNear.{Normal, InBounds}
 use Rattle.exact.proofs.PowerNear.{power-within}
-use Rattle.exact.specs.Exact.{Exact, _⊞_, opposite}
 use Rattle.exact.proofs.Rounded.{N, N-pos}
 use Rattle.exact.proofs.Tracks.{Bounds, Tracks}
-use Rattle.exact.specs.Powers.{of, IsRoot}
 use Rattle.exact.proofs.Above.{Positive, positive-units, positive-of}
 use Rattle.exact.proofs.PositiveNear.{thin, positive-near}
 use Rattle.exact.proofs.Relative.{unraised, units-above, units-below}

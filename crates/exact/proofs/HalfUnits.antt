@@ -1,6 +1,6 @@
 -- A half power in units: from what "How near is near" says of the double to its bounds, and to its distance from a power of k, for a k whose square is near
 -- the exact τ. Over natural numbers. Assumes nothing.
-use Rattle.arithmetic.proofs.Kit.{_≡_, sym, ap, ℕ, _+_, _-_, _*_, _^_, _≤_, _<_, le-refl, le-trans, le-of-eq, le-of-lt, mul-one, mul-le-mul, mul-pos, mul-le-mul-right, le-of-mul-le-mul-right, one-le-pow, arith, lit<}
+use Rattle.exact.proofs.Kit.{_≡_, sym, ap, ℕ, _+_, _-_, _*_, _^_, _≤_, _<_, le-refl, le-trans, le-of-eq, le-of-lt, mul-one, mul-le-mul, mul-pos, mul-le-mul-right, le-of-mul-le-mul-right, one-le-pow, arith, lit<}
 use Rattle.exact.proofs.Relative.{Apart, apart-of, root-above, root-below}
 
 -- R units of the half power, j of them, of X units; K is 2 ^ places and C the units of its error

@@ -1,6 +1,5 @@
 -- What a double between bounds is not changed by. Assumes nothing.
-use Rattle.arithmetic.proofs.Kit.{_≡_, refl, ap, _∙_, Bool, true, false, _||_, cond, T, Float, lt, le}
-use Rattle.arithmetic.proofs.Strict.{not-le-of-less}
+use Rattle.exact.proofs.Kit.{_≡_, refl, ap, _∙_, Bool, true, false, _||_, cond, T, Float, lt, le, not-le-of-less}
 use Rattle.arithmetic.specs.Doubles.{clampDouble}
 
 pub taken : {A : Type 0} (a b : A) (c : Bool) → T c → cond c a b ≡ a

@@ -1,4 +1,5 @@
 -- How a rounded formula follows the exact one, a file for each idea.
+pub mod Kit
 pub mod Errors
 pub mod Rounded
 pub mod Tracks

@@ -1,17 +1,5 @@
 -- How far ln lies from the true value, up to 60 places: two units of the logarithm and the floor of a product come to less than three. Assumes nothing.
-use Rattle.arithmetic.proofs.Kit.{_≡_, refl, sym, ap, _∙_, subst, true, false, ℕ, zero, suc, _+_, _-_, _*_, _/_, _^_, _≤_, _<_, le-trans, le-of-eq, lt-of-lt-of-le, ne-of-gt, one-mul, mul-one, mul-comm, mul-pos, mul-le-mul-left, mul-le-mul-right, mul-lt-mul-of-pos-right, lt-of-mul-lt-mul-right, one-le-pow, pow-le-pow-left, pow-lt-pow-left, div-mul-le-self, lt-div-mul-add, arith, ℤ, pos, negsuc, negℤ, _+ℤ_, _*ℤ_, T, lit<, pow-pos, pow-mono, pow-add, Float, nan, inf, fin, binary64, up, down, minus, fits, down-pos, num, den, positive}
-use lib.Ieee.Positive.{first-pos, through}
-use Rattle.arithmetic.specs.Whole.{floorDiv}
-use Rattle.arithmetic.specs.Nearest.{unitsOf}
-use Rattle.antilog.specs.Log.{logWord}
-use Rattle.elementary.specs.Exp.{log2e}
-use Rattle.elementary.specs.Ln.{ln2, ln}
-use Rattle.arithmetic.specs.Fractions.{Fraction, _isAtMost_, _isBelow_, _toThe_, twoToThe, exactValue}
-use Rattle.exact.specs.FunctionsNear.{eBelow, eAbove, atLeast, atMost, LnWithin}
-use Rattle.arithmetic.proofs.Powers.{pow-power, pow-scaled}
-use Rattle.arithmetic.proofs.Order.{units-exact}
-use Rattle.arithmetic.proofs.Differences.{minus-same, minus-plus, minus-times, floor-minus}
-use Rattle.antilog.proofs.Distance.{NearLog, near-log}
+use Rattle.exact.proofs.Kit.{_≡_, refl, sym, ap, _∙_, subst, true, false, ℕ, zero, suc, _+_, _-_, _*_, _/_, _^_, _≤_, _<_, le-trans, le-of-eq, lt-of-lt-of-le, ne-of-gt, one-mul, mul-one, mul-comm, mul-pos, mul-le-mul-left, mul-le-mul-right, mul-lt-mul-of-pos-right, lt-of-mul-lt-mul-right, one-le-pow, pow-le-pow-left, pow-lt-pow-left, div-mul-le-self, lt-div-mul-add, arith, ℤ, pos, negsuc, negℤ, _+ℤ_, _*ℤ_, T, lit<, pow-pos, pow-mono, pow-add, Float, nan, inf, fin, binary64, up, down, minus, fits, down-pos, num, den, positive, first-pos, through, floorDiv, unitsOf, logWord, log2e, ln2, ln, Fraction, _isAtMost_, _isBelow_, _toThe_, twoToThe, exactValue, eBelow, eAbove, atLeast, atMost, LnWithin, pow-power, pow-scaled, units-exact, minus-same, minus-plus, minus-times, floor-minus, NearLog, near-log}
 use Rattle.antilog.proofs.HowNear.{two-at-most, below-two}
 use Rattle.exact.proofs.EulerNear.{ln2-word}
 

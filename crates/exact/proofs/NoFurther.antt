@@ -1,7 +1,5 @@
 -- What is near a number is no further from it than any greater distance. Assumes nothing.
-use Rattle.arithmetic.proofs.Kit.{_≡_, sym, ap, _∙_, ℕ, _+_, _-_, _*_, _^_, _≤_, le-trans, le-of-eq, mul-one, mul-le-mul-left, le-of-mul-le-mul-right, arith, pow-add, pow-pos, Float}
-use Rattle.exact.specs.Exact.{Exact, _⊟_, number}
-use Rattle.exact.specs.Near.{IsNear}
+use Rattle.exact.proofs.Kit.{_≡_, sym, ap, _∙_, ℕ, _+_, _-_, _*_, _^_, _≤_, le-trans, le-of-eq, mul-one, mul-le-mul-left, le-of-mul-le-mul-right, arith, pow-add, pow-pos, Float, Exact, _⊟_, number, IsNear}
 
 pub no-further : (j k : ℕ) (x : Float) (X : Exact) → j ≤ k → IsNear k x X → IsNear j x X
 no-further j k x X less n =

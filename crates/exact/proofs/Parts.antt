@@ -1,8 +1,5 @@
 -- A double between two others lies on one side of any double between them, and so in one of six parts. Assumes nothing.
-use Rattle.arithmetic.proofs.Kit.{_≡_, refl, sym, subst, Bool, true, false, T, Float, lt, eq, le}
-use Rattle.arithmetic.proofs.Order.{or-left, numbers-of-le}
-use Rattle.arithmetic.proofs.Strict.{less-of-not-le}
-use Rattle.exact.specs.Near.{Between}
+use Rattle.exact.proofs.Kit.{_≡_, refl, sym, subst, Bool, true, false, T, Float, lt, eq, le, or-left, numbers-of-le, less-of-not-le, Between}
 
 le-of-lt : (x y : Float) → T (lt x y) → T (le x y)
 unfolding le

@@ -1,11 +1,5 @@
 -- A positive double that is near a fraction as a part of itself tracks it. Assumes nothing.
-use Rattle.arithmetic.proofs.Kit.{_≡_, ap, _∙_, Bool, ℕ, _+_, _*_, _/_, _^_, _≤_, _<_, le-of-eq, mul-le-mul-right, le-of-mul-le-mul-right, lt-div-mul-add, arith, T, Float, binary64, fits, positive}
-use lib.Ieee.Positive.{positive-finite}
-use Rattle.arithmetic.proofs.Counts.{over, under}
-use Rattle.arithmetic.specs.Fractions.{Fraction}
-use Rattle.exact.specs.Exact.{Exact, _⊞_, opposite, number}
-use Rattle.exact.specs.Near.{IsNearly}
-use Rattle.exact.specs.Powers.{of}
+use Rattle.exact.proofs.Kit.{_≡_, ap, _∙_, Bool, ℕ, _+_, _*_, _/_, _^_, _≤_, _<_, le-of-eq, mul-le-mul-right, le-of-mul-le-mul-right, lt-div-mul-add, arith, T, Float, binary64, fits, positive, positive-finite, over, under, Fraction, Exact, _⊞_, opposite, number, IsNearly, of}
 use Rattle.exact.proofs.Rounded.{N, N-pos}
 use Rattle.exact.proofs.Tracks.{Tracks}
 use Rattle.exact.proofs.Ranges.{number-is}

@@ -1,20 +1,9 @@
 -- How far a power lies from the true one, from 20 to 60 places: the logarithm's two units count once for each unit of the exponent, and the floor adds one.
 -- Assumes nothing.
-use Rattle.arithmetic.proofs.Kit.{_≡_, sym, ap, _∙_, subst, Bool, true, false, cond, ℕ, zero, suc, _+_, _-_, _*_, _/_, _^_, _≤_, _<_, le-trans, le-of-eq, le-of-lt, le-add-right, lt-of-le-of-lt, lt-of-lt-of-le, zero-lt-suc, ne-of-gt, mul-comm, mul-pos, mul-le-mul, mul-le-mul-left, mul-le-mul-right, one-le-pow, pow-lt-pow-left, div-mul-le-self, div-lt-iff-lt-mul, lt-div-mul-add, arith, ℤ, pos, negℤ, _*ℤ_, T, ltb, ltb→lt, lt→ltb, lit<, lit≤, pow-pos, pow-mono, Float, nan, inf, fin, binary64, minus, fits, is-true, up-pos, down-pos, num, den, positive}
-use Rattle.arithmetic.specs.Whole.{signed, floorDiv}
-use Rattle.arithmetic.specs.Nearest.{unitsOf}
-use Rattle.antilog.specs.Log.{logWord}
-use Rattle.antilog.specs.Antilog.{antilog}
-use Rattle.elementary.specs.Exponents.{Exponent, exponents, exponentAt}
-use Rattle.elementary.specs.Power.{power, powerAt}
-use Rattle.arithmetic.specs.Fractions.{exactValue}
-use Rattle.exact.specs.FunctionsNear.{Normal, InBounds, raised}
-use Rattle.arithmetic.proofs.Powers.{pow-product, pow-power, pow-scaled, lt-of-exponents}
+use Rattle.exact.proofs.Kit.{_≡_, sym, ap, _∙_, subst, Bool, true, false, cond, ℕ, zero, suc, _+_, _-_, _*_, _/_, _^_, _≤_, _<_, le-trans, le-of-eq, le-of-lt, le-add-right, lt-of-le-of-lt, lt-of-lt-of-le, zero-lt-suc, ne-of-gt, mul-comm, mul-pos, mul-le-mul, mul-le-mul-left, mul-le-mul-right, one-le-pow, pow-lt-pow-left, div-mul-le-self, div-lt-iff-lt-mul, lt-div-mul-add, arith, ℤ, pos, negℤ, _*ℤ_, T, ltb, ltb→lt, lt→ltb, lit<, lit≤, pow-pos, pow-mono, Float, nan, inf, fin, binary64, minus, fits, is-true, up-pos, down-pos, num, den, positive, signed, floorDiv, unitsOf, logWord, antilog, Exponent, exponents, exponentAt, power, powerAt, exactValue, Normal, InBounds, raised, pow-product, pow-power, pow-scaled, lt-of-exponents, units-exact, by-sign, minus-above, minus-same, minus-times, floor-minus, NearLog, near-log}
 use Rattle.arithmetic.proofs.Integers.{neg-times, neg-left}
-use Rattle.arithmetic.proofs.Order.{units-exact}
 use Rattle.arithmetic.proofs.Units.{units-below}
-use Rattle.arithmetic.proofs.Differences.{by-sign, opposite, minus-above, minus-same, minus-times, floor-minus}
-use Rattle.antilog.proofs.Distance.{NearLog, near-log}
+use Rattle.arithmetic.proofs.Differences.{opposite}
 use Rattle.arithmetic.proofs.Every.{at}
 use Rattle.exact.proofs.RootsNear.{words-raised, shift, Worded, antilog-within}
 

@@ -1,17 +1,6 @@
 -- A power with a constant exponent, of a double that tracks a number above zero, tracks every fraction that stands for the exact power. Assumes nothing.
-use Rattle.arithmetic.proofs.Kit.{_≡_, refl, subst, Bool, false, List, [], _∷_, ℕ, _+_, _-_, _*_, _/_, _^_, _≤_, _<_, zero-le, le-refl, le-trans, lt-of-le-of-lt, le-of-eq, le-of-lt, mul-pos, mul-comm, mul-le-mul-right, mul-le-mul-left, le-of-mul-le-mul-right, arith, pos, T, leb, ltb, eqb, leb→le, ltb→lt, eqb→eq, lit<, lit≤, pow-pos, Float, fin, binary64, fits, le, num, den, den-pos, positive}
-use lib.Ieee.Positive.{own-value, value-pos}
-use Rattle.arithmetic.proofs.Counts.{over, under}
-use Rattle.arithmetic.proofs.Order.{le-trans-double}
-use Rattle.arithmetic.specs.Fractions.{Fraction, _isAtMost_, _toThe_, exactValue}
-use Rattle.elementary.specs.Exponents.{Exponent}
-use Rattle.elementary.specs.Power.{power}
-use Rattle.elementary.proofs.Rises.{power-rises, power-fits}
-use Rattle.exact.specs.FunctionsNear.{_times_, inverse, less, more, Normal, InBounds}
+use Rattle.exact.proofs.Kit.{_≡_, refl, subst, Bool, false, List, [], _∷_, ℕ, _+_, _-_, _*_, _/_, _^_, _≤_, _<_, zero-le, le-refl, le-trans, lt-of-le-of-lt, le-of-eq, le-of-lt, mul-pos, mul-comm, mul-le-mul-right, mul-le-mul-left, le-of-mul-le-mul-right, arith, pos, T, leb, ltb, eqb, leb→le, ltb→lt, eqb→eq, lit<, lit≤, pow-pos, Float, fin, binary64, fits, le, num, den, den-pos, positive, own-value, value-pos, over, under, le-trans-double, Fraction, _isAtMost_, _toThe_, exactValue, Exponent, power, power-rises, power-fits, _times_, inverse, less, more, Normal, InBounds, Exact, number, Between, of, positivePart, IsPower}
 use Rattle.exact.proofs.PowerNear.{power-within}
-use Rattle.exact.specs.Exact.{Exact, number}
-use Rattle.exact.specs.Near.{Between}
-use Rattle.exact.specs.Powers.{of, positivePart, IsPower}
 use Rattle.exact.proofs.Rounded.{N}
 use Rattle.exact.proofs.Tracks.{Bounds, Tracks}
 use Rattle.exact.proofs.Ranges.{ranged, ends, tracks-between}

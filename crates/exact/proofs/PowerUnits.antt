@@ -1,5 +1,5 @@
 -- Between fractions and units of 2 ^ -1074, over natural numbers: what a power needs of its base, and what it gives back. Assumes nothing.
-use Rattle.arithmetic.proofs.Kit.{_≡_, ap, _∙_, ℕ, _+_, _-_, _*_, _≤_, _<_, le-trans, le-of-eq, mul-le-mul-right, le-of-mul-le-mul-right, arith}
+use Rattle.exact.proofs.Kit.{_≡_, ap, _∙_, ℕ, _+_, _-_, _*_, _≤_, _<_, le-trans, le-of-eq, mul-le-mul-right, le-of-mul-le-mul-right, arith}
 use Rattle.exact.proofs.Rounded.{N, N-pos}
 
 -- ---- between a double's fraction n / d and its o units

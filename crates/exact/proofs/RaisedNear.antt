@@ -1,7 +1,5 @@
 -- Two powers, of a base x with the exponent M / E and of a base X with the exponent P / U, are near where the bases and the exponents are. Assumes nothing.
-use Rattle.arithmetic.proofs.Kit.{_≡_, sym, ap, _∙_, subst, subst₂, ℕ, _+_, _*_, _≤_, _<_, le-refl, mul-comm, mul-pos, one-le-pow}
-use Rattle.arithmetic.specs.Fractions.{Fraction, _isAtMost_, _toThe_}
-use Rattle.exact.specs.FunctionsNear.{_times_, inverse}
+use Rattle.exact.proofs.Kit.{_≡_, sym, ap, _∙_, subst, subst₂, ℕ, _+_, _*_, _≤_, _<_, le-refl, mul-comm, mul-pos, one-le-pow, Fraction, _isAtMost_, _toThe_, _times_, inverse}
 use Rattle.exact.proofs.Fractions.{transitive, times-rises, raise, unraise, times-assoc, times-swap, times-power, power-power, next, exponents-near}
 
 -- of two bases, one at most 1 + 1 / W times the other: their powers with the exponent P / U, to the e = E * U

@@ -1,12 +1,6 @@
 -- Into the analysis and out of it: a double between two others tracks the number that it is, what tracks a number closely is near it, and bounds may be widened.
 -- Assumes nothing.
-use Rattle.arithmetic.proofs.Kit.{_≡_, ap, Bool, true, false, List, [], _∷_, ℕ, _+_, _*_, _^_, _≤_, _<_, le-trans, le-of-eq, mul-assoc, mul-le-mul-right, mul-le-mul-left, le-of-mul-le-mul-right, arith, T, leb, leb→le, Float, nan, inf, fin, binary64, down, fits, le, down-pos, finite}
-use Rattle.arithmetic.specs.Nearest.{unitsOf}
-use Rattle.arithmetic.proofs.CommonDenominator.{above, beneath, at-most}
-use Rattle.arithmetic.proofs.Order.{units-exact, count-of-le}
-use Rattle.arithmetic.proofs.Counts.{over, under, Small, small-between}
-use Rattle.exact.specs.Exact.{Exact, _⊞_, opposite, _⊠_, number}
-use Rattle.exact.specs.Near.{IsNear, Between}
+use Rattle.exact.proofs.Kit.{_≡_, ap, Bool, true, false, List, [], _∷_, ℕ, _+_, _*_, _^_, _≤_, _<_, le-trans, le-of-eq, mul-assoc, mul-le-mul-right, mul-le-mul-left, le-of-mul-le-mul-right, arith, T, leb, leb→le, Float, nan, inf, fin, binary64, down, fits, le, down-pos, finite, unitsOf, above, beneath, at-most, units-exact, count-of-le, over, under, Small, small-between, Exact, _⊞_, opposite, _⊠_, number, IsNear, Between}
 use Rattle.exact.proofs.Rounded.{N, N-pos}
 use Rattle.exact.proofs.Tracks.{Bounds, Tracks}
 use Rattle.exact.proofs.Tests.{all, test}

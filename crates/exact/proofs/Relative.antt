@@ -1,6 +1,5 @@
 -- Errors that are parts of a number, and what half powers and powers of a b between 1 and 3 make of them, over natural numbers. Assumes nothing.
-use Rattle.arithmetic.proofs.Kit.{_≡_, sym, ap, _∙_, ℕ, _+_, _-_, _*_, _^_, _≤_, _<_, lt-of-le-of-lt, le-trans, le-of-eq, lt-of-lt-of-le, mul-pos, mul-le-mul-right, mul-le-mul-left, mul-comm, le-of-mul-le-mul-right, lt-of-mul-lt-mul-right, mul-lt-mul-of-pos-right, one-le-pow, pow-le-pow-left, add-one, arith, pow-add}
-use Rattle.arithmetic.proofs.Powers.{pow-product, pow-power, lt-of-powers, le-of-powers, far-one}
+use Rattle.exact.proofs.Kit.{_≡_, sym, ap, _∙_, ℕ, _+_, _-_, _*_, _^_, _≤_, _<_, lt-of-le-of-lt, le-trans, le-of-eq, lt-of-lt-of-le, mul-pos, mul-le-mul-right, mul-le-mul-left, mul-comm, le-of-mul-le-mul-right, lt-of-mul-lt-mul-right, mul-lt-mul-of-pos-right, one-le-pow, pow-le-pow-left, add-one, arith, pow-add, pow-product, pow-power, lt-of-powers, le-of-powers, far-one}
 
 -- ---- a number A and a number B, each at most a part D / F of A from the other
 pub record Apart (F D A B : ℕ) : Type 0 where

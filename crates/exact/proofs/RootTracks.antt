@@ -1,16 +1,9 @@
 -- The square root of a double that tracks a number tracks every fraction that stands for the number's root. Assumes nothing.
-use Rattle.arithmetic.proofs.Kit.{_≡_, sym, ap, _∙_, subst, true, false, ℕ, zero, suc, _+_, _-_, _*_, _^_, _≤_, _<_, le-of-eq, lt-of-lt-of-le, mul-pos, pow-suc, lt-of-le-of-lt, mul-lt-mul-of-pos-right, mul-le-mul-right, mul-le-mul-left, arith, ℤ, T, lit<, Float, nan, inf, fin, binary64, fits, positive}
-use Rattle.arithmetic.proofs.CommonDenominator.{above}
-use Rattle.arithmetic.proofs.Counts.{over}
-use Rattle.arithmetic.specs.Fractions.{Fraction, _toThe_}
-use Rattle.arithmetic.specs.Nearest.{unitsOf}
+use Rattle.exact.proofs.Kit.{_≡_, sym, ap, _∙_, subst, true, false, ℕ, zero, suc, _+_, _-_, _*_, _^_, _≤_, _<_, le-of-eq, lt-of-lt-of-le, mul-pos, pow-suc, lt-of-le-of-lt, mul-lt-mul-of-pos-right, mul-le-mul-right, mul-le-mul-left, arith, ℤ, T, lit<, Float, nan, inf, fin, binary64, fits, positive, above, over, Fraction, _toThe_, unitsOf, Exact, pow-one, of, IsRoot}
 use Rattle.antilog.specs.Sqrt.{sqrt}
 use Rattle.antilog.proofs.NearestRoot.{sqrt-nearest, sqrt-in-steps}
-use Rattle.exact.specs.Exact.{Exact}
 use Rattle.exact.proofs.Rounded.{N, N-pos}
 use Rattle.exact.proofs.Tracks.{Bounds, Tracks}
-use Rattle.arithmetic.proofs.Powers.{pow-one}
-use Rattle.exact.specs.Powers.{of, IsRoot}
 use Rattle.exact.proofs.Above.{positive-units}
 use Rattle.exact.proofs.HalfPower.{powered, x-positive, tracks-half}
 

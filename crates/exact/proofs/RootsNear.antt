@@ -1,11 +1,6 @@
 -- From a word to a double: where a word lies within j units of a number's logarithm, the word's antilog, rounded to a normal double, lies within
 -- j + 2 units of 2 ^ -places of that number and half a unit in the double's last place. Assumes nothing.
-use Rattle.arithmetic.proofs.Kit.{_≡_, sym, ap, _∙_, subst, ℕ, suc, _+_, _-_, _*_, _/_, _%_, _^_, _≤_, _<_, le-trans, le-of-eq, lt-of-lt-of-le, lt-of-le-of-lt, lt-of-not-le, ne-of-gt, add-mul, suc-mul, mul-suc, mul-add, mul-right-comm, mul-comm, mul-pos, mul-le-mul, mul-le-mul-left, mul-le-mul-right, mul-lt-mul-of-pos-right, le-of-mul-le-mul-right, lt-of-mul-lt-mul-right, one-le-pow, pow-le-pow-left, pow-lt-pow-left, mod-lt, div-mul-le-self, le-div-iff-mul-le, lt-div-mul-add, decLe, arith, pow-pos, pow-mono, pow-add, Float, minus, num, den, den-pos}
-use native.Mathlib.Nat.{le-suc}
-use lib.Ieee.Positive.{own-value, value-pos}
-use Rattle.antilog.specs.Antilog.{antilogRoot, antilog}
-use Rattle.exact.specs.FunctionsNear.{Normal, InBounds}
-use Rattle.arithmetic.proofs.Powers.{pow-product, pow-power, pow-scaled, two-each-le-next, lt-of-powers, le-of-powers}
+use Rattle.exact.proofs.Kit.{_≡_, sym, ap, _∙_, subst, ℕ, suc, _+_, _-_, _*_, _/_, _%_, _^_, _≤_, _<_, le-trans, le-of-eq, lt-of-lt-of-le, lt-of-le-of-lt, lt-of-not-le, ne-of-gt, add-mul, suc-mul, mul-suc, mul-add, mul-right-comm, mul-comm, mul-pos, mul-le-mul, mul-le-mul-left, mul-le-mul-right, mul-lt-mul-of-pos-right, le-of-mul-le-mul-right, lt-of-mul-lt-mul-right, one-le-pow, pow-le-pow-left, pow-lt-pow-left, mod-lt, div-mul-le-self, le-div-iff-mul-le, lt-div-mul-add, decLe, arith, pow-pos, pow-mono, pow-add, Float, minus, num, den, den-pos, le-suc, own-value, value-pos, antilogRoot, antilog, Normal, InBounds, pow-product, pow-power, pow-scaled, two-each-le-next, lt-of-powers, le-of-powers}
 use Rattle.antilog.proofs.Range.{antilogRoot-mantissa}
 use Rattle.antilog.proofs.OneFraction.{scaledRoot, antilog-minus}
 use Rattle.elementary.proofs.PowersApart.{root-below, root-above}

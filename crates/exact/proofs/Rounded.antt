@@ -1,12 +1,8 @@
 -- One rounded operation on two finite doubles lies within a step of the exact result. Numbers are counts of units of 2 ^ -1074. Assumes nothing.
-use Rattle.arithmetic.proofs.Kit.{_≡_, ap, ap₂, Bool, true, false, ℕ, suc, _+_, _-_, _*_, _^_, _≤_, _<_, le-trans, le-of-eq, lt-of-lt-of-le, mul-pos, arith, ℤ, T, eqb·suc-zero, pow-add, pow-pos, pow-mono, Float, fin, binary64, up, down, size, round, add, mul, div, fits, size-lt, up-pos, down-pos, round-same}
+use Rattle.exact.proofs.Kit.{_≡_, ap, ap₂, Bool, true, false, ℕ, suc, _+_, _-_, _*_, _^_, _≤_, _<_, le-trans, le-of-eq, lt-of-lt-of-le, mul-pos, arith, ℤ, T, eqb·suc-zero, pow-add, pow-pos, pow-mono, Float, fin, binary64, up, down, size, round, add, mul, div, fits, size-lt, up-pos, down-pos, round-same, unitsOf, above, beneath, units-exact, over, under}
 use lib.Ieee.{unlike}
-use Rattle.arithmetic.specs.Nearest.{unitsOf}
-use Rattle.arithmetic.proofs.CommonDenominator.{above, beneath}
-use Rattle.arithmetic.proofs.Order.{units-exact}
 use Rattle.arithmetic.proofs.Sums.{sum-is, add-counts}
 use Rattle.arithmetic.proofs.Products.{unlike-plus}
-use Rattle.arithmetic.proofs.Counts.{over, under}
 use Rattle.arithmetic.proofs.Near.{Step, Near, round-near}
 
 -- 1 in units

@@ -1,9 +1,7 @@
 -- A fraction that is rounded to a normal double lies within one part in 2^53 of that double. Assumes nothing.
-use Rattle.arithmetic.proofs.Kit.{_≡_, refl, sym, ap, _∙_, subst, ℕ, suc, _+_, _*_, _/_, _%_, _^_, _≤_, _<_, le-trans, le-of-eq, lt-of-not-le, suc-mul, mod-lt, div-add-mod', mul-comm, mul-left-comm, mul-pos, mul-one, mul-le-mul-right, mul-le-mul-left, le-of-mul-le-mul-right, le-div-iff-mul-le, decLe, arith, false, T, pow-pos, pow-add, Float, binary64, round, size-reaches, HasValue, closest, kept, finite, num, den, den-pos}
+use Rattle.exact.proofs.Kit.{_≡_, refl, sym, ap, _∙_, subst, ℕ, suc, _+_, _*_, _/_, _%_, _^_, _≤_, _<_, le-trans, le-of-eq, lt-of-not-le, suc-mul, mod-lt, div-add-mod', mul-comm, mul-left-comm, mul-pos, mul-one, mul-le-mul-right, mul-le-mul-left, le-of-mul-le-mul-right, le-div-iff-mul-le, decLe, arith, false, T, pow-pos, pow-add, Float, binary64, round, size-reaches, HasValue, closest, kept, finite, num, den, den-pos, positive-finite, value→cross, Normal}
 use lib.Ieee.Order.{drop}
 use lib.Ieee.Scale.{grid, round-val, round-under}
-use lib.Ieee.Positive.{positive-finite, value→cross}
-use Rattle.exact.specs.FunctionsNear.{Normal}
 use Rattle.arithmetic.proofs.Closest.{nearest-is, closest-at-least}
 
 -- ---- the whole number closest to y / u is no further than half from it

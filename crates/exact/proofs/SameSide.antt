@@ -1,10 +1,5 @@
 -- A double that is near a number lies on the number's side of every double from which the number is further. Assumes nothing.
-use Rattle.arithmetic.proofs.Kit.{_≡_, refl, sym, ap, _∙_, _⊎_, inl, inr, Bool, true, false, ℕ, _+_, _*_, _^_, _≤_, _<_, le-refl, le-trans, le-of-eq, le-of-lt, lt-of-lt-of-le, lt-of-le-of-lt, not-le-of-lt, mul-le-mul-right, mul-lt-mul-of-pos-right, lt-of-mul-lt-mul-right, arith, T, leb, leb→le, le→leb, Float, binary64, fits, le, is-true, finite}
-use Rattle.arithmetic.specs.Nearest.{unitsOf}
-use Rattle.arithmetic.proofs.Counts.{over, under, Small, le-of-sides, lt-of-sides}
-use Rattle.arithmetic.proofs.Strict.{not-le-of-less}
-use Rattle.exact.specs.Exact.{Exact, _⊞_, opposite, number, isNotAbove}
-use Rattle.exact.specs.Near.{IsNear, IsFar}
+use Rattle.exact.proofs.Kit.{_≡_, refl, sym, ap, _∙_, _⊎_, inl, inr, Bool, true, false, ℕ, _+_, _*_, _^_, _≤_, _<_, le-refl, le-trans, le-of-eq, le-of-lt, lt-of-lt-of-le, lt-of-le-of-lt, not-le-of-lt, mul-le-mul-right, mul-lt-mul-of-pos-right, lt-of-mul-lt-mul-right, arith, T, leb, leb→le, le→leb, Float, binary64, fits, le, is-true, finite, unitsOf, over, under, Small, le-of-sides, lt-of-sides, not-le-of-less, Exact, _⊞_, opposite, number, isNotAbove, IsNear, IsFar}
 use Rattle.exact.proofs.Rounded.{N, N-pos}
 use Rattle.exact.proofs.Ranges.{number-is}
 

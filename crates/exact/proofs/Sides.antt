@@ -1,9 +1,5 @@
 -- What is tracked is at most, at least or below a double that its bounds say. Assumes nothing.
-use Rattle.arithmetic.proofs.Kit.{Bool, _&&_, _+_, _≤_, _<_, le-refl, arith, T, leb, leb→le, Float, binary64, fits, lt, le, and-l, and-r, finite}
-use Rattle.arithmetic.specs.Nearest.{unitsOf}
-use Rattle.arithmetic.proofs.Counts.{over, under, Small, lt-of-sides, le-of-sides}
-use Rattle.exact.specs.Exact.{Exact}
-use Rattle.exact.specs.Near.{Between}
+use Rattle.exact.proofs.Kit.{Bool, _&&_, _+_, _≤_, _<_, le-refl, arith, T, leb, leb→le, Float, binary64, fits, lt, le, and-l, and-r, finite, unitsOf, over, under, Small, lt-of-sides, le-of-sides, Exact, Between}
 use Rattle.exact.proofs.Tracks.{Bounds, Tracks}
 
 itself : (z : Float) → T (fits binary64 z) → T (finite z) → Small (unitsOf z) z

@@ -1,13 +1,9 @@
 -- A formula, what it is over doubles and what over exact numbers, and how far apart these are: one analysis, and one law that it is right. Assumes nothing.
-use Rattle.arithmetic.proofs.Kit.{_≡_, refl, sym, subst, Bool, true, false, _&&_, cond, List, [], _∷_, ℕ, zero, suc, _+_, _-_, _*_, _/_, _≤_, _<_, le-refl, lt-div-mul-add, arith, T, eqb, leb, ltb, leb→le, ltb→lt, Float, nan, inf, fin, binary64, neg, sub, fits, lt, isNan, ofBits-fits, cond-fits, and-i, and-l, and-r, finite}
+use Rattle.exact.proofs.Kit.{_≡_, refl, sym, subst, Bool, true, false, _&&_, cond, List, [], _∷_, ℕ, zero, suc, _+_, _-_, _*_, _/_, _≤_, _<_, le-refl, lt-div-mul-add, arith, T, eqb, leb, ltb, leb→le, ltb→lt, Float, nan, inf, fin, binary64, neg, sub, fits, lt, isNan, ofBits-fits, cond-fits, and-i, and-l, and-r, finite, unitsOf, over, under, Small, le-of-sides, not-le-of-less, Exact, _⊞_, _⊟_, _⊠_, _÷_, the}
 use Prim.Native.String.{String}
 use Rattle.arithmetic.specs.Decimals.{fraction, decimal}
 use Rattle.arithmetic.specs.Operators.{_⊕_, _⊖_, _⊗_, _⊘_}
-use Rattle.arithmetic.specs.Nearest.{unitsOf}
-use Rattle.arithmetic.proofs.Counts.{over, under, Small, le-of-sides}
-use Rattle.arithmetic.proofs.Strict.{not-le-of-less}
 use Rattle.arithmetic.specs.Doubles.{maxDouble}
-use Rattle.exact.specs.Exact.{Exact, _⊞_, _⊟_, _⊠_, _÷_, the}
 use Rattle.exact.proofs.Rounded.{N}
 use Rattle.exact.proofs.Tracks.{Bounds, Tracks, opposed, summed, sumSize, multiplied, productSize, divided, quotientSize, small, tracks-neg, tracks-add, tracks-mul, tracks-div}
 

@@ -1,13 +1,8 @@
 -- A double tracks an exact number: both bounds of the double, and how far it is from the number, in units of 2 ^ -1074; and what an operation makes of two
 -- of them. Assumes nothing.
-use Rattle.arithmetic.proofs.Kit.{_≡_, refl, ap, _∙_, Bool, true, false, _&&_, cond, ℕ, zero, suc, _+_, _-_, _*_, _/_, _^_, _≤_, _<_, zero-le, le-trans, le-of-eq, lt-of-lt-of-le, lt-of-le-of-lt, mul-pos, mul-le-mul, mul-le-mul-right, mul-le-mul-left, le-of-mul-le-mul-right, div-mul-le-self, lt-div-mul-add, mul-lt-mul-of-pos-right, zero-mul, zero-div, arith, ℤ, T, leb, ltb, eqb, leb→le, ltb→lt, eqb→eq, Float, nan, inf, fin, binary64, up, down, size, neg, add, mul, div, fits, neg-fits, finite}
+use Rattle.exact.proofs.Kit.{_≡_, refl, ap, _∙_, Bool, true, false, _&&_, cond, ℕ, zero, suc, _+_, _-_, _*_, _/_, _^_, _≤_, _<_, zero-le, le-trans, le-of-eq, lt-of-lt-of-le, lt-of-le-of-lt, mul-pos, mul-le-mul, mul-le-mul-right, mul-le-mul-left, le-of-mul-le-mul-right, div-mul-le-self, lt-div-mul-add, mul-lt-mul-of-pos-right, zero-mul, zero-div, arith, ℤ, T, leb, ltb, eqb, leb→le, ltb→lt, eqb→eq, Float, nan, inf, fin, binary64, up, down, size, neg, add, mul, div, fits, neg-fits, finite, le-max-left, le-max-right, unitsOf, above, beneath, over, under, Exact, _⊞_, opposite, _⊠_, _÷_}
 use Prim.Native.Nat.{max}
-use native.Mathlib.Nat.{le-max-left, le-max-right}
-use Rattle.arithmetic.specs.Nearest.{unitsOf}
-use Rattle.arithmetic.proofs.CommonDenominator.{above, beneath}
-use Rattle.arithmetic.proofs.Counts.{over, under}
 use Rattle.arithmetic.proofs.Near.{Step, Near}
-use Rattle.exact.specs.Exact.{Exact, _⊞_, opposite, _⊠_, _÷_}
 use Rattle.exact.proofs.Errors.{product-bound, sum-error, product-error, quotient-error, divisor-pos}
 use Rattle.exact.proofs.Rounded.{N, N-pos, stepOf, fine-enough, add-rounded, mul-rounded, div-rounded}
 

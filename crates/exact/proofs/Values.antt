@@ -1,19 +1,8 @@
 -- Powers and exps are normal doubles and in their range, by their order and a few of them that are computed. Assumes nothing.
-use Rattle.arithmetic.proofs.Kit.{refl, false, ℕ, _*_, _^_, ℤ, pos, _*ℤ_, _-ℤ_, T, lit≤, Float, nan, inf, fin, binary64, up, down, span, climb, size, odd, units, round, ofFields, ofBits, lt, eq, le, neg, isNan, fits, cond-fits, round-fits}
+use Rattle.exact.proofs.Kit.{refl, false, ℕ, _*_, _^_, ℤ, pos, _*ℤ_, _-ℤ_, T, lit≤, Float, nan, inf, fin, binary64, up, down, span, climb, size, odd, units, round, ofFields, ofBits, lt, eq, le, neg, isNan, fits, cond-fits, round-fits, floorDiv, floorMod, above, beneath, le-trans-double, logBits, wordOfUnits, antilogRoot, antilog, power, exp, log2e, floorScaled, expTop, expBottom, expWithin, power-rises, power-fits, Normal, Between, number}
 use Rattle.arithmetic.specs.Decimals.{decimal}
-use Rattle.arithmetic.specs.Whole.{floorDiv, floorMod}
-use Rattle.arithmetic.proofs.CommonDenominator.{above, beneath}
-use Rattle.arithmetic.proofs.Order.{le-trans-double}
 use Rattle.roots.specs.Root.{root, rootIn}
-use Rattle.antilog.specs.Log.{logBits, wordOfUnits}
-use Rattle.antilog.specs.Antilog.{antilogRoot, antilog}
-use Rattle.elementary.specs.Power.{power}
-use Rattle.elementary.specs.Exp.{exp, log2e, floorScaled, expTop, expBottom, expWithin}
-use Rattle.elementary.proofs.Rises.{power-rises, power-fits}
 use Rattle.elementary.proofs.ExpRises.{exp-rises}
-use Rattle.exact.specs.FunctionsNear.{Normal}
-use Rattle.exact.specs.Near.{Between}
-use Rattle.exact.specs.Exact.{number}
 use Rattle.exact.proofs.Ranges.{tracks-itself}
 use Rattle.exact.proofs.Above.{normal-of}
 use Rattle.exact.proofs.HalfPower.{halves}

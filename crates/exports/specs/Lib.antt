@@ -2,7 +2,9 @@
 pub mod Words
 pub mod Readings
 pub mod Records
+pub mod Reads
 pub mod Votes
 pub mod Trims
 pub mod Sheets
 pub mod Lent
+pub mod Laws

@@ -3,7 +3,8 @@ ghost use mathlib.Core.Path.{_≡_};
 ghost use Rattle.elementary.specs.Exp as Exp;
 ghost use Rattle.elementary.specs.Ln as Ln;
 ghost use Rattle.antilog.specs.Sqrt as Sqrt;
-ghost use Rattle.humid_air.specs.Humidity.{moleFractionCelsius};
+ghost use Rattle.humid_air.specs.Humidity.{moleFractionCelsius, airDensity};
+ghost use Rattle.humid_air.specs.Sound.{soundSpeed};
 ghost use Rattle.atmosphere.specs.Station.{resolvedStationPressure, resolvedStationTemperature, reducedQnh};
 ghost use Rattle.atmosphere.specs.Altitudes.{nwsAltitude, faaDensityAltitude, pressureAltitude};
 ghost use Rattle.air.specs.Matched.{densityMatchedAltitude};
@@ -20,6 +21,8 @@ use atmosphere::resolvers::resolve_station_pressure;
 use atmosphere::resolvers::resolve_station_temperature;
 use elementary::exp::exp;
 use elementary::ln::ln;
+use humid_air::humid::calculate_air_density_cimp;
+use humid_air::humid::moist_speed_of_sound;
 use humid_air::humid::water_vapor_mole_fraction_uncapped;
 
 // e to the power x.
@@ -56,6 +59,30 @@ pub extern "C" fn station_air_water_vapor_mole_fraction_uncapped(
     ensures { λ r. ⌜ r ≡ moleFractionCelsius places «temperature_c» «pressure_hpa» «humidity_percent» ⌝ }
 {
     water_vapor_mole_fraction_uncapped(temperature_c, pressure_hpa, humidity_percent)
+}
+
+// The density in kg/m3 of moist air by CIPM-2007.
+#[no_mangle]
+pub extern "C" fn station_air_calculate_air_density_cimp(
+    temperature_c: f64,
+    pressure_hpa: f64,
+    humidity_percent: f64,
+) -> f64
+    ensures { λ r. ⌜ r ≡ airDensity places «temperature_c» «pressure_hpa» «humidity_percent» ⌝ }
+{
+    calculate_air_density_cimp(temperature_c, pressure_hpa, humidity_percent)
+}
+
+// The speed of sound in m/s in moist air, of K and Pa.
+#[no_mangle]
+pub extern "C" fn station_air_moist_speed_of_sound(
+    temperature_k: f64,
+    pressure_pa: f64,
+    humidity_percent: f64,
+) -> f64
+    ensures { λ r. ⌜ r ≡ soundSpeed places «temperature_k» «pressure_pa» «humidity_percent» ⌝ }
+{
+    moist_speed_of_sound(temperature_k, pressure_pa, humidity_percent)
 }
 
 fn is_given(reading: Reading) -> bool
@@ -125,4 +152,12 @@ pub extern "C" fn station_air_density_matched_altitude_m(
     ensures { λ r. ⌜ r ≡ densityMatchedAltitude places «temperature_c» «pressure_hpa» «humidity_percent» ⌝ }
 {
     density_matched_altitude_m(temperature_c, pressure_hpa, humidity_percent)
+}
+
+// The header's STATION_AIR_VERSION.
+#[no_mangle]
+pub extern "C" fn station_air_version() -> u32
+    ensures { λ r. ⌜ r ≡ 7 ⌝ }
+{
+    7
 }

@@ -3,6 +3,7 @@
 pub mod functions;
 mod lent;
 pub mod loads;
+pub mod reads;
 pub mod records;
 pub mod rules;
 pub mod sheets;

@@ -4,12 +4,13 @@
 ghost use mathlib.Core.Path.{_≡_};
 ghost use Rattle.arithmetic.specs.Places.{places};
 ghost use Rattle.atmosphere.specs.Layers.{standardAir};
+ghost use Rattle.atmosphere.specs.Plausibility.{plausibility};
 ghost use Rattle.air.specs.Station.{atmosphere};
 ghost use Rattle.refusal.specs.Outcomes.{accepted};
-ghost use Rattle.density_altitude.specs.Inverse.{station};
+ghost use Rattle.density_altitude.specs.Inverse.{resolve, station};
 ghost use Rattle.mast.specs.Judge.{judge, judgeStrictly};
 ghost use Rattle.exports.specs.Lent.{withRoom, statusOf, leftIn, stationValues, figureValues, markOr};
-ghost use Rattle.exports.specs.Readings.{reading, standardValues, airValues};
+ghost use Rattle.exports.specs.Readings.{reading, standardValues, airValues, plausibilityValues, implausibleOr};
 use crate::lent::FIGURES;
 use crate::lent::TOO_SHORT;
 use crate::lent::put_answer;
@@ -19,6 +20,8 @@ use crate::lent::put_two;
 use air::conditions::calculate_atmosphere;
 use atmosphere::given::Reading;
 use atmosphere::layers::calculate_icao_standard_atmosphere;
+use atmosphere::plausibility::station_pressure_plausibility;
+use density_altitude::inverse::resolve_atmosphere_for_density_altitude;
 use density_altitude::inverse::station_for_density_altitude;
 use mast::judge;
 use refusal::inverse::Answer;
@@ -73,6 +76,52 @@ pub extern "C" fn station_air_calculate_atmosphere(
         humidity_percent,
     );
     put_two(lent, air.density_kg_m3, air.speed_of_sound_mps);
+    FIGURES
+}
+
+// A station pressure, Pa, beside the standard atmosphere's at its altitude: that one, Pa, and their ratio,
+// with whether the two are implausible together in `implausible`, which 255 leaves as it was.
+#[no_mangle]
+pub extern "C" fn station_air_station_pressure_plausibility(
+    station_pressure_pa: f64,
+    altitude_m: f64,
+    lent: &mut [f64],
+    implausible: &mut bool,
+) -> u32
+    ensures { λ r. ⌜ r ≡ statusOf (withRoom 2 (now (lent .entry)) (accepted (plausibility places «station_pressure_pa» «altitude_m»))) ⌝ }
+    ensures { λ _. ⌜ now (lent .exit)
+        ≡ leftIn plausibilityValues (now (lent .entry)) (withRoom 2 (now (lent .entry)) (accepted (plausibility places «station_pressure_pa» «altitude_m»))) ⌝ }
+    ensures { λ _. ⌜ now (implausible .exit)
+        ≡ implausibleOr (now (implausible .entry)) (withRoom 2 (now (lent .entry)) (accepted (plausibility places «station_pressure_pa» «altitude_m»))) ⌝ }
+{
+    if lent.len() < 2 {
+        return TOO_SHORT;
+    }
+    let judged = station_pressure_plausibility(station_pressure_pa, altitude_m);
+    put_two(lent, judged.icao_standard_pa, judged.ratio);
+    *implausible = judged.implausible;
+    FIGURES
+}
+
+// The station that a density altitude resolves to, air or not. A temperature that is not given is the
+// standard one.
+#[no_mangle]
+pub extern "C" fn station_air_resolve_atmosphere_for_density_altitude(
+    density_altitude_m: f64,
+    temperature_given: bool,
+    temperature_c: f64,
+    lent: &mut [f64],
+) -> u32
+    ensures { λ r. ⌜ r ≡ statusOf (withRoom 3 (now (lent .entry)) (accepted (resolve places «density_altitude_m» (reading «temperature_given» «temperature_c»)))) ⌝ }
+    ensures { λ _. ⌜ now (lent .exit) ≡ leftIn stationValues (now (lent .entry)) (withRoom 3 (now (lent .entry))
+        (accepted (resolve places «density_altitude_m» (reading «temperature_given» «temperature_c»)))) ⌝ }
+{
+    if lent.len() < 3 {
+        return TOO_SHORT;
+    }
+    let temperature = reading(temperature_given, temperature_c);
+    let resolved = resolve_atmosphere_for_density_altitude(density_altitude_m, temperature);
+    put_station(lent, resolved);
     FIGURES
 }
 

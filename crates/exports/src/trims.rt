@@ -1,20 +1,31 @@
-// How close the next trim class is.
+// The trim class of a density, and how close the next one is.
 ghost use mathlib.Core.Path.{_≡_};
 ghost use mathlib.Core.List.{[], _∷_};
 ghost use Prim.Native.Nat.{_≤_};
 ghost use lib.ListN.{length};
 ghost use lib.IntN.{pos};
 ghost use Rattle.trim.specs.declared.changes.Found.the-variants as found;
+ghost use Rattle.trim.specs.Classes.{trimClass};
 ghost use Rattle.exports.specs.Lent.{handedOut, statusOf, valuesAfter};
 ghost use Rattle.exports.specs.Trims.{quantityTag, signedTenths, turnNumbers, trimIn, answerAfter};
 use crate::lent::FIGURES;
 use crate::lent::TOO_SHORT;
 use crate::lent::put_refusal;
+use crate::lent::wide;
 use trim::changes::Direction;
 use trim::changes::Quantity;
 use trim::changes::Turn;
+use trim::classes::trim_class;
 use trim::search::Trim;
 use trim::search::next_trim_class;
+
+// The trim class of a density, kg/m3.
+#[no_mangle]
+pub extern "C" fn station_air_trim_class(density_kg_m3: f64) -> u32
+    ensures { λ r. ⌜ r ≡ trimClass «density_kg_m3» ⌝ }
+{
+    wide(trim_class(density_kg_m3))
+}
 
 fn signed(n: u8) -> i32
     ensures { λ r. ⌜ r ≡ pos n ⌝ }

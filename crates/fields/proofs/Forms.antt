@@ -1,7 +1,6 @@
 -- The form of a field by its tag, how long its data is, and one tag for each meaning in each form. Assumes nothing.
-use Rattle.arithmetic.proofs.Kit.{_≡_, refl, sym, ap, ap₂, _∙_, Bool, true, false, _&&_, _||_, cond, ℕ, _+_, _-_, _≤_, _<_, arith, le-leb, lt-leb, leb-true, leb, lit≤}
+use Rattle.fields.proofs.Kit.{_≡_, refl, sym, ap, ap₂, _∙_, Bool, true, false, _&&_, _||_, cond, ℕ, _+_, _-_, _≤_, _<_, arith, le-leb, lt-leb, leb-true, leb, lit≤, meanings, isCountTag, isTag, meaningOf, tagIn, dataSize}
 use mathlib.Core.Bool.{and-eq-true-iff, or-false, or-true}
-use Rattle.fields.specs.Fields.{meanings, isCountTag, isTag, meaningOf, tagIn, dataSize}
 
 within : (low high tag : ℕ) → (leb low tag && leb tag high) ≡ true → (low ≤ tag) × (tag ≤ high)
 within low high tag e =

@@ -1,8 +1,6 @@
 -- The fields of a record one after the other: the first, and those of what follows it; and a reader's step from a position. Assumes nothing.
-use Rattle.arithmetic.proofs.Kit.{_≡_, refl, sym, ap, _∙_, List, [], _∷_, ℕ, zero, suc, _+_, _≤_, _<_, arith, le-leb, Float, length, drop, length-drop, drop-drop}
-use Rattle.refusal.specs.Outcomes.{Outcome, accepted, refused, _⟫_}
+use Rattle.fields.proofs.Kit.{_≡_, refl, sym, ap, _∙_, List, [], _∷_, ℕ, zero, suc, _+_, _≤_, _<_, arith, le-leb, Float, length, drop, length-drop, drop-drop, Outcome, accepted, refused, _⟫_, sizeOf, fieldOf, headsFrom, heads, nextAt, stepAt}
 use Rattle.fields.specs.declared.fields.Field.{Field}
-use Rattle.fields.specs.Fields.{sizeOf, fieldOf, headsFrom, heads, nextAt, stepAt}
 
 enough : (n m : ℕ) (s : List ℕ) → length s ≤ n → length s ≤ m → headsFrom n s ≡ headsFrom m s
 unfolding headsFrom

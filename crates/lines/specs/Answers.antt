@@ -5,7 +5,7 @@ use mathlib.Core.List.{List, []}
 use lib.Dec.{leb, ltb, eqb}
 use lib.ListN.{length, getD}
 use Rattle.arithmetic.specs.Ascii.{ascii}
-use Rattle.park_text.specs.Word.{placeIn}
+use Rattle.questions.specs.Words.{placeIn}
 use Rattle.questions.specs.Words.{lineParts}
 use Rattle.questions.specs.Digits.{bytesIn}
 use Rattle.questions.specs.Arguments.{doubleIn, numberOr}

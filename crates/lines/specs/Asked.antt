@@ -8,13 +8,13 @@ use Rattle.arithmetic.specs.Places.{places}
 use Rattle.elementary.specs.Power.{powerAt}
 use Rattle.atmosphere.specs.Station.{inPressureBand, inTemperatureBand, resolvedStationPressure, resolvedStationTemperature}
 use Rattle.arithmetic.specs.Ascii.{ascii}
-use Rattle.park_text.specs.Word.{placeIn}
+use Rattle.questions.specs.Words.{placeIn}
 use Rattle.questions.specs.Words.{lineParts}
 use Rattle.questions.specs.Arguments.{numberOr}
 use Rattle.questions.specs.Forms.{fits, wrongLine}
 use Rattle.lines.specs.Texts.{valueLine, truthLine, optionLine}
 use Rattle.lines.specs.Source.{airValue, heightValue}
-use Rattle.lines.specs.Stations.{double, standardAnswer, atmosphereAnswer, resolvedAnswer, stationAnswer}
+use Rattle.lines.specs.Stations.{double, standardAnswer, atmosphereAnswer, resolvedAnswer, stationAnswer, plausibilityAnswer}
 use Rattle.lines.specs.Rules.{logAnswer, antilogAnswer, rootAnswer}
 use Rattle.lines.specs.Decimal.{decimalAnswer}
 
@@ -28,10 +28,11 @@ nameText =
     ascii "standard_pressure_altitude_m faa_rule_density_altitude_ft density_matched_altitude_m standard_altitude_above_tropopause_m " ++
     ascii "exp ln sqrt in_legacy_default_pressure_band in_legacy_default_temperature_band resolve_station_pressure " ++
     ascii "resolve_station_temperature calculate_icao_standard_atmosphere calculate_atmosphere " ++
-    ascii "resolve_atmosphere_for_density_altitude station_for_density_altitude power log_word antilog root decimal"
+    ascii "resolve_atmosphere_for_density_altitude station_for_density_altitude power log_word antilog root decimal " ++
+    ascii "station_pressure_plausibility"
 
 unfoldable pub shapeText : List ℕ
-shapeText = ascii "x xx xxx xxxx x xxx xxx x xxx xx xxx x xx x x x xx xxx x x x x x x xx xx x xoox xo xo nx x ww ww nx"
+shapeText = ascii "x xx xxx xxxx x xxx xxx x xxx xx xxx x xx x x x xx xxx x x x x x x xx xx x xoox xo xo nx x ww ww nx xx"
 
 abbrev pub functionNames : List (List ℕ)
 functionNames = lineParts nameText
@@ -68,7 +69,8 @@ otherAnswer number ws =
     (cond (eqb number 30) (powerAnswer ws)
     (cond (eqb number 31) (logAnswer ws)
     (cond (eqb number 32) (antilogAnswer ws)
-    (cond (eqb number 33) (rootAnswer ws) (decimalAnswer ws))))))))
+    (cond (eqb number 33) (rootAnswer ws)
+    (cond (eqb number 34) (decimalAnswer ws) (plausibilityAnswer ws)))))))))
 
 unfoldable pub functionNumbered : ℕ → List (List ℕ) → List ℕ
 functionNumbered number ws =
@@ -77,7 +79,7 @@ functionNumbered number ws =
 -- ---- a line
 abbrev pub numberedFunction : ℕ → List (List ℕ) → List ℕ
 numberedFunction number ws =
-    cond (ltb number 35)
+    cond (ltb number 36)
     (cond (fits ws (getD functionShapes number [])) (functionNumbered number ws) (wrongLine (getD functionNames number []) (getD functionShapes number [])))
     unknownLine
 

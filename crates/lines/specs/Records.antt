@@ -9,6 +9,7 @@ use Rattle.record.specs.Readings.{readRecord}
 use Rattle.mast.specs.Judge.{judge, judgeStrictly}
 use Rattle.writer.specs.Conversion.{converted}
 use Rattle.trim.specs.Search.{nextTrimClass}
+use Rattle.report.specs.declared.Origin.the-variants.{Record}
 use Rattle.report.specs.Report.{reportText}
 use Rattle.pages.specs.Characters.{refusalLine}
 use Rattle.text.specs.Text.{answerText}
@@ -18,7 +19,7 @@ use Rattle.lines.specs.Written.{writtenText}
 
 -- the report of readings, or why they are not read
 abbrev pub readText : Outcome Readings → List ℕ
-readText (accepted r) = reportText r
+readText (accepted r) = reportText Record r
 readText (refused number values) = refusalLine number
 
 unfoldable pub recordAnswerText : ℕ → List ℕ → List ℕ

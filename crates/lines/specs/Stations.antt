@@ -10,6 +10,8 @@ use Rattle.atmosphere.specs.declared.layers.StandardAir.{StandardAir}
 use Rattle.atmosphere.specs.declared.given.Reading.{Reading}
 use Rattle.atmosphere.specs.declared.given.Reading.the-variants as reading
 use Rattle.atmosphere.specs.Layers.{standardAir}
+use Rattle.atmosphere.specs.declared.plausibility.StationPressurePlausibility.{StationPressurePlausibility}
+use Rattle.atmosphere.specs.Plausibility.{plausibility}
 use Rattle.air.specs.declared.conditions.Air.{Air}
 use Rattle.air.specs.Station.{atmosphere}
 use Rattle.density_altitude.specs.Inverse.{resolve, station}
@@ -19,7 +21,7 @@ use Rattle.questions.specs.declared.forms.Given.the-variants.{Word, Absent}
 use Rattle.questions.specs.Forms.{givenIn}
 use Rattle.questions.specs.Arguments.{doubleIn}
 use Rattle.lines.specs.Values.{valueText, refusalValues}
-use Rattle.lines.specs.Texts.{pairLine, threeLine}
+use Rattle.lines.specs.Texts.{pairLine, threeLine, pairTruthLine}
 
 -- ---- arguments: a reading that is absent is the layer's
 abbrev pub optionOf : Given → Reading
@@ -68,3 +70,9 @@ inverseLine (refused number values) = refusalValues number values
 
 unfoldable pub stationAnswer : List (List ℕ) → List ℕ
 stationAnswer ws = inverseLine (station places (double ws 1) (given ws 2))
+
+abbrev pub plausibilityLine : StationPressurePlausibility → List ℕ
+plausibilityLine j = pairTruthLine (j .«icao_standard_pa») (j .«ratio») (j .«implausible»)
+
+unfoldable pub plausibilityAnswer : List (List ℕ) → List ℕ
+plausibilityAnswer ws = plausibilityLine (plausibility places (double ws 1) (double ws 2))

@@ -21,6 +21,9 @@ threeLine x y z = valueText x ++ (ascii " " ++ valueText y) ++ (ascii " " ++ val
 abbrev pub truthLine : Bool → List ℕ
 truthLine b = cond b (ascii "true\n") (ascii "false\n")
 
+unfoldable pub pairTruthLine : Float → Float → Bool → List ℕ
+pairTruthLine x y b = valueText x ++ (ascii " " ++ valueText y) ++ ascii " " ++ truthLine b
+
 unfoldable pub someLine : Float → List ℕ
 someLine x = ascii "some " ++ valueLine x
 

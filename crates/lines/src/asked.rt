@@ -10,6 +10,7 @@ use crate::rules::put_root;
 use crate::source::air_value;
 use crate::source::height_value;
 use crate::stations::put_atmosphere;
+use crate::stations::put_plausibility;
 use crate::stations::put_resolved;
 use crate::stations::put_standard;
 use crate::stations::put_station;
@@ -77,7 +78,8 @@ fn put_other(page: &mut [u8], at: usize, number: usize, line: &[u8]) -> usize
         31 => put_log_word(page, at, line),
         32 => put_antilog(page, at, line),
         33 => put_root(page, at, line),
-        _ => put_decimal(page, at, line),
+        34 => put_decimal(page, at, line),
+        _ => put_plausibility(page, at, line),
     }
 }
 
@@ -101,9 +103,9 @@ pub(crate) fn put_function_answer(page: &mut [u8], at: usize, line: &[u8]) -> us
     ensures kept { λ _. ⌜ now (line .exit) ≡ now (line .entry) ⌝ }
 {
     let names =
-        b"enhanced_saturation_vapor_pressure enhanced_enhancement_factor enhanced_compressibility_factor vapor_mole_fraction capped_vapor_mole_fraction water_vapor_mole_fraction_uncapped moist_air_vapor_mole_fraction moist_molar_mass_ratio calculate_air_density_cimp moist_sound_speed_at_mole_fraction moist_speed_of_sound geometric_to_geopotential_height_m reduce_qnh_to_station_pressure nws_pressure_altitude_ft pressure_altitude_m standard_pressure_altitude_m faa_rule_density_altitude_ft density_matched_altitude_m standard_altitude_above_tropopause_m exp ln sqrt in_legacy_default_pressure_band in_legacy_default_temperature_band resolve_station_pressure resolve_station_temperature calculate_icao_standard_atmosphere calculate_atmosphere resolve_atmosphere_for_density_altitude station_for_density_altitude power log_word antilog root decimal";
+        b"enhanced_saturation_vapor_pressure enhanced_enhancement_factor enhanced_compressibility_factor vapor_mole_fraction capped_vapor_mole_fraction water_vapor_mole_fraction_uncapped moist_air_vapor_mole_fraction moist_molar_mass_ratio calculate_air_density_cimp moist_sound_speed_at_mole_fraction moist_speed_of_sound geometric_to_geopotential_height_m reduce_qnh_to_station_pressure nws_pressure_altitude_ft pressure_altitude_m standard_pressure_altitude_m faa_rule_density_altitude_ft density_matched_altitude_m standard_altitude_above_tropopause_m exp ln sqrt in_legacy_default_pressure_band in_legacy_default_temperature_band resolve_station_pressure resolve_station_temperature calculate_icao_standard_atmosphere calculate_atmosphere resolve_atmosphere_for_density_altitude station_for_density_altitude power log_word antilog root decimal station_pressure_plausibility";
     let number = place(nth_word(line, 0), names);
-    if number >= 35 {
+    if number >= 36 {
         return put(
             page,
             at,
@@ -111,7 +113,7 @@ pub(crate) fn put_function_answer(page: &mut [u8], at: usize, line: &[u8]) -> us
         );
     }
     let shapes =
-        b"x xx xxx xxxx x xxx xxx x xxx xx xxx x xx x x x xx xxx x x x x x x xx xx x xoox xo xo nx x ww ww nx";
+        b"x xx xxx xxxx x xxx xxx x xxx xx xxx x xx x x x xx xxx x x x x x x xx xx x xoox xo xo nx x ww ww nx xx";
     let shape = nth_word(shapes, number);
     if fits(line, shape) {
         return put_numbered(page, at, number, line);

@@ -14,6 +14,7 @@ use mast::judge::judge_strictly;
 use pages::put;
 use record::readings::read_record;
 use refusal::Check;
+use report::Origin;
 use sheet::page::Sheet;
 use sheet::page::setting_sheet;
 use text::answer_lines::put_answer;
@@ -27,7 +28,7 @@ fn put_report(page: &mut [u8], at: usize, record: &[u8]) -> usize
     let check = read.check;
     match check {
         Check::Refused(refusal) => put_refusal(page, at, refusal),
-        Check::Passed => report::put_report(page, at, read.readings),
+        Check::Passed => report::put_report(page, at, read.readings, Origin::Record),
     }
 }
 

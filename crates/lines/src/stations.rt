@@ -5,14 +5,16 @@ ghost use lib.ListN.{getD};
 ghost use Rattle.pages.specs.Pages.{Appended};
 ghost use Rattle.questions.specs.Words.{lineParts};
 ghost use Rattle.refusal.specs.Inverted.{inverseOutcome};
-ghost use Rattle.lines.specs.Stations.{optionOf, readingIn, acceptedLine, inverseLine, standardAnswer, atmosphereAnswer, resolvedAnswer, stationAnswer};
+ghost use Rattle.lines.specs.Stations.{optionOf, readingIn, acceptedLine, inverseLine, standardAnswer, atmosphereAnswer, resolvedAnswer, stationAnswer, plausibilityAnswer};
 use crate::texts::put_pair;
+use crate::texts::put_pair_truth;
 use crate::texts::put_three;
 use crate::value_lines::put_next_value;
 use crate::value_lines::put_refusal_values;
 use air::conditions::calculate_atmosphere;
 use atmosphere::given::Reading;
 use atmosphere::layers::calculate_icao_standard_atmosphere;
+use atmosphere::plausibility::station_pressure_plausibility;
 use density_altitude::inverse::resolve_atmosphere_for_density_altitude;
 use density_altitude::inverse::station_for_density_altitude;
 use fields::bits::double;
@@ -99,4 +101,19 @@ pub(crate) fn put_station(page: &mut [u8], at: usize, line: &[u8]) -> usize
     let temperature = reading_at(line, 2);
     let answer = station_for_density_altitude(density_altitude_m, temperature);
     put_found(page, at, answer)
+}
+
+pub(crate) fn put_plausibility(page: &mut [u8], at: usize, line: &[u8]) -> usize
+    ensures { λ r. ⌜ Appended (now (page .entry)) at (plausibilityAnswer (lineParts (now (line .entry)))) (now (page .exit)) r ⌝ }
+{
+    let station_pressure_pa = double_at(line, 1);
+    let altitude_m = double_at(line, 2);
+    let judged = station_pressure_plausibility(station_pressure_pa, altitude_m);
+    put_pair_truth(
+        page,
+        at,
+        judged.icao_standard_pa,
+        judged.ratio,
+        judged.implausible,
+    )
 }

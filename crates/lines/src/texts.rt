@@ -1,6 +1,6 @@
 // The lines that functions answer.
 ghost use Rattle.pages.specs.Pages.{Appended};
-ghost use Rattle.lines.specs.Texts.{valueLine, pairLine, threeLine, truthLine, someLine, optionLine, hexPairLine};
+ghost use Rattle.lines.specs.Texts.{valueLine, pairLine, threeLine, truthLine, pairTruthLine, someLine, optionLine, hexPairLine};
 use crate::value_lines::put_next_value;
 use crate::value_lines::put_value;
 use atmosphere::given::Reading;
@@ -38,6 +38,15 @@ pub(crate) fn put_truth(page: &mut [u8], at: usize, truth: bool) -> usize
         return put(page, at, b"true\n");
     }
     put(page, at, b"false\n")
+}
+
+pub(crate) fn put_pair_truth(page: &mut [u8], at: usize, x: f64, y: f64, truth: bool) -> usize
+    ensures { λ r. ⌜ Appended (now (page .entry)) at (pairTruthLine x y truth) (now (page .exit)) r ⌝ }
+{
+    let first = put_value(page, at, x);
+    let second = put_next_value(page, first, y);
+    let blank = put(page, second, b" ");
+    put_truth(page, blank, truth)
 }
 
 fn put_some(page: &mut [u8], at: usize, x: f64) -> usize

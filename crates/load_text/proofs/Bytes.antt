@@ -1,12 +1,7 @@
 -- The bytes of the load's readings, field by field, and that there are 28 of them at most. Assumes nothing.
-use Rattle.arithmetic.proofs.Kit.{_≡_, ap, _∙_, Bool, true, false, cond, List, [], _++_, append-nil, append-assoc, ℕ, _+_, _≤_, arith, ℤ, length, length-append}
-use Rattle.thousandths.specs.Thousandths.{twosComplement}
-use Rattle.load_text.specs.declared.counts.LoadCounts.{LoadCounts}
-use Rattle.fields.specs.declared.fields.Value.the-variants.{Count}
+use Rattle.load_text.proofs.Kit.{_≡_, ap, _∙_, Bool, true, false, cond, List, [], _++_, append-nil, append-assoc, ℕ, _+_, _≤_, arith, ℤ, length, length-append, twosComplement, LoadCounts, Count, fieldsFrom, recordOf, readingsOfCounts}
 use Rattle.fields.specs.Fields.{dataSize}
-use Rattle.writer.specs.Records.{fieldsFrom, recordOf}
 use Rattle.writer.proofs.Fields.{length-field}
-use Rattle.load_text.specs.Records.{readingsOfCounts}
 use Rattle.load_text.proofs.Stated.{countField, loadFields}
 use Rattle.load_text.proofs.Slots.{inSlots, by-slots}
 

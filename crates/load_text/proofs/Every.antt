@@ -1,19 +1,13 @@
 -- What may be relied on of every record of the load. Assumes nothing.
-use Rattle.arithmetic.proofs.Kit.{_≡_, sym, ap, _∙_, Bool, true, false, ℕ, _≤_, length}
-use Rattle.refusal.specs.Outcomes.{Outcome, accepted, _⟫_}
-use Rattle.record.specs.declared.entries.Readings.{Readings}
+use Rattle.load_text.proofs.Kit.{_≡_, sym, ap, _∙_, Bool, true, false, ℕ, _≤_, length, Outcome, accepted, _⟫_, Readings, judged, loadCounts, loadReadings, loadRecord, IsOfTheLoad}
 use Rattle.record.specs.Readings.{readRecord}
 use Rattle.record.proofs.Strict.{same-where-rising, accepted-rising}
 use Rattle.writer.proofs.ReadBack.{read-back}
-use Rattle.mast.specs.Judge.{judged}
-use Rattle.load_text.specs.Counts.{loadCounts}
 use Rattle.load_text.proofs.Ranges.{in-ranges}
-use Rattle.load_text.specs.Records.{loadReadings, loadRecord}
-use Rattle.load_text.specs.Laws.{IsOfTheLoad}
-use Rattle.load_text.proofs.Stated.{EveryRecord}
 use Rattle.load_text.proofs.Slots.{readings-of-the-load, readings-held}
 use Rattle.load_text.proofs.Bytes.{bytes-of, at-most-28}
 use Rattle.load_text.proofs.Passes.{only-air}
+use Rattle.load_text.proofs.Stated.{LoadRecord}
 
 module _ (n : ℕ) where
   strictly : readRecord true (loadRecord n) ≡ accepted (loadReadings n)
@@ -33,7 +27,7 @@ module _ (n : ℕ) where
   unfolding loadRecord loadReadings
   short = rw (bytes-of (loadCounts n)) (at-most-28 (loadCounts n))
 
-pub every-record : EveryRecord
+pub every-record : (n : ℕ) → LoadRecord n
 unfolding loadRecord loadReadings
 every-record n = record {
   fields = bytes-of (loadCounts n);

@@ -1,4 +1,5 @@
 -- What holds of the load: its counts, its records and their text.
+pub mod Kit
 pub mod Order
 pub mod Slots
 pub mod Bytes

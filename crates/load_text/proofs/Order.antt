@@ -1,13 +1,10 @@
 -- Doubles of counts keep the counts' order, so that a count in a range passes the tests of its value. Assumes nothing.
-use Rattle.arithmetic.proofs.Kit.{_≡_, refl, Bool, true, false, not, suc, le-trans, arith, T, lit<, leb→le, le→leb, ℤ, pos, negsuc, _≤ℤ_, Float, nan, inf, fin, binary64, fits, lt, le, finite}
+use Rattle.load_text.proofs.Kit.{_≡_, refl, Bool, true, false, not, suc, le-trans, arith, T, lit<, leb→le, le→leb, ℤ, pos, negsuc, _≤ℤ_, Float, nan, inf, fin, binary64, fits, lt, le, finite, thousandths, CountBetween, InRange}
 use Rattle.arithmetic.proofs.Integers.{times-mono}
 use Rattle.arithmetic.proofs.Rounding.{ratio-mono}
 use Rattle.arithmetic.proofs.Strict.{not-le-of-less, lt-le-trans}
 use Rattle.arithmetic.specs.Doubles.{isFinite}
-use Rattle.thousandths.specs.Thousandths.{thousandths}
 use Rattle.thousandths.proofs.Laws.{double-of-count, thousandths-fits}
-use Rattle.load_text.specs.CountLaws.{CountBetween}
-use Rattle.thousandths.proofs.Sizes.{InRange}
 
 is-false : (b : Bool) → (T b → ⊥) → b ≡ false
 is-false true h = absurd (h tt)

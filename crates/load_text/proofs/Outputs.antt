@@ -1,6 +1,5 @@
 -- The generator's first outputs are the published ones, as computed. Assumes nothing.
-use Rattle.arithmetic.proofs.Kit.{refl}
-use Rattle.load_text.specs.SplitMix.{stateAfter, mixed}
+use Rattle.load_text.proofs.Kit.{refl, stateAfter, mixed}
 use Rattle.load_text.proofs.Stated.{PublishedOutputs}
 
 pub published : PublishedOutputs

@@ -1,27 +1,19 @@
 -- Readings of the load pass every check before those of their air. Assumes nothing.
-use Rattle.arithmetic.proofs.Kit.{_≡_, sym, ap, ap₂, _∙_, subst, Bool, false, not, _||_, List, [], _∷_, _++_, _⊎_, ⊎-elim, ℤ, pos, negℤ, Float, fits, ofBits, round, lt}
-use Rattle.refusal.specs.Outcomes.{accepted, Row, row, _then_}
+use Rattle.load_text.proofs.Kit.{_≡_, sym, ap, ap₂, _∙_, subst, Bool, false, not, _||_, List, [], _∷_, _++_, ⊎-elim, ℤ, pos, negℤ, Float, fits, ofBits, round, lt, accepted, Row, row, _then_, thousandths, Readings, isPresent, entryFor, entryOf, airRows, airOutcome, wayRows, resolvedBy, judged, CountBetween, CountIn, IsOfTheLoad, InRange}
 use Rattle.refusal.specs.Causes.{NoneHolds}
 use Rattle.refusal.proofs.Rows.{then-append, then-none, none-both}
 use Rattle.arithmetic.specs.Decimals.{nought}
-use Rattle.thousandths.specs.Thousandths.{thousandths}
 use Rattle.thousandths.proofs.Words.{count-of-word}
 use Rattle.density_altitude.specs.Inverse.{absoluteZero, temperatureRows}
 use Rattle.record.specs.declared.entries.Entry.{Entry}
 use Rattle.record.specs.declared.entries.Entry.the-variants.{Absent, Present}
 use Rattle.record.specs.declared.entries.Stored.{Stored}
 use Rattle.record.specs.declared.entries.Stored.the-variants as stored
-use Rattle.record.specs.declared.entries.Readings.{Readings}
 use Rattle.fields.specs.Fields as meaning
-use Rattle.record.specs.Entries.{isPresent, entryFor, entryOf}
 use Rattle.station.specs.Resolved.{ordinary}
 use Rattle.station.specs.Figures.{figuresOf}
 use Rattle.mast.specs.Checks.{has, isClash, finiteRows, pressureRows, humidityRows, present, valueRows, ordinaryRows}
-use Rattle.mast.specs.Judge.{airRows, airOutcome, wayRows, resolvedBy, judged}
-use Rattle.load_text.specs.CountLaws.{CountBetween}
-use Rattle.load_text.specs.Laws.{CountIn, IsOfTheLoad}
 use Rattle.load_text.proofs.Order.{in-range, is-finite, not-down-to, not-below}
-use Rattle.thousandths.proofs.Sizes.{InRange}
 
 -- ---- the entry of a count in a range passes what the double of each count in it passes
 module _ {low high : ℤ} {s : Stored} (l : InRange low) (h : InRange high) (here : CountIn low high s) where

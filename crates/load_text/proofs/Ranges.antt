@@ -1,9 +1,6 @@
 -- Every count lies in its range: a low end and what is less than the number of counts from it on. Assumes nothing.
-use Rattle.arithmetic.proofs.Kit.{_≡_, refl, Bool, true, false, cond, ℕ, suc, _+_, _-_, _*_, _%_, _≤_, arith, ltb, le→leb, pos, negsuc, _+ℤ_}
-use Rattle.load_text.specs.SplitMix.{output}
-use Rattle.load_text.specs.Counts.{countsOf, loadCounts}
-use Rattle.load_text.specs.CountLaws.{CountBetween}
-use Rattle.load_text.proofs.Stated.{EveryRecordInRanges}
+use Rattle.load_text.proofs.Kit.{_≡_, refl, Bool, true, false, cond, ℕ, suc, _+_, _-_, _*_, _%_, _≤_, arith, ltb, le→leb, pos, negsuc, _+ℤ_, output, countsOf, loadCounts, CountBetween}
+use Rattle.load_text.proofs.Stated.{InRanges}
 
 -- r counts above the low end
 below-zero : (a r high : ℕ) → r ≤ suc a + high → CountBetween (negsuc a) (pos high) (negsuc a +ℤ pos r)
@@ -16,7 +13,7 @@ below-zero a r high h = go (ltb r (suc a)) refl
 from-zero : (a r high : ℕ) → a + r ≤ high → CountBetween (pos a) (pos high) (pos a +ℤ pos r)
 from-zero a r high h = record { from = record { le = le→leb a (a + r) (omega arith) }; to = record { le = le→leb (a + r) high h } }
 
-pub in-ranges : EveryRecordInRanges
+pub in-ranges : (n : ℕ) → InRanges (loadCounts n)
 unfolding loadCounts countsOf
 in-ranges n =
     let altitude : output (5 * n) % 3_500_001 ≤ 500_000 + 3_000_000 = omega arith in

@@ -1,13 +1,10 @@
 -- The text of a record of the load has 207 bytes at most, so that of as many records as have room has room. Assumes nothing.
-use Rattle.arithmetic.proofs.Kit.{_≡_, _++_, ℕ, zero, suc, _+_, _*_, _/_, _≤_, mul-suc, arith, length, length-append}
+use Rattle.load_text.proofs.Kit.{ℕ, zero, suc, _+_, _*_, _/_, _≤_, mul-suc, arith, length, length-append, judge, loadRecord, bytesLine, judgedText, loadRecordText, recordsText, recordsIn}
 use native.Mathlib.Nat.{min-le-right}
-use Rattle.mast.specs.Judge.{judge}
 use Rattle.arithmetic.specs.Ascii.{ascii}
 use Rattle.pages.specs.Characters.{hex}
 use Rattle.pages.proofs.Short.{Within, whole, both, hex-length}
 use Rattle.text.proofs.Short.{answer-short}
-use Rattle.load_text.specs.Records.{loadRecord}
-use Rattle.load_text.specs.Text.{bytesLine, judgedText, loadRecordText, recordsText, recordsIn}
 use Rattle.load_text.proofs.Every.{short}
 
 digits : (n : ℕ) → Within (hex (loadRecord n)) 56

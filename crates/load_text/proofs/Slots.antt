@@ -1,22 +1,13 @@
 -- The readings of the load slot by slot: which counts they hold, each within its range and as the code holds it. Assumes nothing.
-use Rattle.arithmetic.proofs.Kit.{_≡_, refl, sym, subst, Bool, true, false, cond, List, [], _∷_, _⊎_, inl, inr, ℕ, zero, suc, arith, ℤ, pos, getD}
-use Rattle.thousandths.specs.Thousandths.{twosComplement}
+use Rattle.load_text.proofs.Kit.{_≡_, refl, sym, subst, Bool, true, false, cond, List, [], _∷_, _⊎_, inl, inr, ℕ, zero, suc, arith, ℤ, pos, getD, twosComplement, LoadCounts, CountBetween, Count, Readings, slotOf, readingsOfCounts, CountIn, IsOfTheLoad, InRange}
 use Rattle.thousandths.proofs.Words.{twos-complement}
-use Rattle.load_text.specs.declared.counts.LoadCounts.{LoadCounts}
-use Rattle.load_text.specs.CountLaws.{CountBetween}
 use Rattle.load_text.proofs.Stated.{InRanges}
 use Rattle.fields.specs.declared.fields.Value.{Value}
-use Rattle.fields.specs.declared.fields.Value.the-variants.{Count}
 use Rattle.record.specs.declared.entries.Slot.{Slot}
 use Rattle.record.specs.declared.entries.Stored.{Stored}
 use Rattle.record.specs.declared.entries.Stored.the-variants.{Absent, Present}
-use Rattle.record.specs.declared.entries.Readings.{Readings}
-use Rattle.record.specs.Entries.{slotOf}
 use Rattle.writer.specs.Laws.{IsHeld, AreHeld}
-use Rattle.load_text.specs.Records.{readingsOfCounts}
-use Rattle.load_text.specs.Laws.{CountIn, IsOfTheLoad}
 use Rattle.load_text.proofs.Order.{in-range}
-use Rattle.thousandths.proofs.Sizes.{InRange}
 
 abbrev stored : ℤ → Stored
 stored z = Present (Count (twosComplement z))

@@ -1,6 +1,5 @@
 -- The state after n outputs is n times the increment, and repeats after 2 ^ 64 of them. Assumes nothing.
-use Rattle.arithmetic.proofs.Kit.{_≡_, refl, sym, ap, _∙_, ℕ, zero, suc, _+_, _*_, _/_, _%_, _^_, div-add-mod', add-mul, mul-right-comm, mul-add-mod-self-right, arith}
-use Rattle.load_text.specs.SplitMix.{advanced, stateAfter}
+use Rattle.load_text.proofs.Kit.{_≡_, refl, sym, ap, _∙_, ℕ, zero, suc, _+_, _*_, _/_, _%_, _^_, div-add-mod', add-mul, mul-right-comm, mul-add-mod-self-right, arith, advanced, stateAfter}
 
 pub state-is : (n : ℕ) → stateAfter n ≡ n * 0x9E3779B97F4A7C15 % 2 ^ 64
 unfolding stateAfter

@@ -1,11 +1,8 @@
 -- Five outputs drawn from the state after 5 n of them give the counts of record n, and leave the state from which record n + 1 is drawn. Assumes
 -- nothing.
-use Rattle.arithmetic.proofs.Kit.{_≡_, suc, _+_, _*_, arith}
-use Rattle.load_text.specs.SplitMix.{stateAfter, output}
-use Rattle.load_text.specs.Counts.{countsOf, loadCounts, drawn}
-use Rattle.load_text.proofs.Stated.{OneAfterTheOther}
+use Rattle.load_text.proofs.Kit.{_≡_, suc, _+_, _*_, arith, stateAfter, output, countsOf, loadCounts, drawn, ℕ}
 
-pub stepping : OneAfterTheOther
+pub stepping : (n : ℕ) → drawn (stateAfter (5 * n)) ≡ record { counts = loadCounts n; state = stateAfter (5 * (n + 1)) }
 unfolding drawn loadCounts stateAfter
 stepping n =
     let m = 5 * n in

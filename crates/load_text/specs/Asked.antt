@@ -24,4 +24,4 @@ askedIn OutOfRange = Unknown
 
 -- by how many words the program was started with, its own name among them, and by the word after its name
 unfoldable pub loadAskedBy : ℕ → List ℕ → Asked
-loadAskedBy words word = cond (leb words 1) (Records 10_000) (cond (eqb words 2) (askedIn (typed word)) Unknown)
+loadAskedBy words word = cond (leb words 1) (Records 10_000) (cond (eqb words 2) (askedIn (typed 3 word)) Unknown)

@@ -49,5 +49,5 @@ pub fn asked_for(words: usize, word: &[u8]) -> Asked
     if words != 2 {
         return Asked::Unknown;
     }
-    asked_in(read_decimal(word))
+    asked_in(read_decimal(word, 3))
 }

@@ -2,7 +2,7 @@
 // figures. Each function that puts a text puts it from a position on and answers the position after it.
 ghost use mathlib.Core.Path.{_≡_};
 ghost use lib.ListN.{length};
-ghost use Rattle.pages.specs.Pages.{Appended};
+ghost use Rattle.pages.specs.Pages.{Appended, Holds};
 ghost use Rattle.writer.specs.Written.{written};
 ghost use Rattle.load_text.specs.Records.{loadRecord};
 ghost use Rattle.load_text.specs.Text.{bytesLine, judgedText, loadRecordText, recordsIn, lengthTaken, Fills};
@@ -50,21 +50,37 @@ fn length_of(answer: Written) -> usize
     }
 }
 
+// A record at the start of the bytes, and its length.
+struct RecordBytes {
+    bytes: [u8; LONGEST],
+    len: usize,
+}
+
+fn record_numbered(number: u64) -> RecordBytes
+    ensures { λ r. ⌜ Holds (loadRecord number) (r .bytes) (r .len) ⌝ }
+{
+    let mut bytes = [0u8; LONGEST];
+    let len = length_of(write_load_record(number, &mut bytes));
+    RecordBytes { bytes, len }
+}
+
 // The bytes of the load's record with this number, on a line.
 pub fn put_load_record(page: &mut [u8], at: usize, number: u64) -> usize
     ensures { λ r. ⌜ Appended (now (page .entry)) at (bytesLine (loadRecord number)) (now (page .exit)) r ⌝ }
 {
-    let mut record = [0u8; LONGEST];
-    let n = length_of(write_load_record(number, &mut record));
-    put_bytes(page, at, &record[..n])
+    let record = record_numbered(number);
+    let bytes = record.bytes;
+    let len = record.len;
+    put_bytes(page, at, &bytes[..len])
 }
 
 fn put_record(page: &mut [u8], at: usize, number: u64) -> usize
     ensures { λ r. ⌜ Appended (now (page .entry)) at (loadRecordText number) (now (page .exit)) r ⌝ }
 {
-    let mut record = [0u8; LONGEST];
-    let n = length_of(write_load_record(number, &mut record));
-    put_judged(page, at, &record[..n])
+    let record = record_numbered(number);
+    let bytes = record.bytes;
+    let len = record.len;
+    put_judged(page, at, &bytes[..len])
 }
 
 // How many of so many records have room.

@@ -1,31 +1,13 @@
 -- Dry air has no vapour: humidity 0 times and over anything is 0 or NaN, which is not above 1. So 14 is never answered with 06. Assumes nothing.
-use Rattle.arithmetic.proofs.Kit.{_≡_, refl, sym, ap, _∙_, Bool, true, false, cond, true≢false, false≢true, List, [], _∷_, _++_, ℕ, zero, suc, _*_, _<_, zero-mul, arith, pos, eqb, Float, nan, inf, fin, binary64, up, down, round, neg, mul, div, lt, eq, ofBits, up-pos, down-pos, ne-eqb}
+use Rattle.mast.proofs.Kit.{_≡_, refl, sym, ap, _∙_, Bool, true, false, cond, true≢false, false≢true, List, [], _∷_, _++_, ℕ, zero, suc, _*_, _<_, zero-mul, arith, pos, eqb, Float, nan, inf, fin, binary64, up, down, round, neg, mul, div, lt, eq, ofBits, up-pos, down-pos, ne-eqb, places, one, Outcome, accepted, refused, Row, row, _then_, then-append, then-same, stationRows, Entry, Absent, Present, Readings, temperature, humidity, densityAltitude, isPresent, entryOf, Figures, Resolved, has, isClash, humidityRows, present, givenTemperature, valueOrZero, shownTemperature, shownPressure, figuresOf, airRows, wayRows, resolvedBy, judged, resolved, readingRows}
 use lib.Ieee.{unlike}
-use Rattle.arithmetic.specs.Places.{places}
-use Rattle.arithmetic.specs.Decimals.{one}
 use Rattle.arithmetic.specs.Operators.{_⊗_, _⊘_}
 use Rattle.arithmetic.proofs.Rounding.{round-opposite}
 use Rattle.arithmetic.proofs.Scaled.{zero-bits}
 use Rattle.humid_air.specs.MoistAir.{moleFraction}
 use Rattle.humid_air.specs.Humidity.{moleFractionCelsius}
-use Rattle.refusal.specs.Outcomes.{Outcome, accepted, refused, Row, row, _then_}
-use Rattle.refusal.proofs.Rows.{then-append, then-same}
-use Rattle.density_altitude.specs.Inverse.{stationRows}
-use Rattle.record.specs.declared.entries.Entry.{Entry}
-use Rattle.record.specs.declared.entries.Entry.the-variants.{Absent, Present}
-use Rattle.record.specs.declared.entries.Readings.{Readings}
-use Rattle.fields.specs.Fields.{temperature, humidity, densityAltitude}
-use Rattle.record.specs.Entries.{isPresent, entryOf}
-use Rattle.refusal.specs.declared.judge.Figures.{Figures}
-use Rattle.station.specs.declared.resolved.Resolved.{Resolved}
-use Rattle.mast.specs.Checks.{has, isClash, humidityRows, present}
-use Rattle.station.specs.Resolved.{givenTemperature}
-use Rattle.record.specs.Entries.{valueOrZero}
-use Rattle.station.specs.Figures.{shownTemperature, shownPressure, figuresOf}
-use Rattle.mast.specs.Judge.{airRows, wayRows, resolvedBy, judged}
 use Rattle.mast.specs.Laws.{without}
 use Rattle.mast.proofs.Stated.{Dry}
-use Rattle.mast.proofs.Stated.{NotWith06}
 
 -- ---- zero or NaN
 data Null : Float → Type 0 where
@@ -107,6 +89,8 @@ by-entry r (Present d) h none =
     ∙ ap (λ (l : List Row). (l ++ without 14 (airRows a)) then o) (sym (way-rows r d (entryOf r temperature) (entryOf r humidity)))
     ∙ ap (λ (l : List Row). l then o) (sym (without-append 14 rows (airRows a)))
 
-pub not-with-06 : NotWith06
+-- with 06 and without 05 there is no 14
+pub not-with-06 : (r : Readings) → has r densityAltitude ≡ true → has r humidity ≡ false
+    → judged r ≡ (without 14 (readingRows r) then accepted (figuresOf (resolved r)))
 unfolding judged
 not-with-06 r with06 dry-record = then-same (row (isClash r) 9 [] ∷ []) (λ none. by-entry r (entryOf r densityAltitude) with06 dry-record)

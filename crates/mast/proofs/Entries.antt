@@ -1,22 +1,8 @@
 -- Readings are judged by their entries alone, and those that are accepted hold finite values. Assumes nothing.
-use Rattle.arithmetic.proofs.Kit.{_≡_, refl, sym, ap, ap₂, subst, _∙_, Bool, true, false, not, _&&_, _||_, true≢false, List, [], _∷_, _++_, ℕ, zero, suc, _<_, arith, not-false, Float}
-use Rattle.arithmetic.specs.Places.{places}
+use Rattle.mast.proofs.Kit.{_≡_, refl, sym, ap, ap₂, subst, _∙_, Bool, true, false, not, _&&_, _||_, true≢false, List, [], _∷_, _++_, ℕ, zero, suc, _<_, arith, not-false, Float, places, accepted, Row, row, _then_, exactly, none-before, none-after, temperatureRows, stationRows, Entry, Absent, Present, Readings, meanings, altitude, temperature, stationPressure, qnh, humidity, densityAltitude, measuredPressure, entryOf, isPresent, Resolved, has, isClash, finiteRows, pressureRows, humidityRows, present, valueRows, ordinary, givenTemperature, figuresOf, airRows, wayRows, resolvedBy, resolved, readingRows, judged, Figures}
 use Rattle.arithmetic.specs.Doubles.{isFinite}
-use Rattle.refusal.specs.Outcomes.{accepted, Row, row, _then_}
 use Rattle.refusal.specs.Causes.{NoneHolds}
-use Rattle.refusal.proofs.Rows.{exactly, none-before, none-after}
-use Rattle.density_altitude.specs.Inverse.{temperatureRows, stationRows}
-use Rattle.record.specs.declared.entries.Entry.{Entry}
-use Rattle.record.specs.declared.entries.Entry.the-variants.{Absent, Present}
-use Rattle.record.specs.declared.entries.Readings.{Readings}
-use Rattle.fields.specs.Fields.{meanings, altitude, temperature, stationPressure, qnh, humidity, densityAltitude, measuredPressure}
-use Rattle.record.specs.Entries.{entryOf, isPresent}
-use Rattle.station.specs.declared.resolved.Resolved.{Resolved}
-use Rattle.mast.specs.Checks.{has, isClash, finiteRows, pressureRows, humidityRows, present, valueRows}
-use Rattle.station.specs.Resolved.{ordinary, givenTemperature}
-use Rattle.station.specs.Figures.{figuresOf}
-use Rattle.mast.specs.Judge.{airRows, wayRows, resolvedBy, resolved, readingRows, judged}
-use Rattle.mast.proofs.Stated.{SameEntries, JudgedByEntries, FiniteEntry, AcceptedIsFinite}
+use Rattle.mast.proofs.Stated.{SameEntries, FiniteEntry}
 
 -- ---- by their entries alone
 module _ (r q : Readings) (same : SameEntries r q) where
@@ -42,7 +28,7 @@ module _ (r q : Readings) (same : SameEntries r q) where
       let way = same-way (entryOf r densityAltitude) ∙ ap (wayRows q) (same densityAltitude (omega arith)) in
       ap₂ (λ (b : Bool) (rows : List Row). row b 9 [] ∷ rows) same-clash (ap₂ (λ (xs ys : List Row). xs ++ ys) way (ap airRows all-resolved))
 
-pub judged-by-entries : JudgedByEntries
+pub judged-by-entries : (r q : Readings) → SameEntries r q → judged r ≡ judged q
 unfolding judged
 judged-by-entries r q same = ap₂ (λ (rows : List Row) (a : Resolved). rows then accepted (figuresOf a)) (all-rows r q same) (all-resolved r q same)
 
@@ -138,7 +124,7 @@ by-way : (r : Readings) → isClash r ≡ false → (e : Entry) → entryOf r de
 by-way r apart Absent told none = ordinary-finite r (none .1) told
 by-way r apart (Present d) told none = station-finite r d apart none told
 
-pub accepted-is-finite : AcceptedIsFinite
+pub accepted-is-finite : (r : Readings) (f : Figures) → judged r ≡ accepted f → (m : ℕ) → m < meanings → FiniteEntry (entryOf r m)
 unfolding judged
 accepted-is-finite r f e =
     let none = exactly (figuresOf (resolved r)) (readingRows r) .accepted-because e .0 in

@@ -1,23 +1,7 @@
 -- Readings that differ only in humidity are shown as one station: nothing before the air looks at the humidity. Assumes nothing.
-use Rattle.arithmetic.proofs.Kit.{_≡_, ap, ap₂, subst, subst₂, arith}
-use Rattle.arithmetic.specs.Places.{places}
-use Rattle.refusal.specs.Outcomes.{accepted}
-use Rattle.refusal.proofs.Rows.{exactly}
-use Rattle.atmosphere.specs.declared.given.Reading.{Reading}
+use Rattle.mast.proofs.Kit.{_≡_, ap, ap₂, subst, subst₂, arith, places, accepted, exactly, Reading, resolve, Entry, Absent, Present, Readings, altitude, temperature, stationPressure, qnh, densityAltitude, measuredPressure, entryOf, Figures, Resolved, unmeasuredPressure, measuredOr, pressureOf, resolvedTemperature, resolvedPressure, givenTemperature, ordinary, valueOrZero, shownCelsius, shownHectopascals, figuresWith, figuresOf, readingRows, resolvedBy, resolved, judged}
 use Rattle.atmosphere.specs.declared.given.Reading.the-variants.{Given}
-use Rattle.density_altitude.specs.Inverse.{resolve}
-use Rattle.record.specs.declared.entries.Entry.{Entry}
-use Rattle.record.specs.declared.entries.Entry.the-variants.{Absent, Present}
-use Rattle.record.specs.declared.entries.Readings.{Readings}
-use Rattle.fields.specs.Fields.{altitude, temperature, stationPressure, qnh, densityAltitude, measuredPressure}
-use Rattle.record.specs.Entries.{entryOf}
-use Rattle.refusal.specs.declared.judge.Figures.{Figures}
-use Rattle.station.specs.declared.resolved.Resolved.{Resolved}
-use Rattle.station.specs.Resolved.{unmeasuredPressure, measuredOr, pressureOf, resolvedTemperature, resolvedPressure, givenTemperature, ordinary}
-use Rattle.record.specs.Entries.{valueOrZero}
-use Rattle.station.specs.Figures.{shownCelsius, shownHectopascals, figuresWith, figuresOf}
-use Rattle.mast.specs.Judge.{readingRows, resolvedBy, resolved, judged}
-use Rattle.mast.proofs.Stated.{DifferOnlyInHumidity, SameStation, HumidityLeavesTheStation}
+use Rattle.mast.proofs.Stated.{DifferOnlyInHumidity, SameStation}
 
 -- ---- what is resolved, but for the humidity
 record SameResolved (a b : Resolved) : Type 0 where
@@ -57,6 +41,7 @@ accepted-figures : (r : Readings) {f : Figures} → judged r ≡ accepted f → 
 unfolding judged
 accepted-figures r e = exactly (figuresOf (resolved r)) (readingRows r) .accepted-because e .1
 
-pub humidity-leaves-the-station : HumidityLeavesTheStation
+pub humidity-leaves-the-station : (r q : Readings) → DifferOnlyInHumidity r q → (f g : Figures) → judged r ≡ accepted f → judged q ≡ accepted g
+    → SameStation f g
 humidity-leaves-the-station r q same f g e h =
     subst₂ SameStation (accepted-figures r e) (accepted-figures q h) (same-station (resolved r) (resolved q) (same-resolved r q same))

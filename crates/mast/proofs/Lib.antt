@@ -1,4 +1,5 @@
 -- When each number is answered.
+pub mod Kit
 pub mod Stated
 pub mod Causes
 pub mod Order

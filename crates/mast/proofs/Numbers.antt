@@ -1,23 +1,7 @@
 -- The numbers of readings end at 15, and so those of a record at 19. Assumes nothing.
-use Rattle.arithmetic.proofs.Kit.{_≡_, Bool, List, _++_, ℕ, _≤_, arith, Float}
-use Rattle.refusal.specs.Outcomes.{refused, Row}
-use Rattle.refusal.proofs.Rows.{Never, never-both, never-refused, exactly}
-use Rattle.arithmetic.specs.Places.{places}
-use Rattle.atmosphere.specs.declared.given.Reading.{Reading}
+use Rattle.mast.proofs.Kit.{_≡_, Bool, List, _++_, ℕ, _≤_, arith, Float, refused, Row, Never, never-both, never-refused, exactly, places, Reading, temperatureRows, stationRows, Entry, Absent, Present, Readings, entryOf, altitude, temperature, stationPressure, qnh, humidity, densityAltitude, measuredPressure, readRows, readings, finiteRows, pressureRows, humidityRows, present, valueRows, Resolved, givenTemperature, figuresOf, airRows, wayRows, resolved, readingRows, judgeBy, recordRows}
 use Rattle.atmosphere.specs.declared.given.Reading.the-variants.{Given, FromLayer}
-use Rattle.density_altitude.specs.Inverse.{temperatureRows, stationRows}
-use Rattle.record.specs.declared.entries.Entry.{Entry}
-use Rattle.record.specs.declared.entries.Entry.the-variants.{Absent, Present}
-use Rattle.record.specs.declared.entries.Readings.{Readings}
-use Rattle.record.specs.Entries.{entryOf}
-use Rattle.fields.specs.Fields.{altitude, temperature, stationPressure, qnh, humidity, densityAltitude, measuredPressure}
-use Rattle.record.specs.Readings.{readRows, readings}
 use Rattle.record.proofs.Numbers.{fields-never}
-use Rattle.mast.specs.Checks.{finiteRows, pressureRows, humidityRows, present, valueRows}
-use Rattle.station.specs.declared.resolved.Resolved.{Resolved}
-use Rattle.station.specs.Resolved.{givenTemperature}
-use Rattle.station.specs.Figures.{figuresOf}
-use Rattle.mast.specs.Judge.{airRows, wayRows, resolved, readingRows, judgeBy, recordRows}
 use Rattle.mast.proofs.Causes.{caused}
 
 module _ (k : ℕ) (h : 16 ≤ k) where

@@ -1,17 +1,6 @@
 -- The order of the checks, as the numbers of the rows. Assumes nothing.
-use Rattle.arithmetic.proofs.Kit.{_≡_, refl, ap, ap₂, _≢_, true, false, true≢false, false≢true, List, _∷_, _++_, ℕ, _<_, arith}
-use Rattle.refusal.specs.Outcomes.{Row, numbers}
-use Rattle.arithmetic.specs.Places.{places}
-use Rattle.density_altitude.specs.Inverse.{temperatureRows, stationRows}
-use Rattle.record.specs.declared.entries.Entry.{Entry}
-use Rattle.record.specs.declared.entries.Entry.the-variants.{Absent, Present}
-use Rattle.record.specs.declared.entries.Readings.{Readings}
-use Rattle.record.specs.Entries.{entryOf, isPresent}
-use Rattle.fields.specs.Fields.{meanings, altitude, temperature, stationPressure, qnh, humidity, densityAltitude, measuredPressure}
+use Rattle.mast.proofs.Kit.{_≡_, refl, ap, ap₂, _≢_, true, false, true≢false, false≢true, List, _∷_, _++_, ℕ, _<_, arith, Row, numbers, places, temperatureRows, stationRows, Entry, Absent, Present, Readings, entryOf, isPresent, meanings, altitude, temperature, stationPressure, qnh, humidity, densityAltitude, measuredPressure, has, finiteRows, pressureRows, humidityRows, present, givenTemperature, airRows, wayRows, resolved}
 use Rattle.record.proofs.Numbers.{fields-in-order}
-use Rattle.mast.specs.Checks.{has, finiteRows, pressureRows, humidityRows, present}
-use Rattle.station.specs.Resolved.{givenTemperature}
-use Rattle.mast.specs.Judge.{airRows, wayRows, resolved}
 use Rattle.mast.proofs.Stated.{OrderOfChecks}
 
 of-values : (e₁ e₂ e₃ e₄ e₅ e₇ : Entry) (rows : List Row) → isPresent e₁ ≡ true → isPresent e₂ ≡ true → isPresent e₃ ≡ true → isPresent e₄ ≡ true → isPresent e₅ ≡ true → isPresent e₇ ≡ true

@@ -1,26 +1,12 @@
 -- What the judge's answer depends on, by the laws of the record: its first 256 bytes, nothing past a refusal 6 to 8, and no order of its fields. Assumes nothing.
-use Rattle.arithmetic.proofs.Kit.{_≡_, refl, sym, ap, subst, _∙_, false, List, [], _∷_, _++_, ℕ, _≤_, arith, Float}
-use Rattle.arithmetic.specs.Places.{places}
-use Rattle.refusal.specs.Outcomes.{Outcome, accepted, refused, _⟫_, Row}
-use Rattle.refusal.proofs.Rows.{exactly}
-use Rattle.density_altitude.specs.Inverse.{temperatureRows, stationRows}
-use Rattle.record.specs.declared.entries.Entry.{Entry}
-use Rattle.record.specs.declared.entries.Entry.the-variants.{Absent, Present}
-use Rattle.record.specs.declared.entries.Readings.{Readings}
-use Rattle.fields.specs.Fields.{altitude, temperature, stationPressure, qnh, humidity, densityAltitude, measuredPressure}
-use Rattle.record.specs.Readings.{readRecord}
-use Rattle.record.specs.Entries.{entryOf}
+use Rattle.mast.proofs.Kit.{_≡_, refl, sym, ap, subst, _∙_, false, List, [], _∷_, _++_, ℕ, _≤_, arith, Float, places, Outcome, accepted, refused, _⟫_, Row, exactly, temperatureRows, stationRows, Entry, Absent, Present, Readings, altitude, temperature, stationPressure, qnh, humidity, densityAltitude, measuredPressure, readRecord, entryOf, finiteRows, pressureRows, humidityRows, present, givenTemperature, figuresOf, airRows, wayRows, resolved, readingRows, judged, judge, take}
 use Rattle.record.proofs.FirstBytes.{first-bytes}
 use Rattle.record.proofs.Following.{nothing-after}
 use Rattle.record.proofs.Exchange.{exchange}
-use Rattle.mast.specs.Checks.{finiteRows, pressureRows, humidityRows, present}
-use Rattle.station.specs.Resolved.{givenTemperature}
-use Rattle.station.specs.Figures.{figuresOf}
-use Rattle.mast.specs.Judge.{airRows, wayRows, resolved, readingRows, judged, judge}
 use Rattle.mast.proofs.Stated.{AnyOrder}
-use Rattle.mast.proofs.Stated.{FirstBytes, NothingAfter}
 
-pub first-bytes-judged : FirstBytes
+-- it is judged by its first 256 bytes
+pub first-bytes-judged : (s : List ℕ) → judge (take 256 s) ≡ judge s
 unfolding judge
 first-bytes-judged s = ap (λ (o : Outcome Readings). o ⟫ judged) (first-bytes false s)
 
@@ -75,7 +61,9 @@ of-readings r k vs e =
     let all : AllOutside (readingRows r) = (omega arith, both (wayRows r d) (airRows (resolved r)) (way-outside r d) (omega arith)) in
     subst Outside (f .numbered) (here-outside (f .earlier) (f .here) (f .later) (subst AllOutside (f .all) all))
 
-pub nothing-after-judged : NothingAfter
+-- a refusal 6, 7 or 8 stays whatever follows the record
+pub nothing-after-judged : (number : ℕ) (values : List Float) → 6 ≤ number → number ≤ 8 → (s t : List ℕ) → judge s ≡ refused number values
+    → judge (s ++ t) ≡ refused number values
 unfolding judge
 nothing-after-judged k vs low high s t e = go (readRecord false s) refl e
   where

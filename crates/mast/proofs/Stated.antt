@@ -1,22 +1,8 @@
 -- What is proved of the judge beyond its contracts, as types. The page of promises says it in full. Assumes nothing.
-use Rattle.arithmetic.proofs.Kit.{_≡_, true, Bool, false, ℕ, _<_, _≤_, _≢_, List, [], _∷_, _++_, flatMap, Float, lt, take, length}
+use Rattle.mast.proofs.Kit.{_≡_, true, Bool, false, ℕ, _<_, _≢_, List, [], _∷_, _++_, flatMap, Float, lt, length, accepted, numbers, Entry, Absent, Present, Readings, meanings, humidity, densityAltitude, sizeOf, entryOf, Figures, resolved, readingRows, recordRows, judgeBy, judge, readRows, readings, readRecord, has, figuresOf, places, one, decimal}
 use Rattle.arithmetic.specs.Doubles.{isFinite}
-use Rattle.refusal.specs.Outcomes.{accepted, _then_, refused, numbers}
-use Rattle.record.specs.declared.entries.Entry.{Entry}
-use Rattle.record.specs.declared.entries.Entry.the-variants.{Absent, Present}
-use Rattle.record.specs.declared.entries.Readings.{Readings}
-use Rattle.fields.specs.Fields.{meanings, humidity, densityAltitude, sizeOf}
-use Rattle.record.specs.Entries.{entryOf}
-use Rattle.refusal.specs.declared.judge.Figures.{Figures}
-use Rattle.mast.specs.Judge.{resolved, readingRows, recordRows, judged, judgeBy, judge}
 use Rattle.refusal.specs.Causes.{ExactlyCaused}
-use Rattle.record.specs.Readings.{readRows, readings, readRecord}
-use Rattle.mast.specs.Checks.{has}
-use Rattle.station.specs.Figures.{figuresOf}
 use Rattle.fields.specs.Tags.{tags}
-use Rattle.mast.specs.Laws.{without}
-use Rattle.arithmetic.specs.Places.{places}
-use Rattle.arithmetic.specs.Decimals.{one, decimal}
 use Rattle.humid_air.specs.Humidity.{moleFractionCelsius}
 
 -- ---- dry air
@@ -38,15 +24,9 @@ AnyOrder = (s f g t : List ℕ) (r q : Readings) → readRecord false s ≡ acce
 abbrev pub SameEntries : Readings → Readings → Type 0
 SameEntries r q = (m : ℕ) → m < meanings → entryOf r m ≡ entryOf q m
 
-abbrev pub JudgedByEntries : Type 0
-JudgedByEntries = (r q : Readings) → SameEntries r q → judged r ≡ judged q
-
 abbrev pub FiniteEntry : Entry → Type 0
 FiniteEntry Absent = Unit {0}
 FiniteEntry (Present x) = isFinite x ≡ true
-
-abbrev pub AcceptedIsFinite : Type 0
-AcceptedIsFinite = (r : Readings) (f : Figures) → judged r ≡ accepted f → (m : ℕ) → m < meanings → FiniteEntry (entryOf r m)
 
 -- ---- humidity leaves altitude, temperature and pressure
 abbrev pub DifferOnlyInHumidity : Readings → Readings → Type 0
@@ -57,25 +37,9 @@ pub record SameStation (f g : Figures) : Type 0 where
   pub temperatures : f .«temperature_c» ≡ g .«temperature_c»
   pub pressures : f .«pressure_hpa» ≡ g .«pressure_hpa»
 
-abbrev pub HumidityLeavesTheStation : Type 0
-HumidityLeavesTheStation = (r q : Readings) → DifferOnlyInHumidity r q → (f g : Figures) → judged r ≡ accepted f → judged q ≡ accepted g → SameStation f g
-
 -- ---- each number has exactly its cause: the rows of the record's fields, one after the other, and then those of its readings
 abbrev pub Caused : Bool → List ℕ → Type 0
 Caused strict s = ExactlyCaused (recordRows strict s) (figuresOf (resolved (readings s))) (judgeBy strict s)
-
--- with 06 and without 05 there is no 14
-abbrev pub NotWith06 : Type 0
-NotWith06 = (r : Readings) → has r densityAltitude ≡ true → has r humidity ≡ false → judged r ≡ (without 14 (readingRows r) then accepted (figuresOf (resolved r)))
-
--- ---- the bytes of a record
--- it is judged by its first 256 bytes
-abbrev pub FirstBytes : Type 0
-FirstBytes = (s : List ℕ) → judge (take 256 s) ≡ judge s
-
--- a refusal 6, 7 or 8 stays whatever follows the record
-abbrev pub NothingAfter : Type 0
-NothingAfter = (number : ℕ) (values : List Float) → 6 ≤ number → number ≤ 8 → (s t : List ℕ) → judge s ≡ refused number values → judge (s ++ t) ≡ refused number values
 
 -- ---- the order of the checks
 pub record OrderOfChecks : Type 0 where

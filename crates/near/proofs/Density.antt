@@ -1,26 +1,6 @@
 -- The density of moist air, and the mole fraction of vapour that it uses, are near the exact ones. Assumes nothing.
-use Rattle.arithmetic.proofs.Kit.{_≡_, Bool, List, [], _∷_, ℕ, _*_, _^_, T, leb, leb→le, lit≤, Float, span, climb, size, odd, ofFields, ofBits, fits}
-use Rattle.arithmetic.specs.Decimals.{decimal, nought, hundred}
-use Rattle.arithmetic.specs.Operators.{_⊕_, _⊖_, _⊗_, _⊘_}
-use Rattle.arithmetic.proofs.CommonDenominator.{above, beneath}
-use Rattle.roots.specs.Root.{root, rootIn}
-use Rattle.arithmetic.specs.Doubles.{clampDouble}
-use Rattle.humid_air.specs.MoistAir.{icePoint, airDensityAt, compressibilityFactor}
-use Rattle.humid_air.specs.Humidity.{densityMoleFraction}
-use Rattle.arithmetic.specs.Places.{places}
-use Rattle.atmosphere.specs.declared.given.Reading.{Reading}
-use Rattle.air.specs.Station.{kelvins, pascals, celsius, hectopascals, atmosphere}
-use Rattle.air.specs.Moist.{densityOf}
-use Rattle.exact.specs.Exact.{Exact, the, number}
-use Rattle.exact.specs.Near.{IsNear, Between}
-use Rattle.exact.proofs.Rounded.{N}
-use Rattle.exact.proofs.Tracks.{Bounds, Tracks}
-use Rattle.exact.proofs.Terms.{Term, given, num, _plus_, _minus_, _times_, _by_, _atLeast_, analysed, none, _also_, tracks}
-use Rattle.exact.proofs.Ranges.{ranged, near-of, ends, tracks-between, wider, widen}
-use Rattle.exact.proofs.Tests.{all, item, test}
-use Rattle.exact.proofs.Above.{positive-tested}
-use Rattle.near.specs.Density.{exactDensity}
-use Rattle.near.specs.Saturation.{Saturation}
+use Rattle.near.proofs.Kit.{_≡_, Bool, List, [], _∷_, ℕ, _*_, _^_, T, leb, leb→le, lit≤, Float, span, climb, size, odd, ofFields, ofBits, fits, decimal, nought, hundred, _⊕_, _⊖_, _⊗_, _⊘_, above, beneath, root, rootIn, clampDouble, icePoint, airDensityAt, compressibilityFactor, densityMoleFraction, places, Reading, kelvins, pascals, celsius, hectopascals, atmosphere, densityOf, Exact, the, number, IsNear, Between, N, Bounds, Tracks, Term, given, _plus_, _minus_, _times_, _by_, _atLeast_, analysed, none, _also_, tracks, ranged, near-of, ends, tracks-between, wider, widen, all, item, test, positive-tested, exactDensity, Saturation}
+use Rattle.exact.proofs.Terms.{num}
 use Rattle.near.specs.Near as Spec
 use Rattle.near.proofs.Temperatures.{Part, Below, Every, by-celsius}
 use Rattle.near.proofs.Vapour.{factor, by', dry, vapour-bounds, vapour-tests, tracks-vapour}

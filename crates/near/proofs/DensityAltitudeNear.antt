@@ -1,39 +1,11 @@
 -- The density-matched altitude is near the exact one. Assumes nothing.
-use Rattle.arithmetic.proofs.Kit.{_≡_, refl, sym, ap, _∙_, subst, Bool, _||_, cond, List, [], _∷_, _+_, _*_, _^_, T, leb, leb→le, lit≤, lit<, Float, span, climb, size, odd, units, round, ofFields, ofBits, neg, add, sub, mul, div, lt, eq, le, isNan, fits}
-use Rattle.arithmetic.specs.Decimals.{decimal, nought}
-use Rattle.arithmetic.specs.Operators.{_⊖_, _⊗_, _⊘_}
-use Rattle.arithmetic.proofs.CommonDenominator.{above, beneath}
-use Rattle.arithmetic.proofs.Counts.{over, under}
-use Rattle.roots.specs.Root.{root, rootIn}
-use Rattle.antilog.specs.Log.{logBits, wordOfUnits}
-use Rattle.antilog.specs.Antilog.{antilogRoot, antilog}
-use Rattle.elementary.specs.Exponents.{Exponent, ofDouble, troposphereExponent}
-use Rattle.elementary.specs.Power.{power}
-use Rattle.humid_air.specs.MoistAir.{airDensityAt, compressibilityFactor, moleFraction}
-use Rattle.atmosphere.specs.Layers.{layers}
-use Rattle.atmosphere.specs.declared.given.Reading.the-variants.{Given}
-use Rattle.air.specs.Station.{atmosphere}
-use Rattle.air.specs.Moist.{densityOf}
+use Rattle.near.proofs.Kit.{_≡_, refl, sym, ap, _∙_, subst, Bool, _||_, cond, List, [], _∷_, _+_, _*_, _^_, T, leb, leb→le, lit≤, lit<, Float, span, climb, size, odd, units, round, ofFields, ofBits, neg, add, sub, mul, div, lt, eq, le, isNan, fits, decimal, nought, _⊖_, _⊗_, _⊘_, above, beneath, over, under, root, rootIn, logBits, wordOfUnits, antilogRoot, antilog, Exponent, ofDouble, troposphereExponent, power, airDensityAt, compressibilityFactor, moleFraction, layers, Given, atmosphere, densityOf, _⊞_, opposite, _⊠_, _÷_, the, IsNear, N, Bounds, Tracks, Term, given, _minus_, _times_, _by_, analysed, none, _also_, tracks, ranged, near-of, wider, widen, no-further, all, test, Saturation, kelvin, InScope, exponent, taken-or, tracks-at-most, Power, Window, exponentOf, baseBounds, PowerEnds, powerBounds, power-exists, tracks-constant-power, places}
 use Rattle.air.specs.Matched.{seaLevelDensity, heightOfDensity, densityMatchedAltitude}
 use Rattle.atmosphere.specs.Altitudes.{tropopause, heightOfRatio}
-use Rattle.exact.specs.Exact.{_⊞_, opposite, _⊠_, _÷_, the}
-use Rattle.exact.specs.Near.{IsNear}
-use Rattle.exact.proofs.Rounded.{N}
-use Rattle.exact.proofs.Tracks.{Bounds, Tracks}
-use Rattle.exact.proofs.Terms.{Term, given, num, _minus_, _times_, _by_, analysed, none, _also_, tracks}
-use Rattle.exact.proofs.Ranges.{ranged, near-of, wider, widen}
-use Rattle.exact.proofs.NoFurther.{no-further}
-use Rattle.exact.proofs.Tests.{all, test}
+use Rattle.exact.proofs.Terms.{num}
 use Rattle.near.specs.Density as Density
-use Rattle.near.specs.Saturation.{Saturation}
-use Rattle.near.specs.Near.{kelvin, InScope}
 use Rattle.near.proofs.Density.{densities, density-tracks}
-use Rattle.near.specs.Troposphere.{exponent}
 use Rattle.near.specs.DensityAltitude as Spec
-use Rattle.exact.proofs.Kept.{taken-or}
-use Rattle.exact.proofs.Sides.{tracks-at-most}
-use Rattle.exact.proofs.PowerTracks.{Power, Window, exponentOf, baseBounds, PowerEnds, powerBounds, power-exists, tracks-constant-power}
-use Rattle.arithmetic.specs.Places.{places}
 
 -- ---- the density at sea level is a constant, which is computed
 abbrev sea-level : Bounds

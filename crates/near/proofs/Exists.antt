@@ -1,19 +1,6 @@
 -- There are fractions that stand for √τ and for the power of e, at every temperature of the range. Assumes nothing.
-use Rattle.arithmetic.proofs.Kit.{_≡_, refl, ℕ, _+_, _*_, _≤_, _<_, one-le-pow, lit<, lit≤, Float, span, climb, size, odd, ofFields, ofBits, fits}
-use Rattle.arithmetic.specs.Decimals.{decimal}
-use Rattle.arithmetic.proofs.CommonDenominator.{above, beneath}
-use Rattle.arithmetic.specs.Fractions.{Fraction, _toThe_}
-use Rattle.exact.specs.FunctionsNear.{eBelow}
-use Rattle.exact.specs.Exact.{Exact, _⊠_, the, number}
-use Rattle.exact.specs.Powers.{of, IsRoot, IsPower}
-use Rattle.exact.proofs.Rounded.{N}
-use Rattle.exact.proofs.Tracks.{Bounds, Tracks}
-use Rattle.exact.proofs.Terms.{Term, given, num, _plus_, _minus_, _by_, none, _also_, tracks}
-use Rattle.exact.proofs.Ranges.{tracks-between}
-use Rattle.exact.proofs.Exists.{root-of, power-of, proper-product, proper-sum, proper-quotient, above-zero, below-square}
-use Rattle.near.specs.Saturation.{reduced, exactLogRatio, Saturation}
-use Rattle.near.specs.Near.{kelvin}
-use Rattle.exact.specs.Near.{Between}
+use Rattle.near.proofs.Kit.{_≡_, refl, ℕ, _+_, _*_, _≤_, _<_, one-le-pow, lit<, lit≤, Float, span, climb, size, odd, ofFields, ofBits, fits, decimal, above, beneath, Fraction, _toThe_, eBelow, Exact, _⊠_, the, number, of, IsRoot, IsPower, N, Bounds, Tracks, Term, given, _plus_, _minus_, _by_, none, _also_, tracks, tracks-between, root-of, power-of, proper-product, proper-sum, proper-quotient, above-zero, below-square, reduced, exactLogRatio, Saturation, kelvin, Between}
+use Rattle.exact.proofs.Terms.{num}
 
 -- the denominator of the logarithm
 module _ (T : Exact) (k : Fraction) (k₀ : 0 < k .under) where

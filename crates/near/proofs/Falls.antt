@@ -1,26 +1,9 @@
 -- The density of dry air at one pressure falls with every degree. Z moves less than T does in a degree, so that the divisor Z R T is greater by more than a rounding
 -- can hide. All numbers are counts of units of 2 ^ -1074. Assumes nothing.
-use Rattle.arithmetic.proofs.Kit.{_≡_, refl, sym, ap, Bool, _&&_, List, [], _∷_, ℕ, _+_, _-_, _*_, _^_, _≤_, _<_, le-refl, le-trans, le-of-eq, lt-of-not-le, mul-pos, mul-le-mul-right, mul-le-mul-left, le-of-mul-le-mul-right, decLe, arith, T, eqb, leb, ltb, eqb→eq, leb→le, ltb→lt, Float, binary64, span, climb, size, odd, units, round, sum, neg, add, sub, mul, div, ofFields, ofBits, fits, lt, and-l, and-r, finite}
-use Rattle.arithmetic.specs.Decimals.{decimal, nought, hundred}
-use Rattle.arithmetic.specs.Operators.{_⊕_, _⊖_, _⊗_, _⊘_}
-use Rattle.arithmetic.specs.Nearest.{unitsOf}
-use Rattle.arithmetic.proofs.CommonDenominator.{above, beneath}
-use Rattle.arithmetic.proofs.Counts.{over, under, Small, lt-of-sides}
-use Rattle.humid_air.specs.MoistAir.{icePoint, airDensityAt, compressibilityFactor}
-use Rattle.atmosphere.specs.declared.given.Reading.the-variants.{Given}
-use Rattle.air.specs.Moist.{densityOf}
-use Rattle.air.specs.Station.{atmosphere}
-use Rattle.exact.specs.Exact.{_⊞_, the, number, isNotAbove}
-use Rattle.exact.proofs.Rounded.{N, N-pos, stepOf}
-use Rattle.exact.proofs.Tracks.{Bounds, Tracks, small, productSize, quotientSize, mul-near, div-near}
-use Rattle.exact.proofs.Terms.{Term, num, _plus_, _minus_, _times_, _by_, asDouble, asExact, analysed, none, _also_, tracks}
-use Rattle.exact.proofs.Ranges.{ranged, number-is, tracks-between}
-use Rattle.exact.proofs.Tests.{all, item, test}
-use Rattle.exact.proofs.Above.{positive-units, isAbove, positive-tested}
-use Rattle.near.specs.Near.{InScope}
+use Rattle.near.proofs.Kit.{_≡_, refl, sym, ap, Bool, _&&_, List, [], _∷_, ℕ, _+_, _-_, _*_, _^_, _≤_, _<_, le-refl, le-trans, le-of-eq, lt-of-not-le, mul-pos, mul-le-mul-right, mul-le-mul-left, le-of-mul-le-mul-right, decLe, arith, T, eqb, leb, ltb, eqb→eq, leb→le, ltb→lt, Float, binary64, span, climb, size, odd, units, round, sum, neg, add, sub, mul, div, ofFields, ofBits, fits, lt, and-l, and-r, finite, decimal, nought, hundred, _⊕_, _⊖_, _⊗_, _⊘_, unitsOf, above, beneath, over, under, Small, lt-of-sides, icePoint, airDensityAt, compressibilityFactor, Given, densityOf, atmosphere, _⊞_, the, number, isNotAbove, N, N-pos, stepOf, Bounds, Tracks, small, productSize, quotientSize, mul-near, div-near, Term, _plus_, _minus_, _times_, _by_, asDouble, asExact, analysed, none, _also_, tracks, ranged, number-is, tracks-between, all, item, test, positive-units, isAbove, positive-tested, InScope, places}
+use Rattle.exact.proofs.Terms.{num}
 use Rattle.near.proofs.Paths.{hPa-bounds}
 use Rattle.near.proofs.Density.{T-K, p-Pa, Z, dry-t, dry-tracks-t, dry-tracks-p, no-vapour}
-use Rattle.arithmetic.specs.Places.{places}
 
 -- ---- over natural numbers
 -- a divisor D of a temperature T, and D' of a T' that is greater by a degree but for 2 * E: D' is greater by G

@@ -1,4 +1,5 @@
 -- The proofs, a file for each idea.
+pub mod Kit
 pub mod Temperatures
 pub mod Saturated
 pub mod Vapour

@@ -1,24 +1,10 @@
 -- The decimals that are printed of a figure are near the exact number, and the trim class is that of the exact density where no limit is near it. Assumes nothing.
-use Rattle.arithmetic.proofs.Kit.{_≡_, refl, ap, ap₂, _∙_, Bool, true, false, cond, List, [], _∷_, ℕ, _+_, _*_, _/_, _^_, _≤_, _<_, le-trans, le-of-eq, mul-le-mul-right, le-of-mul-le-mul-right, div-mul-le-self, lt-div-mul-add, arith, T, pow-pos, Float, nan, inf, fin, binary64, fits, odd, ofFields, ofBits, finite}
-use Rattle.arithmetic.specs.Nearest.{unitsOf}
-use Rattle.arithmetic.proofs.CommonDenominator.{above, beneath}
-use Rattle.arithmetic.proofs.Counts.{over, under}
-use Rattle.refusal.specs.Outcomes.{Outcome, accepted, _⟫_}
-use Rattle.refusal.specs.declared.judge.Figures.{Figures}
+use Rattle.near.proofs.Kit.{_≡_, refl, ap, ap₂, _∙_, Bool, true, false, cond, List, [], _∷_, ℕ, _+_, _*_, _/_, _^_, _≤_, _<_, le-trans, le-of-eq, mul-le-mul-right, le-of-mul-le-mul-right, div-mul-le-self, lt-div-mul-add, arith, T, pow-pos, Float, nan, inf, fin, binary64, fits, odd, ofFields, ofBits, finite, unitsOf, above, beneath, over, under, Outcome, accepted, _⟫_, Figures, Exact, _⊞_, opposite, number, IsNear, N, N-pos, number-is, InScope, kelvin, pascal, vapour, Readings, Saturation, exactDensity, judged, resolved}
 use Rattle.decimals.specs.Decimal.{nearestCount, decimalText}
 use Rattle.trim.specs.Classes.{classDensities, countAtOrBelow, trimClass, classOf}
-use Rattle.exact.specs.Exact.{Exact, _⊞_, opposite, number}
-use Rattle.exact.specs.Near.{IsNear}
-use Rattle.exact.proofs.Rounded.{N, N-pos}
-use Rattle.exact.proofs.Ranges.{number-is}
 use Rattle.exact.proofs.SameSide.{same-side}
 use Rattle.near.specs.Paper.{exactCount, FarFromEach, IsPrinted}
 use Rattle.near.proofs.Records.{record-density-fits, record-density-near}
-use Rattle.near.specs.Near.{InScope, kelvin, pascal, vapour}
-use Rattle.record.specs.declared.entries.Readings.{Readings}
-use Rattle.near.specs.Saturation.{Saturation}
-use Rattle.near.specs.Density.{exactDensity}
-use Rattle.mast.specs.Judge.{judged, resolved}
 
 -- ---- over natural numbers: p - m units of 1 / S are printed of o - w units of 1 / N, which are near (P - Q) / K
 module _ (S K F : ℕ) where

@@ -1,21 +1,7 @@
 -- How a temperature and a pressure, given or of the standard atmosphere, come to the formulas: what is shown in °C and hPa is K and Pa before, and for the density
 -- °C and hPa once more. Assumes nothing.
-use Rattle.arithmetic.proofs.Kit.{_≡_, Bool, List, [], _∷_, ℕ, _+_, _*_, arith, T, Float, span, climb, size, odd, ofFields, ofBits, fits}
-use Rattle.arithmetic.specs.Decimals.{decimal, hundred}
-use Rattle.arithmetic.specs.Operators.{_⊕_, _⊖_, _⊗_, _⊘_}
-use Rattle.arithmetic.proofs.CommonDenominator.{above, beneath}
-use Rattle.humid_air.specs.MoistAir.{icePoint}
-use Rattle.arithmetic.specs.Places.{places}
-use Rattle.atmosphere.specs.declared.given.Reading.{Reading}
-use Rattle.atmosphere.specs.declared.given.Reading.the-variants.{Given, FromLayer}
-use Rattle.air.specs.Station.{kelvins, pascals, celsius, hectopascals}
-use Rattle.exact.specs.Exact.{_⊞_, opposite, _⊠_, _÷_, the, number}
-use Rattle.exact.specs.Near.{Between}
-use Rattle.exact.proofs.Rounded.{N}
-use Rattle.exact.proofs.Tracks.{Bounds, Tracks}
-use Rattle.exact.proofs.Terms.{Term, given, num, _plus_, _minus_, _times_, _by_, asExact, analysed, none, _also_, tracks}
-use Rattle.exact.proofs.Ranges.{ranged, tracks-between, tracks-same, wider, widen}
-use Rattle.exact.proofs.Tests.{all, test}
+use Rattle.near.proofs.Kit.{_≡_, Bool, List, [], _∷_, ℕ, _+_, _*_, arith, T, Float, span, climb, size, odd, ofFields, ofBits, fits, decimal, hundred, _⊕_, _⊖_, _⊗_, _⊘_, above, beneath, icePoint, places, Reading, Given, FromLayer, kelvins, pascals, celsius, hectopascals, _⊞_, opposite, _⊠_, _÷_, the, number, Between, N, Bounds, Tracks, Term, given, _plus_, _minus_, _times_, _by_, asExact, analysed, none, _also_, tracks, ranged, tracks-between, tracks-same, wider, widen, all, test}
+use Rattle.exact.proofs.Terms.{num}
 use Rattle.near.proofs.Standard.{kelvins-fit, pascals-fit, kelvin-bounds, kelvin-tests, tracks-kelvin, pascal-bounds, tracks-pascal}
 
 abbrev pub kelvin : Term

@@ -1,30 +1,12 @@
 -- The saturation pressure is near the exact one, and nearly so as a part of itself. Assumes nothing.
-use Rattle.arithmetic.proofs.Kit.{_≡_, refl, sym, ap, subst, Bool, true, false, List, [], _∷_, ℕ, _+_, _-_, _*_, _^_, _≤_, le-trans, le-of-eq, mul-pos, mul-le-mul-right, mul-le-mul-left, le-of-mul-le-mul-right, arith, T, leb, ltb, eqb, leb→le, ltb→lt, eqb→eq, lit<, Float, nan, inf, fin, binary64, round, mul, span, climb, size, odd, ofFields, ofBits, fits, num, den, den-pos, positive}
-use Rattle.arithmetic.specs.Decimals.{decimal}
-use Rattle.arithmetic.specs.Operators.{_⊗_}
-use Rattle.arithmetic.proofs.CommonDenominator.{above, beneath}
-use Rattle.arithmetic.proofs.Counts.{over}
-use Rattle.roots.specs.Root.{root, rootIn}
-use Rattle.elementary.specs.Exp.{exp}
-use Rattle.humid_air.specs.Saturation.{saturationPressure}
-use Rattle.exact.specs.FunctionsNear.{Normal}
+use Rattle.near.proofs.Kit.{_≡_, refl, sym, ap, subst, Bool, true, false, List, [], _∷_, ℕ, _+_, _-_, _*_, _^_, _≤_, le-trans, le-of-eq, mul-pos, mul-le-mul-right, mul-le-mul-left, le-of-mul-le-mul-right, arith, T, leb, ltb, eqb, leb→le, ltb→lt, eqb→eq, lit<, Float, nan, inf, fin, binary64, round, mul, span, climb, size, odd, ofFields, ofBits, fits, num, den, den-pos, positive, decimal, _⊗_, above, beneath, over, root, rootIn, exp, saturationPressure, Normal, _⊠_, the, number, IsNear, IsNearly, Between, of, N, Bounds, Tracks, ranged, near-of, ends, tracks-between, all, item, test, Positive, positive-units, positive-of, normal-of, Saturation, exactSaturation, places}
 use Rattle.exact.proofs.RoundedNear.{rounded-near}
-use Rattle.exact.specs.Exact.{_⊠_, the, number}
-use Rattle.exact.specs.Near.{IsNear, IsNearly, Between}
-use Rattle.exact.specs.Powers.{of}
-use Rattle.exact.proofs.Rounded.{N}
-use Rattle.exact.proofs.Tracks.{Bounds, Tracks}
 use Rattle.exact.proofs.Terms.{Term, given, num as number-of, _times_, analysed, none, _also_, tracks}
-use Rattle.exact.proofs.Ranges.{ranged, near-of, ends, tracks-between}
-use Rattle.exact.proofs.Tests.{all, item, test}
 use Rattle.exact.proofs.Relative.{Apart, apart-of}
-use Rattle.exact.proofs.Above.{Positive, positive-units, positive-of, normal-of}
 use Rattle.exact.proofs.PositiveNear.{nearly-of}
 use Rattle.exact.proofs.ExpTracks.{parts, α, β, γ, δ, Sides}
-use Rattle.near.specs.Saturation.{Saturation, exactSaturation}
 use Rattle.near.proofs.Temperatures.{Part, Below, Every, by-kelvin}
 use Rattle.near.proofs.Saturated.{exponent-bounds, ratio-bounds, checks, y, sides-ratio, tracks-ratio, is-pressure}
-use Rattle.arithmetic.specs.Places.{places}
 
 -- ---- p, the product of p_c and r, is wrong by one part in 2^53: in units
 module _ (p r : Float) (p-is : Positive p) (r-is : Positive r) where

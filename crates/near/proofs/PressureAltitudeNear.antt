@@ -1,29 +1,8 @@
 -- The pressure altitude is near the exact one, in two parts: up to 1,000 hPa, and from there. Assumes nothing.
-use Rattle.arithmetic.proofs.Kit.{_≡_, refl, sym, ap, _∙_, subst, Bool, _&&_, _||_, cond, List, [], _∷_, _*_, _^_, T, leb, leb→le, lit≤, Float, span, climb, size, odd, units, round, ofFields, ofBits, lt, eq, le, isNan, fits, and-i}
-use Rattle.arithmetic.specs.Decimals.{decimal}
-use Rattle.arithmetic.specs.Operators.{_⊖_, _⊗_, _⊘_}
-use Rattle.arithmetic.proofs.CommonDenominator.{above, beneath}
-use Rattle.roots.specs.Root.{root, rootIn}
-use Rattle.antilog.specs.Log.{logBits, wordOfUnits}
-use Rattle.antilog.specs.Antilog.{antilogRoot, antilog}
-use Rattle.elementary.specs.Exponents.{Exponent, ofDouble}
-use Rattle.elementary.specs.Power.{power}
-use Rattle.atmosphere.specs.Layers.{lowestHeight}
+use Rattle.near.proofs.Kit.{_≡_, refl, sym, ap, _∙_, subst, Bool, _&&_, _||_, cond, List, [], _∷_, _*_, _^_, T, leb, leb→le, lit≤, Float, span, climb, size, odd, units, round, ofFields, ofBits, lt, eq, le, isNan, fits, and-i, decimal, _⊖_, _⊗_, _⊘_, above, beneath, root, rootIn, logBits, wordOfUnits, antilogRoot, antilog, Exponent, ofDouble, power, lowestHeight, the, number, IsNear, Between, N, Bounds, Tracks, Term, given, _minus_, _times_, _by_, analysed, none, _also_, tracks, ranged, near-of, ends, tracks-between, wider, widen, no-further, all, test, side, taken-or, inside, tracks-inside, Power, Window, exponentOf, baseBounds, PowerEnds, powerBounds, power-exists, tracks-constant-power, places}
 use Rattle.atmosphere.specs.Altitudes.{tropopause, heightOfPressure, pressureAltitude}
-use Rattle.exact.specs.Exact.{the, number}
-use Rattle.exact.specs.Near.{IsNear, Between}
-use Rattle.exact.proofs.Rounded.{N}
-use Rattle.exact.proofs.Tracks.{Bounds, Tracks}
-use Rattle.exact.proofs.Terms.{Term, given, num, _minus_, _times_, _by_, analysed, none, _also_, tracks}
-use Rattle.exact.proofs.Ranges.{ranged, near-of, ends, tracks-between, wider, widen}
-use Rattle.exact.proofs.NoFurther.{no-further}
-use Rattle.exact.proofs.Tests.{all, test}
-use Rattle.exact.proofs.Parts.{side}
+use Rattle.exact.proofs.Terms.{num}
 use Rattle.near.specs.PressureAltitude as Spec
-use Rattle.exact.proofs.Kept.{taken-or}
-use Rattle.exact.proofs.Sides.{inside, tracks-inside}
-use Rattle.exact.proofs.PowerTracks.{Power, Window, exponentOf, baseBounds, PowerEnds, powerBounds, power-exists, tracks-constant-power}
-use Rattle.arithmetic.specs.Places.{places}
 
 -- ---- the formula, of a pressure and of the power
 abbrev pressureRatio : Term
@@ -96,28 +75,20 @@ module _ (lo hi : Float) (w : Window) where
 abbrev window-1 : Window
 window-1 = record { c = 17; lo = decimal "0.4934"; hi = decimal "0.987"; error = 129; bottom = decimal "0.874"; top = decimal "0.9976" }
 
-ends-1 : PowerEnds nwsPower window-1
-unfolding power antilog antilogRoot root rootIn wordOfUnits logBits round units size span climb odd ofFields ofBits le lt eq
-ends-1 = record { least = tt; most = tt }
-
-passed-1 : T (all (tests (decimal "500") (decimal "1000") window-1))
-unfolding N above beneath the span climb size odd units round ofFields ofBits fits le lt eq
-passed-1 = tt
-
 abbrev window-2 : Window
 window-2 = record { c = 2; lo = decimal "0.9869"; hi = decimal "1.0857"; error = 257; bottom = decimal "0.997"; top = decimal "1.016" }
 
-ends-2 : PowerEnds nwsPower window-2
+both-ends : PowerEnds nwsPower window-1 × PowerEnds nwsPower window-2
 unfolding power antilog antilogRoot root rootIn wordOfUnits logBits round units size span climb odd ofFields ofBits le lt eq
-ends-2 = record { least = tt; most = tt }
+both-ends = (record { least = tt; most = tt }, record { least = tt; most = tt })
 
-passed-2 : T (all (tests (decimal "1000") (decimal "1100") window-2))
+both-passed : T (all (tests (decimal "500") (decimal "1000") window-1)) × T (all (tests (decimal "1000") (decimal "1100") window-2))
 unfolding N above beneath the span climb size odd units round ofFields ofBits fits le lt eq
-passed-2 = tt
+both-passed = (tt, tt)
 
 both-near : (p : Float) → Between (decimal "500") (decimal "1100") p → Near p
 unfolding ofBits le lt eq
-both-near p = side p (decimal "500") (decimal "1000") (decimal "1100") tt (between-near (decimal "500") (decimal "1000") window-1 passed-1 ends-1 p) (between-near (decimal "1000") (decimal "1100") window-2 passed-2 ends-2 p)
+both-near p = side p (decimal "500") (decimal "1000") (decimal "1100") tt (between-near (decimal "500") (decimal "1000") window-1 (both-passed .0) (both-ends .0) p) (between-near (decimal "1000") (decimal "1100") window-2 (both-passed .1) (both-ends .1) p)
 
 pub metres-near : (p : Float) → Between (decimal "500") (decimal "1100") p → (r : Spec.RaisedPressure (number p)) → IsNear 36 (pressureAltitude 60 p) (Spec.exactNwsAltitude r)
 metres-near p range = both-near p range .altitude-near

@@ -1,32 +1,11 @@
 -- The station pressure of a QNH is near the exact one. Assumes nothing.
-use Rattle.arithmetic.proofs.Kit.{_≡_, refl, sym, ap, ap₂, _∙_, subst, Bool, List, [], _∷_, _*_, _^_, T, leb, leb→le, lit≤, Float, span, climb, size, odd, units, round, ofFields, ofBits, neg, mul, div, lt, eq, le, fits}
-use Rattle.arithmetic.specs.Decimals.{decimal}
-use Rattle.arithmetic.specs.Operators.{_⊕_, _⊗_, _⊘_}
-use Rattle.arithmetic.proofs.CommonDenominator.{above, beneath}
+use Rattle.near.proofs.Kit.{_≡_, refl, sym, ap, ap₂, _∙_, subst, Bool, List, [], _∷_, _*_, _^_, T, leb, leb→le, lit≤, Float, span, climb, size, odd, units, round, ofFields, ofBits, neg, mul, div, lt, eq, le, fits, decimal, _⊕_, _⊗_, _⊘_, above, beneath, root, rootIn, logBits, wordOfUnits, antilogRoot, antilog, Fraction, Exponent, ofDouble, pressureExponent, power, layers, geopotentialHeight, _⊠_, _÷_, the, number, IsNear, Between, of, positivePart, IsPower, N, Bounds, Tracks, Term, given, _plus_, _times_, _by_, analysed, none, _also_, tracks, ranged, near-of, tracks-between, wider, widen, no-further, all, test, geopotential, exponent, Power, Window, exponentOf, baseBounds, PowerEnds, powerBounds, power-exists, tracks-constant-power, places}
 use Rattle.arithmetic.proofs.Order.{le-trans-double}
-use Rattle.roots.specs.Root.{root, rootIn}
-use Rattle.antilog.specs.Log.{logBits, wordOfUnits}
-use Rattle.antilog.specs.Antilog.{antilogRoot, antilog}
-use Rattle.arithmetic.specs.Fractions.{Fraction}
-use Rattle.elementary.specs.Exponents.{Exponent, ofDouble, pressureExponent}
-use Rattle.elementary.specs.Power.{power}
-use Rattle.atmosphere.specs.Layers.{layers, geopotentialHeight}
 use Rattle.atmosphere.specs.Station.{reducedQnh}
-use Rattle.exact.specs.Exact.{_⊠_, _÷_, the, number}
-use Rattle.exact.specs.Near.{IsNear, Between}
-use Rattle.exact.specs.Powers.{of, positivePart, IsPower}
-use Rattle.exact.proofs.Rounded.{N}
-use Rattle.exact.proofs.Tracks.{Bounds, Tracks}
-use Rattle.exact.proofs.Terms.{Term, given, num, _plus_, _times_, _by_, analysed, none, _also_, tracks}
-use Rattle.exact.proofs.Ranges.{ranged, near-of, tracks-between, wider, widen}
-use Rattle.exact.proofs.NoFurther.{no-further}
-use Rattle.exact.proofs.Tests.{all, test}
-use Rattle.near.specs.Troposphere.{geopotential, exponent}
+use Rattle.exact.proofs.Terms.{num}
 use Rattle.near.specs.Qnh as Spec
-use Rattle.exact.proofs.PowerTracks.{Power, Window, exponentOf, baseBounds, PowerEnds, powerBounds, power-exists, tracks-constant-power}
 use Rattle.near.proofs.StandardTerms.{height, pressurePower, exponent-is}
 use Rattle.near.proofs.StandardNear.{near, Low}
-use Rattle.arithmetic.specs.Places.{places}
 
 -- ---- the formula: of the QNH, and of the geopotential height and the inner power
 abbrev setting : Term

@@ -1,36 +1,21 @@
 -- The altitudes of an accepted record are near, and so are a temperature and a pressure from the layer or from a QNH. Assumes nothing.
-use Rattle.arithmetic.proofs.Kit.{_≡_, refl, sym, subst, Bool, true, false, _&&_, _||_, true≢false, lit≤, Float}
-use Rattle.arithmetic.specs.Places.{places}
+use Rattle.near.proofs.Kit.{_≡_, refl, sym, subst, Bool, true, false, _&&_, _||_, true≢false, lit≤, Float, places, Readings, Reading, Given, FromLayer, celsius, hectopascals, shownTemperature, shownPressure, figuresWith, figuresOf, resolvedBy, resolved, judged, _⊟_, _÷_, the, number, IsNear, Between, no-further, Figures, accepted, InScope, kelvin, Saturation, decimal}
 use Rattle.record.specs.declared.entries.Entry.{Entry}
 use Rattle.record.specs.declared.entries.Entry.the-variants.{Absent, Present}
-use Rattle.record.specs.declared.entries.Readings.{Readings}
 use Rattle.record.specs.Entries.{isPresent, entryOf, valueOrZero}
 use Rattle.fields.specs.Fields.{altitude, stationPressure, qnh, densityAltitude, measuredPressure}
 use Rattle.mast.specs.Checks.{has, isClash}
-use Rattle.atmosphere.specs.declared.given.Reading.{Reading}
-use Rattle.atmosphere.specs.declared.given.Reading.the-variants.{Given, FromLayer}
 use Rattle.atmosphere.specs.Station.{reducedQnh}
 use Rattle.station.specs.Resolved.{unmeasuredPressure, measuredOr, resolvedPressure, ordinary}
-use Rattle.air.specs.Station.{celsius, hectopascals}
-use Rattle.station.specs.Figures.{shownTemperature, shownPressure, figuresWith, figuresOf}
-use Rattle.mast.specs.Judge.{resolvedBy, resolved, judged}
 use Rattle.record_laws.proofs.Pressures.{of-accepted}
-use Rattle.exact.specs.Exact.{_⊟_, _÷_, the, number}
-use Rattle.exact.specs.Near.{IsNear, Between}
-use Rattle.exact.proofs.NoFurther.{no-further}
 use Rattle.near.specs.Troposphere as troposphere
 use Rattle.near.specs.Qnh as reduction
 use Rattle.near.proofs.StandardNear.{near, Low}
 use Rattle.near.proofs.QnhNear.{reduced-near}
 use Rattle.near.proofs.PressureAltitudeNear.{metres-near}
 use Rattle.near.proofs.DensityAltitudeNear.{altitude-near}
-use Rattle.refusal.specs.declared.judge.Figures.{Figures}
-use Rattle.refusal.specs.Outcomes.{accepted}
 use Rattle.near.specs.PressureAltitude as pressureAltitude
 use Rattle.near.specs.DensityAltitude as densityAltitude
-use Rattle.near.specs.Near.{InScope, kelvin}
-use Rattle.near.specs.Saturation.{Saturation}
-use Rattle.arithmetic.specs.Decimals.{decimal}
 
 -- ---- a QNH is the only pressure of what is accepted, and it is reduced at the altitude
 only-qnh : (s m d : Entry) (a : Bool) → ((isPresent s && true) || (isPresent m && (isPresent s || true)) || (isPresent d && (a || isPresent s || true || isPresent m))) ≡ false → (s ≡ Absent) × (m ≡ Absent) × (d ≡ Absent)

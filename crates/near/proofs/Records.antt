@@ -1,21 +1,7 @@
 -- The figures of an accepted record are those of the air that it resolves to, and so near the documents' formulas. Assumes nothing.
-use Rattle.arithmetic.proofs.Kit.{_≡_, subst, T, binary64, fits, mul-fits}
-use Rattle.arithmetic.specs.Fractions.{Fraction}
-use Rattle.refusal.specs.Outcomes.{accepted}
-use Rattle.record.specs.declared.entries.Readings.{Readings}
-use Rattle.refusal.specs.declared.judge.Figures.{Figures}
-use Rattle.humid_air.specs.MoistAir.{airDensityAt}
-use Rattle.air.specs.Moist.{densityOf}
-use Rattle.air.specs.Station.{atmosphere}
-use Rattle.station.specs.Figures.{figuresWith}
-use Rattle.mast.specs.Judge.{resolved, judged}
+use Rattle.near.proofs.Kit.{_≡_, subst, T, binary64, fits, mul-fits, Fraction, accepted, Readings, Figures, airDensityAt, densityOf, atmosphere, figuresWith, resolved, judged, IsNear, of, IsRoot, exactDensity, Saturation, kelvin, pascal, vapour, InScope}
 use Rattle.record_laws.proofs.Pressures.{of-accepted}
-use Rattle.exact.specs.Near.{IsNear}
-use Rattle.exact.specs.Powers.{of, IsRoot}
-use Rattle.near.specs.Density.{exactDensity}
-use Rattle.near.specs.Saturation.{Saturation}
 use Rattle.near.specs.Sound.{squaredSpeed}
-use Rattle.near.specs.Near.{kelvin, pascal, vapour, InScope}
 use Rattle.near.proofs.Density.{fraction-near, density-near}
 use Rattle.near.proofs.Sound.{sound-near}
 

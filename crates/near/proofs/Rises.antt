@@ -1,32 +1,14 @@
 -- The speed of sound in dry air never falls where the temperature rises: the root that is nearest to a greater number is no less. Assumes nothing.
-use Rattle.arithmetic.proofs.Kit.{_≡_, refl, sym, subst₂, true, false, [], _∷_, ℕ, zero, suc, _+_, _*_, _^_, _≤_, _<_, le-refl, lt-of-not-le, mul-le-mul-right, mul-le-mul-left, decLe, arith, T, Float, nan, inf, fin, binary64, span, climb, size, odd, units, round, sum, neg, add, sub, mul, ofFields, ofBits, fits, le, positive, finite}
+use Rattle.near.proofs.Kit.{_≡_, refl, sym, subst₂, true, false, [], _∷_, ℕ, zero, suc, _+_, _*_, _^_, _≤_, _<_, le-refl, lt-of-not-le, mul-le-mul-right, mul-le-mul-left, decLe, arith, T, Float, nan, inf, fin, binary64, span, climb, size, odd, units, round, sum, neg, add, sub, mul, ofFields, ofBits, fits, le, positive, finite, decimal, nought, hundred, _⊕_, _⊗_, unitsOf, above, beneath, Small, le-of-sides, mul-by-rises, clampDouble, icePoint, capped, moleFractionKelvin, Given, atmosphere, the, number, N, Bounds, Tracks, Term, _times_, asExact, analysed, none, _also_, tracks, ranged, tracks-between, sides-of-le, Positive, positive-units, positive-tested, InScope, places}
 use lib.Ieee.Fits.{add-fits}
 use lib.Ieee.Positive.{positive-finite}
-use Rattle.arithmetic.specs.Decimals.{decimal, nought, hundred}
-use Rattle.arithmetic.specs.Operators.{_⊕_, _⊗_}
-use Rattle.arithmetic.specs.Nearest.{unitsOf}
-use Rattle.arithmetic.proofs.CommonDenominator.{above, beneath}
-use Rattle.arithmetic.proofs.Counts.{Small, le-of-sides}
-use Rattle.arithmetic.proofs.Products.{mul-by-rises}
 use Rattle.arithmetic.proofs.Sums.{add-rises}
 use Rattle.antilog.specs.Sqrt.{sqrt}
 use Rattle.antilog.proofs.NearestRoot.{sqrt-nearest, NearestRoot}
-use Rattle.arithmetic.specs.Doubles.{clampDouble}
-use Rattle.humid_air.specs.MoistAir.{icePoint, capped}
-use Rattle.humid_air.specs.Humidity.{moleFractionKelvin}
 use Rattle.humid_air.specs.Sound.{soundSpeedAt, soundSpeed}
-use Rattle.atmosphere.specs.declared.given.Reading.the-variants.{Given}
-use Rattle.air.specs.Station.{atmosphere}
-use Rattle.exact.specs.Exact.{the, number}
-use Rattle.exact.proofs.Rounded.{N}
-use Rattle.exact.proofs.Tracks.{Bounds, Tracks}
-use Rattle.exact.proofs.Terms.{Term, num, _times_, asExact, analysed, none, _also_, tracks}
-use Rattle.exact.proofs.Ranges.{ranged, tracks-between, sides-of-le}
-use Rattle.exact.proofs.Above.{Positive, positive-units, positive-tested}
-use Rattle.near.specs.Near.{InScope}
+use Rattle.exact.proofs.Terms.{num}
 use Rattle.near.proofs.Vapour.{factor, by', dry}
 use Rattle.near.proofs.Paths.{kelvin, back-from-kelvin, pascals-behind}
-use Rattle.arithmetic.specs.Places.{places}
 
 -- ---- two nearest roots
 roots-ordered : (x y r q : Float) → NearestRoot x r → NearestRoot y q → unitsOf x ≤ unitsOf y → unitsOf r ≤ unitsOf q

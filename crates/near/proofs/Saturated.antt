@@ -1,26 +1,9 @@
 -- The ratio of the saturation pressure to p_c tracks the exact one, for a T whose bounds pass the tests of a part of the temperatures. Assumes nothing.
-use Rattle.arithmetic.proofs.Kit.{_≡_, refl, Bool, List, [], _∷_, ℕ, _+_, _*_, _^_, _≤_, le-refl, arith, T, leb, eqb, leb→le, eqb→eq, lit≤, Float, binary64, odd, ofFields, ofBits, fits, le, finite}
-use Rattle.arithmetic.specs.Decimals.{decimal}
-use Rattle.arithmetic.specs.Operators.{_⊗_}
-use Rattle.arithmetic.specs.Nearest.{unitsOf}
-use Rattle.arithmetic.proofs.CommonDenominator.{above, beneath}
-use Rattle.arithmetic.proofs.Counts.{over, under, Small, le-of-sides}
-use Rattle.arithmetic.specs.Fractions.{_toThe_}
-use Rattle.elementary.specs.Power.{power}
-use Rattle.elementary.specs.Exp.{exp}
-use Rattle.humid_air.specs.Saturation.{saturationPressure}
-use Rattle.exact.specs.FunctionsNear.{Normal}
-use Rattle.exact.specs.Exact.{Exact, number}
-use Rattle.exact.specs.Powers.{of}
-use Rattle.exact.proofs.Tracks.{Bounds, Tracks}
-use Rattle.exact.proofs.Terms.{Term, given, num, _plus_, _minus_, _times_, _by_, _atLeast_, asDouble, analysed, none, _also_, tracks}
-use Rattle.exact.proofs.Ranges.{ranged, tracks-itself}
-use Rattle.exact.proofs.Tests.{all, item, test}
-use Rattle.exact.proofs.Above.{positive-units, normal-of}
+use Rattle.near.proofs.Kit.{_≡_, refl, Bool, List, [], _∷_, ℕ, _+_, _*_, _^_, _≤_, le-refl, arith, T, leb, eqb, leb→le, eqb→eq, lit≤, Float, binary64, odd, ofFields, ofBits, fits, le, finite, decimal, _⊗_, unitsOf, above, beneath, over, under, Small, le-of-sides, _toThe_, power, exp, saturationPressure, Normal, Exact, number, of, Bounds, Tracks, Term, given, _plus_, _minus_, _times_, _by_, _atLeast_, asDouble, analysed, none, _also_, tracks, ranged, tracks-itself, all, item, test, positive-units, normal-of, reduced, exactLogRatio, Saturation}
+use Rattle.exact.proofs.Terms.{num}
 use Rattle.exact.proofs.HalfPower.{halves, halfPower, tracks-power}
 use Rattle.exact.proofs.ExpTracks.{parts, exponential, Sides, sides, tracks-exp}
 use Rattle.exact.proofs.Values.{Moderate, moderate, power-normal, exp-between, exp-fits}
-use Rattle.near.specs.Saturation.{reduced, exactLogRatio, Saturation}
 use Rattle.near.proofs.Temperatures.{Part, Below}
 
 -- ---- the formula: of T in K, and of the five half powers

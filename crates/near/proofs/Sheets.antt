@@ -1,14 +1,8 @@
 -- The densities of a dry sheet fall from row to row: its temperatures are whole degrees, each computed. Assumes nothing.
-use Rattle.arithmetic.proofs.Kit.{Bool, List, [], _∷_, ℕ, _<_, arith, T, binary64, span, climb, size, odd, units, round, ofFields, ofBits, ofInt, fits, lt, eq, le, Float}
-use Rattle.arithmetic.specs.Decimals.{decimal, nought}
-use Rattle.station.specs.Figures.{figuresWith, figuresOf}
+use Rattle.near.proofs.Kit.{Bool, List, [], _∷_, ℕ, _<_, arith, T, binary64, span, climb, size, odd, units, round, ofFields, ofBits, ofInt, fits, lt, eq, le, Float, decimal, nought, figuresWith, figuresOf, _⊞_, the, number, isNotAbove, all, test, InScope, Between}
 use Rattle.sheet.specs.Sheet.{celsiusOfRow}
 use Rattle.arithmetic.proofs.Every.{every, at}
-use Rattle.exact.specs.Exact.{_⊞_, the, number, isNotAbove}
-use Rattle.exact.proofs.Tests.{all, test}
-use Rattle.near.specs.Near.{InScope}
 use Rattle.near.proofs.Falls.{dry-density-falls}
-use Rattle.exact.specs.Near.{Between}
 use Rattle.sheet.specs.Row.{stationOfRow}
 
 abbrev warmer : ℕ → Bool

@@ -1,30 +1,9 @@
 -- The speed of sound is near every fraction that stands for the exact one, and there is such a fraction. Assumes nothing.
-use Rattle.arithmetic.proofs.Kit.{_≡_, ap₂, subst, Bool, List, [], _∷_, ℕ, _+_, _*_, _^_, T, leb, ltb, eqb, leb→le, ltb→lt, eqb→eq, lit<, Float, span, climb, size, odd, units, round, sum, neg, add, sub, ofFields, ofBits, fits, lt, eq}
-use Rattle.arithmetic.specs.Decimals.{decimal, nought, hundred}
-use Rattle.arithmetic.specs.Operators.{_⊕_, _⊖_}
-use Rattle.arithmetic.specs.Places.{places}
-use Rattle.arithmetic.proofs.CommonDenominator.{above, beneath}
-use Rattle.roots.specs.Root.{root, rootIn}
+use Rattle.near.proofs.Kit.{_≡_, ap₂, subst, Bool, List, [], _∷_, ℕ, _+_, _*_, _^_, T, leb, ltb, eqb, leb→le, ltb→lt, eqb→eq, lit<, Float, span, climb, size, odd, units, round, sum, neg, add, sub, ofFields, ofBits, fits, lt, eq, decimal, nought, hundred, _⊕_, _⊖_, places, above, beneath, root, rootIn, Fraction, _toThe_, clampDouble, icePoint, capped, moleFractionKelvin, Reading, Given, kelvins, pascals, celsius, hectopascals, atmosphere, Exact, the, number, IsNear, Between, of, IsRoot, N, Bounds, Tracks, Term, given, _plus_, _minus_, _times_, asDouble, analysed, none, _also_, tracks, ranged, near-of, ends, tracks-between, wider, all, item, test, root-of, above-zero, below-square, Saturation}
 use Rattle.arithmetic.proofs.Powers.{pow-one}
-use Rattle.arithmetic.specs.Fractions.{Fraction, _toThe_}
-use Rattle.arithmetic.specs.Doubles.{clampDouble}
-use Rattle.humid_air.specs.MoistAir.{icePoint, capped}
-use Rattle.humid_air.specs.Humidity.{moleFractionKelvin}
 use Rattle.humid_air.specs.Sound.{soundSpeedAt, soundSpeed}
-use Rattle.atmosphere.specs.declared.given.Reading.{Reading}
-use Rattle.atmosphere.specs.declared.given.Reading.the-variants.{Given}
-use Rattle.air.specs.Station.{kelvins, pascals, celsius, hectopascals, atmosphere}
-use Rattle.exact.specs.Exact.{Exact, the, number}
-use Rattle.exact.specs.Near.{IsNear, Between}
-use Rattle.exact.specs.Powers.{of, IsRoot}
-use Rattle.exact.proofs.Rounded.{N}
-use Rattle.exact.proofs.Tracks.{Bounds, Tracks}
-use Rattle.exact.proofs.Terms.{Term, given, num, _plus_, _minus_, _times_, asDouble, analysed, none, _also_, tracks}
-use Rattle.exact.proofs.Ranges.{ranged, near-of, ends, tracks-between, wider}
-use Rattle.exact.proofs.Tests.{all, item, test}
+use Rattle.exact.proofs.Terms.{num}
 use Rattle.exact.proofs.RootTracks.{rooted, tracks-sqrt}
-use Rattle.exact.proofs.Exists.{root-of, above-zero, below-square}
-use Rattle.near.specs.Saturation.{Saturation}
 use Rattle.near.specs.Sound.{squaredSpeed}
 use Rattle.near.specs.Near as Spec
 use Rattle.near.proofs.Temperatures.{Part, Below, Every, by-celsius}

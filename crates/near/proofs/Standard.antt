@@ -1,25 +1,11 @@
 -- The standard atmosphere's temperature and pressure, of which °C and hPa are shown: the K behind them track the °C and 273.15, and the Pa the hPa times 100.
 -- Assumes nothing.
-use Rattle.arithmetic.proofs.Kit.{_≡_, refl, sym, ap, subst, Bool, true, false, List, [], _∷_, ℕ, _+_, _*_, _≤_, _<_, mul-le-mul-right, le-of-mul-le-mul-right, arith, T, Float, nan, inf, fin, binary64, span, climb, size, odd, units, round, sub, div, ofFields, ofBits, fits, lt, eq, le, cond-fits, sub-fits, mul-fits, div-fits, finite}
+use Rattle.near.proofs.Kit.{_≡_, refl, sym, ap, subst, Bool, true, false, List, [], _∷_, ℕ, _+_, _*_, _≤_, _<_, mul-le-mul-right, le-of-mul-le-mul-right, arith, T, Float, nan, inf, fin, binary64, span, climb, size, odd, units, round, sub, div, ofFields, ofBits, fits, lt, eq, le, cond-fits, sub-fits, mul-fits, div-fits, finite, decimal, hundred, _⊖_, _⊘_, places, above, beneath, over, under, div-rises, icePoint, baseHeight, layerTemperature, isothermal, isothermalPressure, gradientPressure, layerAt, layerPressure, standardHeight, standardAir, _⊞_, opposite, _⊠_, _÷_, the, number, Between, N, Bounds, Tracks, given, _minus_, _by_, analysed, none, _also_, tracks, ranged, tracks-itself, number-is, all, item, test}
 use lib.Ieee.Fits.{add-fits}
-use Rattle.arithmetic.specs.Decimals.{decimal, hundred}
-use Rattle.arithmetic.specs.Operators.{_⊖_, _⊘_}
-use Rattle.arithmetic.specs.Places.{places}
-use Rattle.arithmetic.proofs.CommonDenominator.{above, beneath}
-use Rattle.arithmetic.proofs.Counts.{over, under}
 use Rattle.arithmetic.proofs.Order.{number as isNumber, numbers-of-le, or-left, le-trans-double, Rises}
 use Rattle.arithmetic.proofs.Strict.{less-of-not-le, not-le-of-less}
 use Rattle.arithmetic.proofs.Sums.{sub-rises}
-use Rattle.arithmetic.proofs.Products.{div-rises}
-use Rattle.humid_air.specs.MoistAir.{icePoint}
-use Rattle.atmosphere.specs.Layers.{baseHeight, layerTemperature, isothermal, isothermalPressure, gradientPressure, layerAt, layerPressure, standardHeight, standardAir}
-use Rattle.exact.specs.Exact.{_⊞_, opposite, _⊠_, _÷_, the, number}
-use Rattle.exact.specs.Near.{Between}
-use Rattle.exact.proofs.Rounded.{N}
-use Rattle.exact.proofs.Tracks.{Bounds, Tracks}
-use Rattle.exact.proofs.Terms.{given, num, _minus_, _by_, analysed, none, _also_, tracks}
-use Rattle.exact.proofs.Ranges.{ranged, tracks-itself, number-is}
-use Rattle.exact.proofs.Tests.{all, item, test}
+use Rattle.exact.proofs.Terms.{num}
 
 -- ---- they are doubles
 pub kelvins-fit : (altitude : Float) → T (fits binary64 (standardAir places altitude .«temperature_k»))

@@ -1,25 +1,7 @@
 -- The standard temperature and pressure are near the exact ones from -500 to 11,000 m, in three parts. Assumes nothing.
-use Rattle.arithmetic.proofs.Kit.{T, lit≤, Float, span, climb, size, odd, units, round, ofFields, ofBits, neg, mul, div, lt, eq, le, fits}
-use Rattle.arithmetic.specs.Decimals.{decimal}
-use Rattle.arithmetic.proofs.CommonDenominator.{above, beneath}
-use Rattle.roots.specs.Root.{root, rootIn}
-use Rattle.antilog.specs.Log.{logBits, wordOfUnits}
-use Rattle.antilog.specs.Antilog.{antilogRoot, antilog}
-use Rattle.elementary.specs.Power.{power}
-use Rattle.exact.specs.Exact.{_⊠_, _÷_, the, _⊟_, number}
-use Rattle.exact.specs.Near.{Between, IsNear}
-use Rattle.exact.proofs.Rounded.{N}
-use Rattle.exact.proofs.Tests.{all}
-use Rattle.exact.proofs.NoFurther.{no-further}
-use Rattle.exact.proofs.Parts.{side}
-use Rattle.near.specs.Troposphere.{exponent, PressureRatio, exactPressure, exactTemperature}
-use Rattle.exact.proofs.PowerTracks.{Window, PowerEnds}
+use Rattle.near.proofs.Kit.{T, lit≤, Float, span, climb, size, odd, units, round, ofFields, ofBits, neg, mul, div, lt, eq, le, fits, decimal, above, beneath, root, rootIn, logBits, wordOfUnits, antilogRoot, antilog, power, _⊠_, _÷_, the, _⊟_, number, Between, IsNear, N, all, no-further, side, exponent, PressureRatio, exactPressure, exactTemperature, Window, PowerEnds, FromLayer, celsius, hectopascals, places, standardAir}
 use Rattle.near.proofs.StandardTerms.{pressurePower}
 use Rattle.near.proofs.StandardPart.{Near, Ordinary, tests, ordinary-tests, standard-near, ordinary}
-use Rattle.atmosphere.specs.declared.given.Reading.the-variants.{FromLayer}
-use Rattle.air.specs.Station.{celsius, hectopascals}
-use Rattle.arithmetic.specs.Places.{places}
-use Rattle.atmosphere.specs.Layers.{standardAir}
 
 -- a geometric altitude below the tropopause
 abbrev pub Low : Float → Type 0

@@ -1,24 +1,8 @@
 -- The standard temperature and pressure are near the exact ones, for an altitude between two ends that pass the tests. Assumes nothing.
-use Rattle.arithmetic.proofs.Kit.{_≡_, sym, subst, Bool, List, [], _∷_, _+_, _*_, _^_, T, leb, ltb, leb→le, ltb→lt, lit<, Float, ofBits, fits, lt, le}
-use Rattle.arithmetic.specs.Decimals.{decimal, hundred}
-use Rattle.arithmetic.specs.Operators.{_⊖_, _⊗_, _⊘_}
-use Rattle.arithmetic.proofs.Counts.{over, under}
+use Rattle.near.proofs.Kit.{_≡_, sym, subst, Bool, List, [], _∷_, _+_, _*_, _^_, T, leb, ltb, leb→le, ltb→lt, lit<, Float, ofBits, fits, lt, le, decimal, hundred, _⊖_, _⊗_, _⊘_, over, under, power, icePoint, geopotentialHeight, standardHeight, lowestHeight, highestHeight, standardAir, opposite, _⊟_, _÷_, the, number, IsNear, Between, of, N, Bounds, Tracks, Term, given, _minus_, _times_, _by_, asExact, analysed, none, _also_, tracks, ranged, near-of, ends, tracks-between, wider, widen, all, test, proper-sum, inside, tracks-below, tracks-inside, Window, exponentOf, baseBounds, PowerEnds, powerBounds, power-exists, tracks-constant-power}
 use Rattle.arithmetic.proofs.Order.{le-trans-double}
-use Rattle.elementary.specs.Power.{power}
-use Rattle.humid_air.specs.MoistAir.{icePoint}
-use Rattle.atmosphere.specs.Layers.{geopotentialHeight, standardHeight, lowestHeight, highestHeight, standardAir}
-use Rattle.exact.specs.Exact.{opposite, _⊟_, _÷_, the, number}
-use Rattle.exact.specs.Near.{IsNear, Between}
-use Rattle.exact.specs.Powers.{of}
-use Rattle.exact.proofs.Rounded.{N}
-use Rattle.exact.proofs.Tracks.{Bounds, Tracks}
-use Rattle.exact.proofs.Terms.{Term, given, num, _minus_, _times_, _by_, asExact, analysed, none, _also_, tracks}
-use Rattle.exact.proofs.Ranges.{ranged, near-of, ends, tracks-between, wider, widen}
-use Rattle.exact.proofs.Tests.{all, test}
-use Rattle.exact.proofs.Exists.{proper-sum}
+use Rattle.exact.proofs.Terms.{num}
 use Rattle.near.specs.Troposphere as Spec
-use Rattle.exact.proofs.Sides.{inside, tracks-below, tracks-inside}
-use Rattle.exact.proofs.PowerTracks.{Window, exponentOf, baseBounds, PowerEnds, powerBounds, power-exists, tracks-constant-power}
 use Rattle.near.proofs.StandardTerms.{pressurePower, height, temperature, ratio, lowest, same-base, height-is, temperature-is, pressure-is}
 
 -- ---- what is shown

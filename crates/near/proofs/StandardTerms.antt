@@ -1,21 +1,8 @@
 -- The lowest layer: its formulas, and what the standard air is at an altitude that lies in it. Assumes nothing.
-use Rattle.arithmetic.proofs.Kit.{_≡_, refl, ap, _∙_, ℕ, _<_, arith, T, Float, lt, ofBits, odd, ofFields, neg, mul, div, round, units, span, climb, size}
-use Rattle.arithmetic.specs.Decimals.{decimal}
-use Rattle.arithmetic.specs.Operators.{_⊕_, _⊖_, _⊗_, _⊘_}
-use Rattle.arithmetic.proofs.Counts.{under}
-use Rattle.elementary.specs.Exponents.{Exponent, ofDouble, pressureExponent}
-use Rattle.elementary.specs.Power.{power}
-use Rattle.atmosphere.specs.Layers.{geopotentialHeight, standardHeight, lowestHeight, highestHeight, layers, layerAt, layerAir, layerPressure, standardAir}
+use Rattle.near.proofs.Kit.{_≡_, refl, ap, _∙_, ℕ, _<_, arith, T, Float, lt, ofBits, odd, ofFields, neg, mul, div, round, units, span, climb, size, decimal, _⊕_, _⊖_, _⊗_, _⊘_, under, Exponent, ofDouble, pressureExponent, power, geopotentialHeight, standardHeight, lowestHeight, highestHeight, layers, layerAt, layerAir, layerPressure, standardAir, clampDouble, absDouble, Exact, _⊞_, _⊠_, _÷_, the, Between, Bounds, Tracks, Term, given, _plus_, _minus_, _times_, _by_, tracks-same, taken, clamp-kept, Power, exponentOf}
 use Rattle.atmosphere.specs.declared.layers.StandardAir.{StandardAir}
-use Rattle.arithmetic.specs.Doubles.{clampDouble, absDouble}
-use Rattle.exact.specs.Exact.{Exact, _⊞_, _⊠_, _÷_, the}
-use Rattle.exact.specs.Near.{Between}
-use Rattle.exact.proofs.Tracks.{Bounds, Tracks}
-use Rattle.exact.proofs.Terms.{Term, given, num, _plus_, _minus_, _times_, _by_}
-use Rattle.exact.proofs.Ranges.{tracks-same}
+use Rattle.exact.proofs.Terms.{num}
 use Rattle.near.specs.Troposphere as Spec
-use Rattle.exact.proofs.Kept.{taken, clamp-kept}
-use Rattle.exact.proofs.PowerTracks.{Power, exponentOf}
 
 -- ---- the formulas, of a geometric altitude
 abbrev pub height : Term

@@ -1,12 +1,5 @@
 -- The temperatures from -40 to 50 °C, and from 233.15 to 323.15 K, in six parts: narrow ones, for an analysis takes the worst of a whole part. Assumes nothing.
-use Rattle.arithmetic.proofs.Kit.{Bool, List, T, Float, span, climb, size, odd, units, round, ofFields, ofBits, lt, eq, le, neg, isNan}
-use Rattle.arithmetic.specs.Decimals.{decimal}
-use Rattle.roots.specs.Root.{root, rootIn}
-use Rattle.antilog.specs.Antilog.{antilogRoot, antilog}
-use Rattle.elementary.specs.Exp.{exp}
-use Rattle.exact.specs.Near.{Between}
-use Rattle.exact.proofs.Parts.{in-parts}
-use Rattle.exact.proofs.Tests.{all}
+use Rattle.near.proofs.Kit.{Bool, List, T, Float, span, climb, size, odd, units, round, ofFields, ofBits, lt, eq, le, neg, isNan, decimal, root, rootIn, antilogRoot, antilog, exp, Between, in-parts, all}
 
 -- its ends in °C and in K; a decimal above ln(p / p_c), and one above p / p_c
 pub record Part : Type 0 where

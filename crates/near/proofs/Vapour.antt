@@ -1,28 +1,9 @@
 -- The mole fraction of water vapour tracks the exact one: once for both paths by which a temperature and a pressure come to it, that of the density and that of
 -- the speed of sound. Assumes nothing.
-use Rattle.arithmetic.proofs.Kit.{_≡_, refl, sym, ap, _∙_, subst, Bool, true, false, cond, List, [], _∷_, ℕ, zero, suc, _+_, _*_, _≤_, _<_, le-refl, mul-pos, arith, ℤ, pos, T, leb, eqb, leb→le, eqb→eq, eqb·suc-zero, Float, nan, inf, fin, binary64, up, down, span, climb, size, odd, round, mul, div, ofFields, ofBits, fits, lt, eq, and-l, up-pos, down-pos, positive, finite, round-same}
-use Rattle.arithmetic.specs.Decimals.{decimal, nought, one, hundred}
-use Rattle.arithmetic.specs.Operators.{_⊗_, _⊘_}
-use Rattle.arithmetic.specs.Nearest.{unitsOf}
-use Rattle.arithmetic.proofs.CommonDenominator.{above, beneath}
-use Rattle.arithmetic.proofs.Counts.{over, under, Small, le-of-sides}
-use Rattle.arithmetic.proofs.Products.{unlike-plus}
+use Rattle.near.proofs.Kit.{_≡_, refl, sym, ap, _∙_, subst, Bool, true, false, cond, List, [], _∷_, ℕ, zero, suc, _+_, _*_, _≤_, _<_, le-refl, mul-pos, arith, ℤ, pos, T, leb, eqb, leb→le, eqb→eq, eqb·suc-zero, Float, nan, inf, fin, binary64, up, down, span, climb, size, odd, round, mul, div, ofFields, ofBits, fits, lt, eq, and-l, up-pos, down-pos, positive, finite, round-same, decimal, nought, one, hundred, _⊗_, _⊘_, unitsOf, above, beneath, over, under, Small, le-of-sides, unlike-plus, exp, saturationPressure, clampDouble, enhancementFactor, divisor, moleFraction, moleFractionOf, capped, Exact, _⊠_, _÷_, the, number, Between, of, Bounds, Tracks, Term, given, _plus_, _times_, _by_, _atLeast_, asDouble, asExact, analysed, none, _also_, tracks, ranged, tracks-between, times-assoc, all, item, test, not-taken, clamp-kept, isAbove, positive-tested, Saturation, exactSaturation}
 use Rattle.arithmetic.proofs.Strict.{not-le-of-less}
-use Rattle.elementary.specs.Exp.{exp}
-use Rattle.humid_air.specs.Saturation.{saturationPressure}
-use Rattle.arithmetic.specs.Doubles.{clampDouble}
-use Rattle.humid_air.specs.MoistAir.{enhancementFactor, divisor, moleFraction, moleFractionOf, capped}
-use Rattle.exact.specs.Exact.{Exact, _⊠_, _÷_, the, number}
-use Rattle.exact.specs.Near.{Between}
-use Rattle.exact.specs.Powers.{of}
-use Rattle.exact.proofs.Tracks.{Bounds, Tracks}
-use Rattle.exact.proofs.Terms.{Term, given, num, _plus_, _times_, _by_, _atLeast_, asDouble, asExact, analysed, none, _also_, tracks}
-use Rattle.exact.proofs.Ranges.{ranged, tracks-between, times-assoc}
-use Rattle.exact.proofs.Tests.{all, item, test}
-use Rattle.exact.proofs.Kept.{not-taken, clamp-kept}
-use Rattle.exact.proofs.Above.{isAbove, positive-tested}
+use Rattle.exact.proofs.Terms.{num}
 use Rattle.near.specs.Density as Spec
-use Rattle.near.specs.Saturation.{Saturation, exactSaturation}
 use Rattle.near.proofs.Temperatures.{Part, Below}
 use Rattle.near.proofs.Saturated.{checks, ratio-bounds, y, tracks-ratio, is-pressure}
 

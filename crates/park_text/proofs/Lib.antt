@@ -1,11 +1,15 @@
 -- What is printed for words, and how long it is.
 pub mod Short
 pub mod Said
-pub mod Names
+pub mod Chosen
+pub mod Numerators
 pub mod OneWord
 pub mod Split
-pub mod Ranged
+pub mod Numbers
+pub mod Places
+pub mod Kept
 pub mod Noted
+pub mod Seven
 pub mod Told
 pub mod Tied
 pub mod LinesShort

@@ -10,7 +10,8 @@ use Rattle.park_text.specs.Understood.{understand, answerFor}
 use Rattle.pages.proofs.Same.{Compared, compared}
 use Rattle.park_text.proofs.Split.{some-word}
 use Rattle.park_text.proofs.Told.{told-given, told-wrong}
-use Rattle.park_text.specs.ParkText.{problemLine, usageText, said, sheetWords, readingsWords, parkText}
+use Rattle.park_text.specs.ParkLines.{problemLine}
+use Rattle.park_text.specs.ParkText.{usageText, isHelp, said, sheetWords, readingsWords, typedText, parkText}
 
 -- ---- words that are understood or not, where `text` is printed of their readings
 module _ (text : Readings → List ℕ) (ws : List (List ℕ)) (a : TypedReadings) (read : a ≡ answerFor (understand ws)) where
@@ -27,27 +28,18 @@ no-word [] h = refl
 no-word (b ∷ s) h = absurd (omega arith)
 
 module _ (s : List ℕ) (some : 0 < length s) where
-  parted : arguments s ≡ getD (arguments s) 0 [] ∷ drop 1 (arguments s)
+  pub parted : arguments s ≡ getD (arguments s) 0 [] ∷ drop 1 (arguments s)
   parted = go (arguments s) (some-word s some)
     where
       go : (ws : List (List ℕ)) {w : List ℕ} {rest : List (List ℕ)} → ws ≡ w ∷ rest → ws ≡ getD ws 0 [] ∷ drop 1 ws
       go [] e = let z : _≡_ {A = ℕ} 0 1 = cc in absurd (omega arith)
       go (v ∷ vs) e = refl
 
-  by-first : {r : Bool} → Compared (getD (arguments s) 0 []) (ascii "sheet") r
-      → cond r (sheetWords (drop 1 (arguments s))) (readingsWords (getD (arguments s) 0 [] ∷ drop 1 (arguments s))) ≡ parkText (arguments s)
+  pub by-help : {b : Bool} → isHelp (getD (arguments s) 0 []) ≡ b
+      → cond b usageText (typedText (getD (arguments s) 0 []) (drop 1 (arguments s))) ≡ parkText (arguments s)
   unfolding parkText
-  by-first {r} h =
-      ap (λ (b : Bool). cond b (sheetWords (drop 1 (arguments s))) (readingsWords (getD (arguments s) 0 [] ∷ drop 1 (arguments s))))
-      (sym (compared (getD (arguments s) 0 []) (ascii "sheet") r h))
-      ∙ ap parkText (sym parted)
+  by-help h = ap (λ (b : Bool). cond b usageText (typedText (getD (arguments s) 0 []) (drop 1 (arguments s)))) (sym h) ∙ ap parkText (sym parted)
 
-  pub for-a-sheet : {r : Bool} → Compared (getD (arguments s) 0 []) (ascii "sheet") r → r ≡ true → sheetWords (drop 1 (arguments s)) ≡ parkText (arguments s)
-  for-a-sheet h is =
-      ap (λ (b : Bool). cond b (sheetWords (drop 1 (arguments s))) (readingsWords (getD (arguments s) 0 [] ∷ drop 1 (arguments s)))) (sym is) ∙ by-first h
-
-  pub for-readings : {r : Bool} → Compared (getD (arguments s) 0 []) (ascii "sheet") r → r ≡ false → readingsWords (arguments s) ≡ parkText (arguments s)
-  for-readings h is =
-      ap readingsWords parted
-      ∙ ap (λ (b : Bool). cond b (sheetWords (drop 1 (arguments s))) (readingsWords (getD (arguments s) 0 [] ∷ drop 1 (arguments s)))) (sym is)
-      ∙ by-first h
+pub by-first : (w : List ℕ) (ws : List (List ℕ)) {r : Bool} → Compared w (ascii "sheet") r → cond r (sheetWords ws) (readingsWords (w ∷ ws)) ≡ typedText w ws
+unfolding typedText
+by-first w ws {r} h = ap (λ (b : Bool). cond b (sheetWords ws) (readingsWords (w ∷ ws))) (sym (compared w (ascii "sheet") r h))

@@ -1,7 +1,7 @@
 -- The words of a text one after the other: the first one ends at the first newline, and the others are those of what follows it. Assumes nothing.
 use Rattle.arithmetic.proofs.Kit.{_≡_, refl, sym, ap, ap₂, _∙_, Bool, true, false, not, List, [], _∷_, ℕ, suc, _+_, _-_, _≤_, _<_, min, arith, T, eqb, leb, leb→le, nleb→lt, length, take, drop, length-drop, drop-of-length-le, drop-drop}
 use Rattle.bytes.specs.Bytes.{indexOf, indexAfter, slice}
-use Rattle.park_text.proofs.OneWord.{found}
+use Rattle.questions.proofs.Found.{found}
 use Rattle.park_text.specs.Words.{before, arguments}
 
 -- ---- the first word and the others

@@ -1,11 +1,8 @@
 -- What is typed and what is judged are tied, by what the words leave in the readings and by the laws of the writer. Assumes nothing.
-use Rattle.arithmetic.proofs.Kit.{_≡_, refl, sym, ap, subst, _∙_, true, false, List, List·Memᴰ, _⊎_, inl, inr, ℕ, arith, ℤ, Float}
+use Rattle.arithmetic.proofs.Kit.{_≡_, refl, sym, ap, ap₂, subst, _∙_, true, false, List, List·Memᴰ, _⊎_, inl, inr, ℕ, arith, T, Float, binary64, fits, drop}
 use Rattle.refusal.specs.Outcomes.{Outcome, accepted, _⟫_}
-use Rattle.thousandths.specs.Thousandths.{countOf, twosComplement, thousandths}
-use Rattle.thousandths.proofs.Words.{twos-complement}
 use Rattle.decimals.specs.Typed.{typed}
 use Rattle.fields.specs.declared.fields.Value.{Value}
-use Rattle.fields.specs.declared.fields.Value.the-variants.{Count}
 use Rattle.record.specs.declared.entries.Entry.the-variants as entry
 use Rattle.record.specs.declared.entries.Stored.{Stored}
 use Rattle.record.specs.declared.entries.Stored.the-variants.{Absent, Present}
@@ -19,11 +16,14 @@ use Rattle.writer.proofs.Passed.{no-stored}
 use Rattle.writer.proofs.ReadBack.{read-back}
 use Rattle.mast.specs.Judge.{judged, judge}
 use Rattle.park_text.specs.Understood.{given, understand}
-use Rattle.park_text.specs.Word.{Says}
+use Rattle.park_text.specs.declared.units.Unit.{Unit}
+use Rattle.park_text.specs.declared.units.Named.the-variants.{Known}
+use Rattle.park_text.specs.Units.{unitNamed, placesOf, readingIn}
+use Rattle.park_text.specs.Word.{numberLength, valueIn, Says}
 use Rattle.park_text.specs.Laws.{Nearest, Typed}
 use Rattle.park_text.proofs.Stated.{Said, TypedIsJudged}
-use Rattle.park_text.proofs.Ranged.{typed-in-range}
-use Rattle.park_text.proofs.OneWord.{says-read, counted-value, spoken}
+use Rattle.park_text.proofs.Kept.{reading-fits, kept}
+use Rattle.park_text.proofs.OneWord.{parted, spoken}
 use Rattle.park_text.proofs.Noted.{Source, From, from-words}
 
 module _ (ws : List (List ℕ)) (r : Readings) (e : understand ws ≡ given r) where
@@ -34,19 +34,26 @@ module _ (ws : List (List ℕ)) (r : Readings) (e : understand ws ≡ given r) w
   every-word w there =
       let n = from .each w there in
       let s = spoken w (n .is) in
-      record { meaning = n .meaning; decimal = s .decimal; says = s .says }
+      record { meaning = n .meaning; unit = s .unit; decimal = s .decimal; says = s .says }
 
-  -- a count that is stored means the double nearest to it
-  is-reading : (w : List ℕ) (m : ℕ) (d : List ℕ) → List·Memᴰ w ws → Says w m d → Nearest r m d
-  is-reading w m d there says =
+  -- there is one way to read a word, and its reading is kept
+  is-reading : (w : List ℕ) (m : ℕ) (u : Unit) (d : List ℕ) → List·Memᴰ w ws → Says w m u d → Nearest r m u d
+  is-reading w m u d there says =
       let n = from .each w there in
-      let value = counted-value m (typed d) (sym (says-read w m d says) ∙ n .is) in
-      let same : countOf (n .count) ≡ value .count =
-      ap countOf (value .stored) ∙ twos-complement .countOfWord (value .count) (typed-in-range d (value .count) (value .read)) in
+      let s = spoken w (n .is) in
+      let typed-so = parted w m u d says in
+      let read-so = parted w (n .meaning) (s .unit) (s .decimal) (s .says) in
+      let meant : m ≡ n .meaning = sym (typed-so .meaning) ∙ read-so .meaning in
+      let number : d ≡ s .decimal = sym (typed-so .number) ∙ read-so .number in
+      let units : Known u ≡ Known (s .unit) =
+      sym (typed-so .unit) ∙ ap (λ (k : ℕ). unitNamed k (drop (numberLength (valueIn w)) (valueIn w))) meant ∙ read-so .unit in
+      let unit : u ≡ s .unit = cc in
+      let held-so = subst (λ (x : Float). T (fits binary64 x)) (sym (s .reading)) (reading-fits (s .unit) (s .count)) in
       record {
-        count = value .count;
-        read = value .read;
-        entry = ap (entryOf r) (value .meant) ∙ ap entryFor (n .stored) ∙ ap (λ (k : ℤ). entry.Present (thousandths k)) same;
+        count = s .count;
+        read = ap₂ (λ (v : Unit) (l : List ℕ). typed (placesOf v) l) unit number ∙ s .read;
+        entry = ap (entryOf r) meant ∙ ap entryFor (n .stored)
+            ∙ ap entry.Present (kept (n .reading) held-so .0 ∙ s .reading ∙ ap (λ (v : Unit). readingIn v (s .count)) (sym unit));
       }
 
   -- nothing was stored before the words
@@ -65,14 +72,14 @@ module _ (ws : List (List ℕ)) (r : Readings) (e : understand ws ≡ given r) w
       go (Present v) told h =
           let s = source m v told in
           let w = spoken (s .word) (s .is) in
-          record { word = s .word; decimal = w .decimal; there = s .there; says = w .says }
+          record { word = s .word; unit = w .unit; decimal = w .decimal; there = s .there; says = w .says }
 
   held : (m : ℕ) (v : Value) → storedOf r m ≡ Present v → IsHeld v
   held m v told =
       let s = source m v told in
       let w = spoken (s .word) (s .is) in
-      let is : twosComplement (w .count) ≡ s .count = sym (w .stored) in
-      subst IsHeld (ap Count is ∙ sym (s .value)) (twos-complement .wordInRange (w .count) (typed-in-range (w .decimal) (w .count) (w .read)))
+      let held-so = subst (λ (x : Float). T (fits binary64 x)) (sym (w .reading)) (reading-fits (w .unit) (w .count)) in
+      subst IsHeld (sym (s .value)) (kept (s .reading) held-so .1)
 
   read-strictly : readRecord true (recordOf r) ≡ accepted r
   read-strictly = read-back r record { all = from .all; values = held }

@@ -1,70 +1,45 @@
--- What the program `park` prints for its words: the report of the readings; or the setting sheet under a heading, where the first word is
--- `sheet`; or one line on the first word that is not understood; or how it is used, where there is no word. Definitions only.
+-- What the program `park` prints for its words: the report of the readings; or the sheet to pin up, where the first word is
+-- `sheet`; or one line on the first word that is not understood; or how it is used, where there is no word or help is asked for. Definitions only.
 use Prim.Native.Nat.{ℕ}
-use mathlib.Core.Bool.{Bool, _||_, cond}
+use mathlib.Core.Bool.{Bool, false, _||_, cond}
 use mathlib.Core.List.{List, [], _∷_, _++_}
-use lib.Ieee.{Float}
-use lib.ListN.{getD, take}
-use Rattle.refusal.specs.Outcomes.{Outcome, accepted, refused}
-use Rattle.record.specs.declared.entries.Entry.{Entry}
-use Rattle.record.specs.declared.entries.Entry.the-variants.{Absent, Present}
+use lib.ListN.{getD}
 use Rattle.record.specs.declared.entries.Readings.{Readings}
-use Rattle.fields.specs.Fields.{altitude, temperature, stationPressure, qnh, humidity, densityAltitude, measuredPressure}
-use Rattle.record.specs.Entries.{entryOf, valueOrZero}
-use Rattle.mast.specs.Checks.{has}
 use Rattle.pages.specs.Characters.{same}
 use Rattle.arithmetic.specs.Ascii.{ascii}
-use Rattle.sheet.specs.Sheet.{settingSheet}
-use Rattle.report.specs.SheetRefusal.{refusedText}
+use Rattle.report.specs.declared.Origin.the-variants.{Words}
 use Rattle.report.specs.Report.{reportText}
-use Rattle.park_text.specs.ParkLines.{messageOf, heading}
-use Rattle.park_text.specs.declared.typed_word.Problem.{Problem}
+use Rattle.sheet_text.specs.SheetText.{sheetOf}
+use Rattle.park_text.specs.declared.typed_word.Word.{Word}
+use Rattle.park_text.specs.declared.typed_word.Word.the-variants.{Reading, Wrong}
+use Rattle.park_text.specs.Word.{readWord}
+use Rattle.park_text.specs.ParkLines.{problemLine, unitLine}
 use Rattle.park_text.specs.Understood.{Understood, given, problem, understand}
 
--- ---- a word that is not understood: its first 64 bytes in quotes, what is wrong and what is expected
-unfoldable pub problemLine : List ℕ → Problem → List ℕ
-problemLine w p = ascii "\"" ++ take 64 w ++ ascii "\"" ++ messageOf p
-
--- ---- no word
+-- ---- no word, or one that asks for help
 unfoldable pub usageText : List ℕ
 usageText =
     ascii "usage: park altitude=1586 temperature=24 qnh=1019.3 humidity=32\n" ++
     ascii "       park sheet altitude=1586 pressure=841.9 humidity=32\n" ++
-    ascii "words in any order, each a number with up to three decimals:\n" ++
-    ascii "  altitude=          m\n" ++
-    ascii "  temperature=       C\n" ++
-    ascii "  pressure=          hPa, measured at the station\n" ++
-    ascii "  station-pressure=  hPa, of a mast that sends 1013.25 until it is set up\n" ++
-    ascii "  qnh=               hPa\n" ++
-    ascii "  humidity=          percent\n" ++
-    ascii "  density-altitude=  m, in place of altitude and pressure\n"
+    ascii "words in any order, each a number with up to three decimals and, if you like,\n" ++
+    ascii "its unit, the first of these where none is written:\n" ++
+    ascii "  altitude=          m, ft\n" ++
+    ascii "  temperature=       C, F, K\n" ++
+    ascii "  pressure=          hPa, kPa, inHg; measured at the station\n" ++
+    ascii "  station-pressure=  hPa, kPa, inHg; of a mast that sends 1013.25 until it is set\n" ++
+    ascii "                     up: 1012.75 to 1013.75 counts as the standard pressure\n" ++
+    ascii "  qnh=               hPa, kPa, inHg\n" ++
+    ascii "  humidity=          percent, %; dry air where it is absent\n" ++
+    ascii "  density-altitude=  m, ft; in place of altitude and pressure\n" ++
+    ascii "a temperature from 14.9 to 15.1 C counts as the standard one; a note says so\n" ++
+    ascii "sheet prints a page of densities to pin up, for one of the three pressures\n"
 
--- ---- a sheet: altitude h in m, measured pressure p in hPa, humidity u in percent
--- the rows of document 02, K1, or why there are none
-abbrev pub under : List ℕ → Outcome (List ℕ) → List ℕ
-under head (accepted rows) = head ++ rows
-under head (refused number values) = refusedText number
+-- ---- a command line that is not read
+abbrev pub tooLongText : List ℕ
+tooLongText = ascii "the command line is too long: at most 4,096 bytes, a newline counted for each word\n"
 
-unfoldable pub sheetPage : Float → Float → Float → List ℕ
-sheetPage h p u = under (heading h p u) (settingSheet h p u 1530)
-
-abbrev pub sheetNeeds : List ℕ
-sheetNeeds = ascii "a sheet needs altitude= and pressure=, as park sheet altitude=1586 pressure=841.9 humidity=32\n"
-
-abbrev pub sheetOnly : List ℕ
-sheetOnly = ascii "a sheet takes altitude=, pressure= and humidity= and no other word\n"
-
--- absent humidity is 0
-unfoldable pub sheetFor : Entry → Entry → Entry → List ℕ
-sheetFor Absent p u = sheetNeeds
-sheetFor (Present h) Absent u = sheetNeeds
-sheetFor (Present h) (Present p) u = sheetPage h p (valueOrZero u)
-
-abbrev pub hasOther : Readings → Bool
-hasOther r = has r temperature || has r stationPressure || has r qnh || has r densityAltitude
-
-unfoldable pub sheetOf : Readings → List ℕ
-sheetOf r = cond (hasOther r) sheetOnly (sheetFor (entryOf r altitude) (entryOf r measuredPressure) (entryOf r humidity))
+abbrev pub isHelp : List ℕ → Bool
+isHelp w = (same w (ascii "help") || same w (ascii "--help")) || same w (ascii "-h")
 
 -- ---- the words: the text of their readings, or the line on the first that is not understood
 abbrev pub said : (Readings → List ℕ) → List (List ℕ) → Understood → List ℕ
@@ -74,9 +49,29 @@ said text ws (problem p i) = problemLine (getD ws i []) p
 unfoldable pub sheetWords : List (List ℕ) → List ℕ
 sheetWords ws = said sheetOf ws (understand ws)
 
+-- the lines of the readings whose units were written, in the order of the words, and the report
+unfoldable pub unitLines : List (List ℕ) → List ℕ
+unitLines [] = []
+unitLines (w ∷ ws) = unitLine w (readWord w) ++ unitLines ws
+
+-- whether the altitude was typed with a point that may mean thousands
+abbrev pub pointTyped : Word → Bool
+pointTyped (Reading m x written point) = point
+pointTyped (Wrong p) = false
+
+unfoldable pub anyPoint : List (List ℕ) → Bool
+anyPoint [] = false
+anyPoint (w ∷ ws) = pointTyped (readWord w) || anyPoint ws
+
+abbrev pub reportOf : List (List ℕ) → Readings → List ℕ
+reportOf ws r = unitLines ws ++ reportText (Words (anyPoint ws)) r
+
 unfoldable pub readingsWords : List (List ℕ) → List ℕ
-readingsWords ws = said reportText ws (understand ws)
+readingsWords ws = said (reportOf ws) ws (understand ws)
+
+unfoldable pub typedText : List ℕ → List (List ℕ) → List ℕ
+typedText w ws = cond (same w (ascii "sheet")) (sheetWords ws) (readingsWords (w ∷ ws))
 
 unfoldable pub parkText : List (List ℕ) → List ℕ
 parkText [] = usageText
-parkText (w ∷ ws) = cond (same w (ascii "sheet")) (sheetWords ws) (readingsWords (w ∷ ws))
+parkText (w ∷ ws) = cond (isHelp w) usageText (typedText w ws)

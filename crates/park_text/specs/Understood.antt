@@ -2,7 +2,12 @@
 use Prim.Native.Nat.{ℕ, _+_}
 use mathlib.Core.Bool.{cond}
 use mathlib.Core.List.{List, [], _∷_}
-use Rattle.fields.specs.declared.fields.Value.the-variants.{Count}
+use lib.Ieee.{Float}
+use Rattle.thousandths.specs.declared.Counted.{Counted}
+use Rattle.thousandths.specs.declared.Counted.the-variants as counted
+use Rattle.thousandths.specs.Thousandths.{twosComplement, countFor}
+use Rattle.fields.specs.declared.fields.Value.{Value}
+use Rattle.fields.specs.declared.fields.Value.the-variants.{Double, Count}
 use Rattle.record.specs.declared.entries.Readings.{Readings}
 use Rattle.record.specs.Entries.{noReadings, isPresent, entryOf, withValue}
 use Rattle.park_text.specs.declared.typed_word.Problem.{Problem}
@@ -23,9 +28,17 @@ abbrev pub _⟫_ : Understood → (Readings → Understood) → Understood
 given r ⟫ next = next r
 problem p i ⟫ next = problem p i
 
+-- a reading as it is kept: the count of thousandths whose double it is, where there is one
+abbrev pub keptAs : Float → Counted → Value
+keptAs x (counted.Count n) = Count (twosComplement n)
+keptAs x counted.Missing = Double x
+
+unfoldable pub valueOf : Float → Value
+valueOf x = keptAs x (countFor x)
+
 -- word i after those that gave r
 abbrev pub withTyped : Readings → ℕ → Word → Understood
-withTyped r i (word.Reading m n) = cond (isPresent (entryOf r m)) (problem RepeatedWord i) (given (withValue r m (Count n)))
+withTyped r i (word.Reading m x written point) = cond (isPresent (entryOf r m)) (problem RepeatedWord i) (given (withValue r m (valueOf x)))
 withTyped r i (word.Wrong p) = problem p i
 
 unfoldable pub understandFrom : ℕ → Readings → List (List ℕ) → Understood

@@ -1,12 +1,12 @@
-// The words of a command line, as `altitude=1586`, understood as readings: counts of thousandths by
-// meaning, or the first word that is none and why. The words come as one text, each ended by a newline,
+// The words of a command line, as `altitude=1586`, understood as readings by meaning, or the first word
+// that is none and why. The words come as one text, each ended by a newline,
 // the last one with or without it, so that a text of no bytes has no word.
 ghost use mathlib.Core.Path.{_≡_};
 ghost use mathlib.Core.List.{[]};
 ghost use Prim.Native.Nat.{_+_, min};
 ghost use lib.ListN.{length, getD};
 ghost use Rattle.park_text.specs.Words.{arguments, ArgumentStarts};
-ghost use Rattle.park_text.specs.Understood.{problem, withTyped, understand, answerFor};
+ghost use Rattle.park_text.specs.Understood.{valueOf, problem, withTyped, understand, answerFor};
 use crate::typed_word::Problem;
 use crate::typed_word::Word;
 use crate::typed_word::read_word;
@@ -17,6 +17,9 @@ use record::entries::entry_of;
 use record::entries::is_present;
 use record::entries::no_readings;
 use record::entries::with_value;
+use thousandths::Counted;
+use thousandths::count_of;
+use thousandths::word_from;
 
 // Whether all words were understood, or what is wrong with the first that was not, and its number,
 // counted from 0.
@@ -41,26 +44,36 @@ fn wrong(what: Problem, number: usize) -> TypedReadings
     }
 }
 
+// A reading as it is kept: the count of thousandths whose double it is, where there is one.
+fn value_of(x: f64) -> Value
+    ensures { λ r. ⌜ r ≡ valueOf x ⌝ }
+{
+    match count_of(x) {
+        Counted::Count(n) => Value::Count(word_from(n)),
+        Counted::Missing => Value::Double(x),
+    }
+}
+
 // The readings with those of one word more.
 fn with_word(readings: Readings, word: Word, number: usize) -> TypedReadings
     ensures { λ r. ⌜ r ≡ answerFor (withTyped readings number word) ⌝ }
 {
     match word {
         Word::Wrong(problem) => wrong(problem, number),
-        Word::Reading(meaning, count) => {
+        Word::Reading(meaning, x, _, _) => {
             if is_present(entry_of(readings, meaning)) {
                 return wrong(Problem::RepeatedWord, number);
             }
             TypedReadings {
                 check: WordCheck::Passed,
-                readings: with_value(readings, meaning, Value::Count(count)),
+                readings: with_value(readings, meaning, value_of(x)),
             }
         }
     }
 }
 
 // The position after the newline at `end`, or the text's end.
-fn after_newline(text: &[u8], end: usize) -> usize
+pub(crate) fn after_newline(text: &[u8], end: usize) -> usize
     ensures { λ r. ⌜ r ≡ min (end + 1) (length (now (text .entry))) ⌝ }
 {
     if end < text.len() {

@@ -31,14 +31,14 @@ unfolding countFor ifExact counted nearestThousandth thousandths round ofBits to
 minus-zero = refl
 
 -- ---- typed decimals
-pub typed-decimals : (typed (ascii "1586") ≡ typed-as.Count (pos 1586000)) × (typed (ascii "-15.25") ≡ typed-as.Count (negsuc 15249)) × (typed (ascii "-0") ≡ typed-as.Count (pos 0))
+pub typed-decimals : (typed 3 (ascii "1586") ≡ typed-as.Count (pos 1586000)) × (typed 3 (ascii "-15.25") ≡ typed-as.Count (negsuc 15249)) × (typed 3 (ascii "-0") ≡ typed-as.Count (pos 0))
 unfolding typed afterSign afterWhole withDecimals inCounts numberFrom digitsIn counted
 typed-decimals = (refl, refl, refl)
 
-pub typed-ends : (typed (ascii "2147483.647") ≡ typed-as.Count (pos 2147483647)) × (typed (ascii "2147483.648") ≡ typed-as.OutOfRange) × (typed (ascii "1.2345") ≡ typed-as.TooManyDecimals)
+pub typed-ends : (typed 3 (ascii "2147483.647") ≡ typed-as.Count (pos 2147483647)) × (typed 3 (ascii "2147483.648") ≡ typed-as.OutOfRange) × (typed 3 (ascii "1.2345") ≡ typed-as.TooManyDecimals)
 unfolding typed afterSign afterWhole withDecimals inCounts numberFrom digitsIn counted
 typed-ends = (refl, refl, refl)
 
-pub typed-badly : (typed (ascii "") ≡ typed-as.NotANumber) × (typed (ascii ".5") ≡ typed-as.NotANumber) × (typed (ascii "5.") ≡ typed-as.NotANumber) × (typed (ascii "1e3") ≡ typed-as.NotANumber)
+pub typed-badly : (typed 3 (ascii "") ≡ typed-as.NotANumber) × (typed 3 (ascii ".5") ≡ typed-as.NotANumber) × (typed 3 (ascii "5.") ≡ typed-as.NotANumber) × (typed 3 (ascii "1e3") ≡ typed-as.NotANumber)
 unfolding typed afterSign afterWhole withDecimals inCounts numberFrom digitsIn counted
 typed-badly = (refl, refl, refl, refl)

@@ -4,7 +4,9 @@ use Rattle.antilog.specs.Log.{logWord}
 use Rattle.arithmetic.specs.Places.{places}
 use Rattle.atmosphere.specs.declared.given.Reading.{Reading}
 use Rattle.atmosphere.specs.declared.given.Reading.the-variants.{Given, FromLayer}
-use Rattle.promises.specs.Promises.{IsDouble, IsRead, Asked, Warmed, Document01, Demand3, K1, K2, K4, K5, K6, K7, K8, K9, K10, K13, K14, Near, AltitudesNear, AtThePark, Promises, K3, K11, Reports, Decimals}
+use Rattle.promises.specs.Promises.{IsDouble, IsRead, Asked, Warmed, Document01, Demand3, K1, K2, K4, K5, K6, K7, K8, K9, K10, K13, K14, Near, AltitudesNear, AtThePark, Promises, K3, K11, Reports, Arrays, Decimals}
+use Rattle.notes.specs.Notes.{notes, noteLines}
+use Rattle.notes.proofs.Exactly as exactly
 use Rattle.density_altitude.specs.Inverse.{station}
 use Rattle.density_order.specs.Order.{Demand₃}
 use Rattle.density_order.specs.Warmer.{InBetween}
@@ -28,6 +30,7 @@ use Rattle.atmosphere.specs.Layers.{layerAt}
 use Rattle.record_laws.proofs.Strict as strict
 use Rattle.record_laws.proofs.Converted as converted
 use Rattle.writer.proofs.ReadBack as writer
+use Rattle.exports.proofs.ReadWritten as interface
 use Rattle.writer.proofs.ComesBack as back
 use Rattle.writer.proofs.OnlyToCounts as counts
 use Rattle.thousandths.proofs.Laws as thousandths
@@ -382,6 +385,9 @@ at-the-park = record {
   word-is-reading = λ ws r e. tied.typed-is-judged ws r e .isReading;
   no-other = λ ws r e. tied.typed-is-judged ws r e .wasTyped;
   record-judged = λ ws r e. tied.typed-is-judged ws r e .isJudged;
+  notes-are-lines = λ point r f. unfold noteLines in exactly.exactly (notes point r f) .text;
+  note-has-its-row = λ point r f. exactly.exactly (notes point r f) .because;
+  row-has-its-note = λ point r f. exactly.exactly (notes point r f) .wherever;
 }
 
 reports : Reports
@@ -390,6 +396,14 @@ reports = record {
   named-alone = named.named-alone;
   named-11 = named.named-11;
   named-12 = named.named-12;
+}
+
+arrays : Arrays
+arrays = record {
+  written-of-read = interface.written-of-read;
+  same-bytes = interface.same-bytes;
+  read-of-written = interface.read-of-written;
+  read-as = interface.read-as;
 }
 
 decimals : Decimals
@@ -422,5 +436,6 @@ promises = record {
   altitudes-near = altitudes-near;
   at-the-park = at-the-park;
   reports = reports;
+  arrays = arrays;
   decimals = decimals;
 }

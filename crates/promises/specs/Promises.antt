@@ -90,12 +90,16 @@ use Rattle.arithmetic.specs.Ascii.{ascii}
 use Rattle.text.specs.Text.{answerText}
 use Rattle.text.specs.Samples.{bigEndian, doubleField}
 use Rattle.decimals.specs.Decimal.{decimalText}
+use Rattle.report.specs.declared.Origin.the-variants.{Record}
+use Rattle.notes.specs.Notes.{notes, noteLines}
+use Rattle.notes.specs.Laws as noted
 use Rattle.report.specs.Report.{reportText}
 use Rattle.decimals.specs.Typed.{typed}
 use Rattle.decimals.specs.declared.typed.Typed.the-variants as typed-as
 use Rattle.arithmetic.specs.Decimals.{decimal, nought, hundred, fraction}
 use Rattle.park_text.specs.Understood.{given, understand}
 use Rattle.park_text.specs.Laws.{Nearest, Typed}
+use Rattle.park_text.specs.declared.units.Unit.{Unit as TypedUnit}
 use Rattle.park_text.specs.Word.{Says}
 use Rattle.arithmetic.specs.Operators.{_⊖_, _⊘_}
 use Rattle.humid_air.specs.MoistAir.{icePoint, capped, airDensityAt}
@@ -119,6 +123,9 @@ use Rattle.near.specs.Troposphere as troposphere
 use Rattle.near.specs.Qnh as reduction
 use Rattle.near.specs.PressureAltitude as nws
 use Rattle.near.specs.DensityAltitude as matched
+use Rattle.exports.specs.Records.{arrayReadings, arrayRecord}
+use Rattle.exports.specs.Reads.{readIn}
+use Rattle.exports.specs.Laws.{AreNumbers, NoneIsNan, writtenOf, ReadAs}
 
 -- a double, and a reading that is one if it is given
 abbrev pub IsDouble : Float → Type 0
@@ -519,15 +526,19 @@ pub record AltitudesNear : Type 0 where
 -- ---- typed at the park
 pub record AtThePark : Type 0 where
   -- decimals as they are typed, and whole reports
-  pub typed-decimals : (typed (ascii "1586") ≡ typed-as.Count (pos 1586000)) × (typed (ascii "-15.25") ≡ typed-as.Count (negsuc 15249)) × (typed (ascii "-0") ≡ typed-as.Count (pos 0))
-  pub typed-ends : (typed (ascii "2147483.647") ≡ typed-as.Count (pos 2147483647)) × (typed (ascii "2147483.648") ≡ typed-as.OutOfRange) × (typed (ascii "1.2345") ≡ typed-as.TooManyDecimals)
-  pub typed-badly : (typed (ascii "") ≡ typed-as.NotANumber) × (typed (ascii ".5") ≡ typed-as.NotANumber) × (typed (ascii "5.") ≡ typed-as.NotANumber) × (typed (ascii "1e3") ≡ typed-as.NotANumber)
-  pub report-at-sea-level : reportText (withEntry noReadings meaning.altitude nought)
-      ≡ ascii "altitude                             0.0 m\ntemperature                        15.00 C\nstation pressure                 1013.25 hPa\ndensity                           1.2255 kg/m3\nspeed of sound                     340.3 m/s\npressure altitude                    0.0 m\ndensity-matched altitude             0.0 m\nvapour mole fraction            0.000000 mol/mol\ntrim class 5\nfor the next class, give temperature and measured pressure\nin the range for which CIPM-2007 states its formula\nrecord 0100080000000000000000\n"
-  -- a word's decimal is the reading, and there is no other; the record that a new mast would send is judged as the readings are
-  pub word-is-reading : (ws : List (List ℕ)) (r : Readings) → understand ws ≡ given r → (w : List ℕ) (m : ℕ) (d : List ℕ) → List·Memᴰ w ws → Says w m d → Nearest r m d
+  pub typed-decimals : (typed 3 (ascii "1586") ≡ typed-as.Count (pos 1586000)) × (typed 3 (ascii "-15.25") ≡ typed-as.Count (negsuc 15249)) × (typed 3 (ascii "-0") ≡ typed-as.Count (pos 0))
+  pub typed-ends : (typed 3 (ascii "2147483.647") ≡ typed-as.Count (pos 2147483647)) × (typed 3 (ascii "2147483.648") ≡ typed-as.OutOfRange) × (typed 3 (ascii "1.2345") ≡ typed-as.TooManyDecimals)
+  pub typed-badly : (typed 3 (ascii "") ≡ typed-as.NotANumber) × (typed 3 (ascii ".5") ≡ typed-as.NotANumber) × (typed 3 (ascii "5.") ≡ typed-as.NotANumber) × (typed 3 (ascii "1e3") ≡ typed-as.NotANumber)
+  pub report-at-sea-level : reportText Record (withEntry (withEntry noReadings meaning.altitude nought) meaning.temperature (decimal "21.1"))
+      ≡ ascii "altitude                             0.0 m\ntemperature                        21.10 C\nstation pressure                1013.250 hPa\ndensity                           1.2000 kg/m3, the reference for the trim table\nspeed of sound                     343.9 m/s\npressure altitude                    0.0 m\ndensity-matched altitude           218.3 m\nvapour mole fraction            0.000000 mol/mol\ntrim class 5\nnext class 4 at 0.1 C warmer\nin the range for which CIPM-2007 states its formula\nnote: no pressure is given: the standard atmosphere's 1013.250 hPa is used\nnote: no humidity is given: dry air is used\nnote: the next class is searched from the temperature and the station pressure above\nrecord 0100080000000000000000020008403519999999999A\n"
+  -- each reading is the double nearest to the exact value of its typed number in its unit, and there is no other; the record that a new mast would send is judged as the readings are
+  pub word-is-reading : (ws : List (List ℕ)) (r : Readings) → understand ws ≡ given r → (w : List ℕ) (m : ℕ) (u : TypedUnit) (d : List ℕ) → List·Memᴰ w ws → Says w m u d → Nearest r m u d
   pub no-other : (ws : List (List ℕ)) (r : Readings) → understand ws ≡ given r → (m : ℕ) (x : Float) → entryOf r m ≡ Present x → Typed ws m
   pub record-judged : (ws : List (List ℕ)) (r : Readings) → understand ws ≡ given r → judge (recordOf r) ≡ judged r
+  -- what a report notes is the lines of the rows that hold: a line is printed exactly if a row with it holds
+  pub notes-are-lines : (point : Bool) (r : Readings) (f : Figures) → noteLines point r f ≡ noted.joined (noted.lines (notes point r f))
+  pub note-has-its-row : (point : Bool) (r : Readings) (f : Figures) (l : List ℕ) → List·Memᴰ l (noted.lines (notes point r f)) → noted.Holds (notes point r f) l
+  pub row-has-its-note : (point : Bool) (r : Readings) (f : Figures) (l : List ℕ) → noted.Holds (notes point r f) l → List·Memᴰ l (noted.lines (notes point r f))
 
 -- ---- the report of refused readings: the reading that it names
 pub record Reports : Type 0 where
@@ -537,6 +548,19 @@ pub record Reports : Type 0 where
   pub named-alone : (r : Readings) → (readingAbout r 1 ≡ densityAltitude) × (readingAbout r 2 ≡ meaning.temperature) × (readingAbout r 3 ≡ meaning.temperature) × (readingAbout r 4 ≡ densityAltitude) × (readingAbout r 13 ≡ humidity)
   pub named-11 : (r : Readings) → List·Memᴰ (readingAbout r 11) (meaning.altitude ∷ meaning.stationPressure ∷ meaning.qnh ∷ humidity ∷ meaning.measuredPressure ∷ [])
   pub named-12 : (r : Readings) → List·Memᴰ (readingAbout r 12) (meaning.stationPressure ∷ meaning.qnh ∷ meaning.measuredPressure ∷ [])
+
+-- ---- from C: a record's readings as arrays of forms, values and counts
+pub record Arrays : Type 0 where
+  -- what was read is written as the record of its readings, so by the strict reader, where none is NaN, as the same bytes
+  pub written-of-read : (strict : Bool) (forms : List ℕ) (values : List Float) (counts s : List ℕ) (r : Readings) → readIn strict forms values counts s ≡ accepted r
+      → writtenOf forms values counts r ≡ accepted (recordOf (readings s))
+  pub same-bytes : (forms : List ℕ) (values : List Float) (counts s : List ℕ) (r : Readings) → AreBytes s → NoneIsNan r
+      → readIn true forms values counts s ≡ accepted r → writtenOf forms values counts r ≡ accepted s
+  -- what was written is read by either reader, in the same forms, with the values of the doubles and the counts of the counts
+  pub read-of-written : (forms : List ℕ) (values : List Float) (counts s : List ℕ)
+      → AreNumbers values counts → arrayRecord forms values counts ≡ accepted s → (strict : Bool) → readRecord strict s ≡ accepted (arrayReadings meanings forms values counts)
+  pub read-as : (forms : List ℕ) (values : List Float) (counts s : List ℕ) → AreNumbers values counts → arrayRecord forms values counts ≡ accepted s
+      → ReadAs forms values counts (arrayReadings meanings forms values counts)
 
 -- ---- the decimals of the definitions, as in `decimal "287.0531"`
 pub record Decimals : Type 0 where
@@ -569,4 +593,5 @@ pub record Promises : Type 0 where
   pub altitudes-near : AltitudesNear
   pub at-the-park : AtThePark
   pub reports : Reports
+  pub arrays : Arrays
   pub decimals : Decimals

@@ -1,7 +1,7 @@
 -- The words of a line one after the other: the first ends at the first blank, and the others are those of what follows it. Assumes nothing.
 use Rattle.arithmetic.proofs.Kit.{_≡_, refl, sym, ap, ap₂, _∙_, Bool, true, false, not, List, [], _∷_, ℕ, suc, _+_, _-_, _≤_, _<_, arith, T, eqb, leb, leb→le, nleb→lt, length, getD, take, drop, length-drop, drop-drop, take-all}
 use Rattle.bytes.specs.Bytes.{indexOf, indexAfter, slice}
-use Rattle.park_text.proofs.OneWord.{found}
+use Rattle.questions.proofs.Found.{found}
 use Rattle.questions.specs.Words.{beforePart, lineParts}
 
 -- ---- a line with a blank, and one without

@@ -2,8 +2,7 @@
 ghost use mathlib.Core.Path.{_≡_};
 ghost use mathlib.Core.List.{[]};
 ghost use lib.ListN.{length, getD};
-ghost use Rattle.park_text.specs.Word.{placeIn};
-ghost use Rattle.questions.specs.Words.{lineParts, PartStarts};
+ghost use Rattle.questions.specs.Words.{lineParts, PartStarts, placeIn};
 use bytes::scan::find;
 use check::same;
 

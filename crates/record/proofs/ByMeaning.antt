@@ -1,21 +1,13 @@
 -- The entries of readings by meaning: what a new value sets and what it leaves, and that each value of a record that is read is a double. Assumes nothing.
-use Rattle.arithmetic.proofs.Kit.{_≡_, refl, sym, ap, subst, _∙_, Bool, true, false, cond, _≢_, _⊎_, inl, inr, List, [], _∷_, map, ℕ, zero, suc, _<_, arith, T, Float, binary64, fits, ofBits-fits, length, getD, set, replicate, length-set}
+use Rattle.record.proofs.Kit.{_≡_, refl, sym, ap, subst, _∙_, Bool, true, false, cond, _≢_, _⊎_, inl, inr, List, [], _∷_, map, ℕ, zero, suc, _<_, arith, T, Float, binary64, fits, ofBits-fits, length, getD, set, replicate, length-set, getD-set-same, getD-set-other, exactly, Value, Slot, Readings, meanings, doubleOf, isCountTag, tagOf, valueOf, field, heads, noted, readRows, readings, slotOf, noReadings, entryFor, entryOf, withValue, withEntry, accepted, readRecord}
 use mathlib.Core.List.{foldl}
-use lib.Seq.{getD-set-same, getD-set-other}
-use Rattle.refusal.proofs.Rows.{exactly}
 use Rattle.thousandths.specs.Thousandths.{countOf}
 use Rattle.thousandths.proofs.Laws.{thousandths-fits}
-use Rattle.fields.specs.declared.fields.Value.{Value}
 use Rattle.fields.specs.declared.fields.Value.the-variants.{Double, Count}
 use Rattle.record.specs.declared.entries.Entry.the-variants.{Absent, Present}
 use Rattle.record.specs.declared.entries.Stored.the-variants as stored
-use Rattle.record.specs.declared.entries.Slot.{Slot}
-use Rattle.record.specs.declared.entries.Readings.{Readings}
 use Rattle.fields.specs.Bytes.{numberAt, doubleAt}
-use Rattle.fields.specs.Fields.{meanings, doubleOf, isCountTag, tagOf, valueOf, field, heads}
-use Rattle.record.specs.Readings.{noted, readRows, readings}
-use Rattle.record.specs.Entries.{slotOf, noReadings, entryFor, entryOf, withValue, withEntry}
-use Rattle.record.proofs.Stated.{HoldsDoubles, ReadsDoubles}
+use Rattle.record.proofs.Stated.{HoldsDoubles}
 
 -- ---- a slot for each meaning
 abbrev pub Whole : Readings → Type 0
@@ -76,6 +68,6 @@ from r (s ∷ fs) held = from (noted r (field s)) fs (with-double r (field s .me
 never : {x : Float} → Absent ≡ Present x → ⊥
 never e = let z : _≡_ {A = ℕ} 0 1 = cc in omega arith
 
-pub reads-doubles : ReadsDoubles
+pub reads-doubles : (s : List ℕ) (r : Readings) → readRecord false s ≡ accepted r → HoldsDoubles r
 reads-doubles s r e =
     subst HoldsDoubles (exactly (readings s) (readRows false s) .accepted-because e .1) (from noReadings (heads s) (λ m x h. absurd (never (sym (none-there m) ∙ h))))

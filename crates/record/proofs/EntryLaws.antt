@@ -1,15 +1,5 @@
 -- What is known of a field that no row refuses: it is whole, its meaning is one of the seven, and had no entry. Two such fields may be noted in either order. Assumes nothing.
-use Rattle.arithmetic.proofs.Kit.{_≡_, refl, ap, Bool, false, _&&_, List, [], _∷_, ℕ, zero, suc, _≤_, _<_, arith, ltb-false, not-false, ltb, length, getD, set}
-use Rattle.refusal.specs.Causes.{NoneHolds}
-use Rattle.refusal.proofs.Rows.{none-before}
-use Rattle.fields.specs.declared.fields.Value.{Value}
-use Rattle.record.specs.declared.entries.Stored.the-variants.{Absent, Present}
-use Rattle.record.specs.declared.entries.Slot.{Slot}
-use Rattle.record.specs.declared.entries.Readings.{Readings}
-use Rattle.fields.specs.Fields.{meanings, tagOf, field, headRows, sizeOf}
-use Rattle.record.specs.Entries.{slotOf, entryFor, entryOf, isPresent}
-use Rattle.fields.proofs.Forms.{tagged}
-use Rattle.record.specs.Readings.{orderRows}
+use Rattle.record.proofs.Kit.{_≡_, refl, ap, Bool, false, _&&_, List, [], _∷_, ℕ, zero, suc, _≤_, _<_, arith, ltb-false, not-false, ltb, length, getD, set, NoneHolds, none-before, Value, Absent, Present, Slot, Readings, meanings, tagOf, field, headRows, sizeOf, slotOf, entryFor, entryOf, isPresent, tagged, orderRows}
 use Rattle.record.proofs.Walk.{fieldRows}
 
 -- by its own rows

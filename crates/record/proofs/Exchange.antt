@@ -1,11 +1,5 @@
 -- The order of the fields does not matter to a record that the first reader accepts: neighbours may change places. Assumes nothing.
-use Rattle.arithmetic.proofs.Kit.{_≡_, refl, sym, ap, _∙_, false, List, _++_, ℕ, arith, length, drop-of-length-le}
-use Rattle.refusal.specs.Outcomes.{Outcome, accepted, Row, _then_}
-use Rattle.refusal.proofs.Rows.{then-none, then-accepted}
-use Rattle.record.specs.declared.entries.Slot.{Slot}
-use Rattle.record.specs.declared.entries.Readings.{Readings}
-use Rattle.fields.specs.Fields.{tagOf, field, sizeOf}
-use Rattle.record.specs.Readings.{noted, readRecord}
+use Rattle.record.proofs.Kit.{_≡_, refl, sym, ap, _∙_, false, List, _++_, ℕ, arith, length, drop-of-length-le, Outcome, accepted, Row, _then_, then-none, then-accepted, Slot, Readings, tagOf, field, sizeOf, noted, readRecord}
 use Rattle.record.proofs.Walk.{fieldRows, read, any-last}
 use Rattle.record.proofs.EntryLaws.{is-new, with-readings, either-order}
 use Rattle.record.proofs.Followed.{read-whole}

@@ -1,14 +1,5 @@
 -- A record is read by its first 256 bytes: each field that is accepted takes a meaning, and with all of them taken one field more is refused. Assumes nothing.
-use Rattle.arithmetic.proofs.Kit.{_≡_, refl, sym, ap, _∙_, Bool, true, false, cond, List, [], _∷_, _++_, ℕ, zero, suc, _+_, _*_, _≤_, _<_, arith, leb-true, leb-false, leb, lit≤, length, take, drop, getD, set, length-drop, length-set, take-append-drop, length-take-le, take-all}
-use Rattle.refusal.proofs.Rows.{then-same}
-use Rattle.fields.specs.declared.fields.Value.{Value}
-use Rattle.record.specs.declared.entries.Stored.the-variants.{Absent, Present}
-use Rattle.record.specs.declared.entries.Slot.{Slot}
-use Rattle.record.specs.declared.entries.Readings.{Readings}
-use Rattle.fields.specs.Fields.{meanings, tagOf, sizeOf, field}
-use Rattle.record.specs.Readings.{noted, readRecord}
-use Rattle.record.specs.Entries.{slotOf, noReadings, entryFor, isPresent}
-use Rattle.fields.proofs.Forms.{at-most}
+use Rattle.record.proofs.Kit.{_≡_, refl, sym, ap, _∙_, Bool, true, false, cond, List, [], _∷_, _++_, ℕ, zero, suc, _+_, _*_, _≤_, _<_, arith, leb-true, leb-false, leb, lit≤, length, take, drop, getD, set, length-drop, length-set, take-append-drop, length-take-le, take-all, then-same, Value, Absent, Present, Slot, Readings, meanings, tagOf, sizeOf, field, noted, readRecord, slotOf, noReadings, entryFor, isPresent, at-most}
 use Rattle.record.proofs.Walk.{fieldRows, read, read-step}
 use Rattle.record.proofs.EntryLaws.{is-new, in-range}
 use Rattle.record.proofs.Followed.{read-whole}

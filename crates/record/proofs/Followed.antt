@@ -1,15 +1,8 @@
 -- A field depends only on its own bytes: one that is whole is the same whatever follows it. Assumes nothing.
-use Rattle.arithmetic.proofs.Kit.{_≡_, refl, sym, ap, ap₂, _∙_, Bool, true, false, not, cond, List, [], _∷_, _++_, ℕ, zero, suc, _+_, _*_, _≤_, arith, le-ltb, ltb, eqb, binary64, ofBits, length, drop, length-append}
-use lib.ListN.{List·getD-append}
-use lib.Seq.{drop-append-le}
-use Rattle.refusal.specs.Outcomes.{Outcome, Row, row, _then_}
+use Rattle.record.proofs.Kit.{_≡_, refl, sym, ap, ap₂, _∙_, Bool, true, false, not, cond, List, [], _∷_, _++_, ℕ, zero, suc, _+_, _*_, _≤_, arith, le-ltb, ltb, eqb, binary64, ofBits, length, drop, length-append, List·getD-append, drop-append-le, Outcome, Row, row, _then_, Readings, isCountTag, isTag, meaningOf, dataSize, tagOf, lengthOf, sizeOf, valueOf, field, headRows, orderRows, noted, size-by}
 use Rattle.fields.specs.declared.fields.Field.{Field}
 use Rattle.fields.specs.declared.fields.Value.the-variants.{Double, Count}
-use Rattle.record.specs.declared.entries.Readings.{Readings}
 use Rattle.fields.specs.Bytes.{numberAt, doubleAt}
-use Rattle.fields.specs.Fields.{isCountTag, isTag, meaningOf, dataSize, tagOf, lengthOf, sizeOf, valueOf, field, headRows}
-use Rattle.record.specs.Readings.{orderRows, noted}
-use Rattle.fields.proofs.Forms.{size-by}
 use Rattle.record.proofs.Walk.{fieldRows, read, read-step}
 
 -- the rows of a field's header

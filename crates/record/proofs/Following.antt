@@ -1,13 +1,6 @@
 -- What follows a place in the record: nothing there matters to a refusal other than 5, and what follows an accepted record is read on from its readings. A refusal 5 is caused
 -- at the end of the record. Assumes nothing.
-use Rattle.arithmetic.proofs.Kit.{_≡_, refl, sym, ap, _∙_, Bool, true, false, List, [], _∷_, _++_, ℕ, _<_, arith, ltb-true, ltb-false, lt-ltb, ltb, Float, length, drop, length-append}
-use Rattle.refusal.specs.Outcomes.{Outcome, accepted, refused, Row, row, _then_}
-use Rattle.refusal.proofs.Rows.{then-append, then-none, then-to, then-accepted}
-use Rattle.record.specs.declared.entries.Readings.{Readings}
-use Rattle.fields.specs.Fields.{tagOf, field, headRows, sizeOf}
-use Rattle.fields.proofs.Heads.{Split, at-end, at-field, split}
-use Rattle.record.specs.Readings.{orderRows, noted, readRecord}
-use Rattle.record.specs.Entries.{noReadings}
+use Rattle.record.proofs.Kit.{_≡_, refl, sym, ap, _∙_, Bool, true, false, List, [], _∷_, _++_, ℕ, _<_, arith, ltb-true, ltb-false, lt-ltb, ltb, Float, length, drop, length-append, Outcome, accepted, refused, Row, row, _then_, then-append, then-none, then-to, then-accepted, Readings, tagOf, field, headRows, sizeOf, Split, at-end, at-field, split, orderRows, noted, readRecord, noReadings}
 use Rattle.record.proofs.Walk.{fieldRows, no-bytes, read, read-step, any-last}
 use Rattle.record.proofs.EntryLaws.{is-whole}
 use Rattle.record.proofs.Followed.{headerRows, same-header, read-whole}

@@ -1,4 +1,5 @@
 -- The record field by field, and a turn of the reading.
+pub mod Kit
 pub mod Stated
 pub mod Walk
 pub mod EntryLaws

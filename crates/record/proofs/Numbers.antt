@@ -1,12 +1,6 @@
 -- The numbers of a record's fields: the same six for each, and none from 20 on. Assumes nothing.
-use Rattle.arithmetic.proofs.Kit.{_≡_, refl, ap, Bool, List, [], _∷_, _++_, map, flatMap, ℕ, _≤_, arith}
-use Rattle.refusal.specs.Outcomes.{numbers}
-use Rattle.refusal.proofs.Rows.{Never, never-both}
-use Rattle.record.specs.declared.entries.Readings.{Readings}
-use Rattle.fields.specs.Fields.{tagOf, field, headRows, heads}
+use Rattle.record.proofs.Kit.{_≡_, refl, ap, Bool, List, [], _∷_, _++_, map, flatMap, ℕ, _≤_, arith, numbers, Never, never-both, Readings, tagOf, field, headRows, heads, noted, orderRows, rowsOf, readRows, noReadings}
 use Rattle.fields.specs.Tags.{tags}
-use Rattle.record.specs.Readings.{noted, orderRows, rowsOf, readRows}
-use Rattle.record.specs.Entries.{noReadings}
 
 in-order : (strict : Bool) (r : Readings) (last : ℕ) (fs : List (List ℕ))
     → numbers (rowsOf strict r last fs) ≡ flatMap (λ _. 5 ∷ 6 ∷ 7 ∷ 5 ∷ 8 ∷ 19 ∷ []) (map tagOf fs)

@@ -1,9 +1,6 @@
 -- The parts of a reader's answer are those of one outcome only. Assumes nothing.
-use Rattle.arithmetic.proofs.Kit.{_≡_, ap}
-use Rattle.refusal.specs.Outcomes.{Outcome, accepted, refused, _⟫_}
-use Rattle.record.specs.declared.entries.Readings.{Readings}
+use Rattle.record.proofs.Kit.{_≡_, ap, Outcome, accepted, refused, _⟫_, Readings, readOutcome, parts, readParts}
 use Rattle.record.specs.declared.readings.Read.{Read}
-use Rattle.record.specs.Readings.{readOutcome, parts, readParts}
 
 -- what both parts say together
 abbrev both : Outcome (Unit {0}) × Readings → Outcome Readings

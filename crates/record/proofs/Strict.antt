@@ -1,13 +1,6 @@
 -- The strict reader beside the first: where the tags rise they try the same rows, and else they give the same outcome or the strict one refuses by 19.
 -- Assumes nothing.
-use Rattle.arithmetic.proofs.Kit.{_≡_, refl, sym, ap, ap₂, _∙_, Bool, true, false, _&&_, cond, List, [], _∷_, _++_, map, _⊎_, inl, inr, ⊎-elim, ℕ, le-ltb, ltb-false, ltb}
-use Rattle.refusal.specs.Outcomes.{Outcome, accepted, refused, Row, row, _then_}
-use Rattle.refusal.specs.Causes.{NoneHolds}
-use Rattle.refusal.proofs.Rows.{then-append, then-accepted, then-none, none-before, none-after, decided}
-use Rattle.record.specs.declared.entries.Readings.{Readings}
-use Rattle.fields.specs.Fields.{tagOf, field, headRows, heads}
-use Rattle.record.specs.Readings.{orderRows, noted, rowsOf, readRows, readings, readRecord}
-use Rattle.record.specs.Entries.{noReadings, isPresent, entryOf}
+use Rattle.record.proofs.Kit.{_≡_, refl, sym, ap, ap₂, _∙_, Bool, true, false, _&&_, cond, List, [], _∷_, _++_, map, _⊎_, inl, inr, ⊎-elim, ℕ, le-ltb, ltb-false, ltb, Outcome, accepted, refused, Row, row, _then_, NoneHolds, then-append, then-accepted, then-none, none-before, none-after, decided, Readings, tagOf, field, headRows, heads, orderRows, noted, rowsOf, readRows, readings, readRecord, noReadings, isPresent, entryOf}
 use Rattle.fields.specs.Tags.{tags, RisingFrom, Rising}
 use Rattle.record.proofs.Walk.{fieldRows}
 use Rattle.record.proofs.EntryLaws.{in-order}

@@ -1,14 +1,7 @@
 -- A turn of the reading: what the field at a position, and the check of its order, tell of the rest of the record. Assumes nothing.
-use Rattle.arithmetic.proofs.Kit.{_≡_, refl, sym, ap, _∙_, subst, Bool, List, ℕ, _≤_, _<_, arith, Float, length, drop, length-drop}
+use Rattle.record.proofs.Kit.{_≡_, refl, sym, ap, _∙_, subst, Bool, List, ℕ, _≤_, _<_, arith, Float, length, drop, length-drop, Outcome, accepted, refused, _⟫_, _then_, checked, passed, NoneHolds, then-append, then-next, then-none, then-to, then-accepted, none-both, after-check, exactly, Readings, meanings, tagOf, field, headRows, sizeOf, fieldOf, nextAt, orderRows, noted, after-is}
 use Rattle.refusal.specs.declared.Check.{Check}
-use Rattle.refusal.specs.Outcomes.{Outcome, accepted, refused, _⟫_, _then_, checked, passed}
-use Rattle.refusal.specs.Causes.{NoneHolds}
-use Rattle.refusal.proofs.Rows.{then-append, then-next, then-none, then-to, then-accepted, none-both, after-check, exactly}
 use Rattle.fields.specs.declared.fields.Field.{Field}
-use Rattle.record.specs.declared.entries.Readings.{Readings}
-use Rattle.fields.specs.Fields.{meanings, tagOf, field, headRows, sizeOf, fieldOf, nextAt}
-use Rattle.record.specs.Readings.{orderRows, noted}
-use Rattle.fields.proofs.Heads.{after-is}
 use Rattle.record.proofs.Walk.{fieldRows, read, read-step}
 use Rattle.record.proofs.EntryLaws.{head-whole, head-meaning}
 

@@ -1,14 +1,6 @@
 -- Reading a record field by field: what the field at the head refuses, or else the reading of what follows it. Assumes nothing.
-use Rattle.arithmetic.proofs.Kit.{_≡_, refl, ap, _∙_, Bool, false, List, [], _∷_, _++_, map, ℕ, _<_, length, drop, length-set}
+use Rattle.record.proofs.Kit.{_≡_, refl, ap, _∙_, Bool, false, List, [], _∷_, _++_, map, ℕ, _<_, length, drop, length-set, Outcome, accepted, Row, _then_, then-append, Readings, Present, meanings, tagOf, field, headRows, sizeOf, heads, heads-none, heads-step, orderRows, noted, rowsOf, readings, slotOf, noReadings}
 use mathlib.Core.List.{foldl}
-use Rattle.refusal.specs.Outcomes.{Outcome, accepted, Row, _then_}
-use Rattle.refusal.proofs.Rows.{then-append}
-use Rattle.record.specs.declared.entries.Readings.{Readings}
-use Rattle.record.specs.declared.entries.Stored.the-variants.{Present}
-use Rattle.fields.specs.Fields.{meanings, tagOf, field, headRows, sizeOf, heads}
-use Rattle.fields.proofs.Heads.{heads-none, heads-step}
-use Rattle.record.specs.Readings.{orderRows, noted, rowsOf, readings}
-use Rattle.record.specs.Entries.{slotOf, noReadings}
 
 module _ (strict : Bool) where
   abbrev readOf : Readings → ℕ → List (List ℕ) → Outcome Readings

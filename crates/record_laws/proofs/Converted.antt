@@ -1,13 +1,11 @@
 -- A record and what it converts to are judged alike: the reader gives them the same entries. Assumes nothing.
-use Rattle.arithmetic.proofs.Kit.{sym, ap, _∙_}
-use Rattle.refusal.specs.Outcomes.{Outcome, _⟫_}
-use Rattle.record.specs.declared.entries.Readings.{Readings}
+use Rattle.record_laws.proofs.Kit.{sym, ap, _∙_, Outcome, _⟫_, Readings, judged, judge, judged-by-entries, ℕ, _≡_, Bool, List, accepted}
 use Rattle.writer.proofs.ReadAlike.{same-entries}
-use Rattle.mast.specs.Judge.{judged, judge}
-use Rattle.record_laws.proofs.Stated.{JudgedAlike}
-use Rattle.mast.proofs.Entries.{judged-by-entries}
+use Rattle.writer.specs.Laws.{AreBytes}
+use Rattle.writer.specs.Conversion.{converted}
 
-pub judged-alike : JudgedAlike
+-- to counts or to doubles, values that a refusal hands out included
+pub judged-alike : (counts : Bool) (s t : List ℕ) → AreBytes s → converted counts s ≡ accepted t → judge t ≡ judge s
 unfolding judge
 judged-alike counts s t all e =
     let alike = same-entries counts s t all e in

@@ -1,4 +1,5 @@
 -- The proofs of the promises.
+pub mod Kit
 pub mod Stated
 pub mod Numbers
 pub mod Strict

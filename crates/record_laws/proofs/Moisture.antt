@@ -1,5 +1,5 @@
 -- Of figures that are accepted, document 02, K11: the mark is that of the range, and the density's mole fraction is the one shown. Assumes nothing.
-use Rattle.arithmetic.proofs.Kit.{_≡_, refl, sym, subst, _∙_, Bool, true, _&&_, T, Float, le, is-true, and-i, and-l, and-r}
+use Rattle.record_laws.proofs.Kit.{_≡_, refl, sym, subst, _∙_, Bool, true, _&&_, T, Float, le, is-true, and-i, and-l, and-r, accepted, Readings, Figures, inCipmRange, figuresWith, resolved, judged}
 use Rattle.arithmetic.specs.Places.{places}
 use Rattle.arithmetic.specs.Decimals.{decimal, nought, hundred}
 use Rattle.arithmetic.specs.Operators.{_⊖_, _⊘_}
@@ -8,11 +8,6 @@ use Rattle.humid_air.specs.MoistAir.{icePoint, capped, airDensityAt}
 use Rattle.humid_air.specs.Humidity.{moleFractionCelsius}
 use Rattle.air.specs.Moist.{densityOf}
 use Rattle.air.specs.Station.{kelvins, pascals, atmosphere}
-use Rattle.refusal.specs.Outcomes.{accepted}
-use Rattle.record.specs.declared.entries.Readings.{Readings}
-use Rattle.refusal.specs.declared.judge.Figures.{Figures}
-use Rattle.station.specs.Figures.{inCipmRange, figuresWith}
-use Rattle.mast.specs.Judge.{resolved, judged}
 use Rattle.record_laws.proofs.Pressures.{of-accepted}
 
 -- ---- the range, ends included

@@ -1,23 +1,15 @@
 -- The reading that a report names of refused readings is the one whose value the refusal hands out: the first row that holds is a row of that reading. Assumes
 -- nothing.
-use Rattle.arithmetic.proofs.Kit.{_≡_, refl, sym, ap, subst, _∙_, Bool, true, false, cond, _&&_, _||_, true≢false, List, [], _∷_, _++_, List·Memᴰ, ℕ, arith, Float}
+use Rattle.record_laws.proofs.Kit.{_≡_, refl, sym, ap, subst, _∙_, Bool, true, false, cond, _&&_, _||_, true≢false, List, [], _∷_, _++_, List·Memᴰ, ℕ, arith, Float, accepted, refused, Row, _then_, none-before, none-after, Readings, entryOf, isPresent, altitude, temperature, stationPressure, qnh, humidity, densityAltitude, measuredPressure, figuresOf, airRows, wayRows, resolved, readingRows, judged, neither}
 use mathlib.Core.List.{List·Memᴰ·head, List·Memᴰ·tail}
 use Rattle.arithmetic.specs.Places.{places}
-use Rattle.refusal.specs.Outcomes.{accepted, refused, Row, _then_}
 use Rattle.refusal.specs.Causes.{NoneHolds}
-use Rattle.refusal.proofs.Rows.{none-before, none-after}
 use Rattle.density_altitude.specs.Inverse.{temperatureRows, stationRows}
 use Rattle.record.specs.declared.entries.Entry.{Entry}
 use Rattle.record.specs.declared.entries.Entry.the-variants.{Absent, Present}
-use Rattle.record.specs.declared.entries.Readings.{Readings}
-use Rattle.record.specs.Entries.{entryOf, isPresent}
-use Rattle.fields.specs.Fields.{altitude, temperature, stationPressure, qnh, humidity, densityAltitude, measuredPressure}
 use Rattle.report.specs.Fault.{notFinite, notPositive, firstNotFinite, firstNotPositive, readingAbout}
 use Rattle.mast.specs.Checks.{has, isClash, finiteRows, pressureRows, humidityRows, present, valueRows}
 use Rattle.station.specs.Resolved.{givenTemperature}
-use Rattle.station.specs.Figures.{figuresOf}
-use Rattle.mast.specs.Judge.{airRows, wayRows, resolved, readingRows, judged}
-use Rattle.mast.proofs.Entries.{neither}
 
 module _ (r : Readings) where
   -- what a refusal hands out first is the value of the reading that is named

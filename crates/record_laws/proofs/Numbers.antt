@@ -1,19 +1,12 @@
 -- No value of accepted readings is NaN: each is finite. Assumes nothing.
-use Rattle.arithmetic.proofs.Kit.{_≡_, refl, sym, ap, subst, _∙_, Bool, true, false, ℕ, _≤_, arith, ltb-true, ltb-false, ltb, isNan, length, List·getD-eq-default}
+use Rattle.record_laws.proofs.Kit.{_≡_, refl, sym, ap, subst, _∙_, Bool, true, false, ℕ, _≤_, arith, ltb-true, ltb-false, ltb, isNan, length, List·getD-eq-default, accepted, Readings, meanings, slotOf, entryFor, storedOf, Figures, judged, accepted-is-finite}
 use Rattle.arithmetic.proofs.NotANumber.{is-number}
-use Rattle.refusal.specs.Outcomes.{accepted}
 use Rattle.fields.specs.declared.fields.Value.{Value}
 use Rattle.fields.specs.declared.fields.Value.the-variants.{Double, Count}
 use Rattle.record.specs.declared.entries.Slot.{Slot}
 use Rattle.record.specs.declared.entries.Stored.the-variants.{Absent, Present}
-use Rattle.record.specs.declared.entries.Readings.{Readings}
-use Rattle.fields.specs.Fields.{meanings}
-use Rattle.record.specs.Entries.{slotOf, entryFor, storedOf}
 use Rattle.writer.proofs.Stated.{NoNan}
-use Rattle.refusal.specs.declared.judge.Figures.{Figures}
-use Rattle.mast.specs.Judge.{judged}
 use Rattle.mast.proofs.Stated.{FiniteEntry}
-use Rattle.mast.proofs.Entries.{accepted-is-finite}
 
 never : {v : Value} → Absent ≡ Present v → ⊥
 never e = let z : _≡_ {A = ℕ} 0 1 = cc in omega arith

@@ -1,26 +1,17 @@
 -- The pressure of readings that are accepted, document 02, K3: 07 as it came, whatever the altitude, and 03 by its band. What excludes them is absent, since
 -- nothing clashes. Assumes nothing.
-use Rattle.arithmetic.proofs.Kit.{_≡_, refl, sym, ap, _∙_, Bool, true, false, _&&_, _||_, true≢false, Float}
+use Rattle.record_laws.proofs.Kit.{_≡_, refl, sym, ap, _∙_, Bool, true, false, _&&_, _||_, true≢false, Float, accepted, exactly, Readings, isPresent, entryOf, valueOrZero, altitude, temperature, stationPressure, qnh, humidity, densityAltitude, measuredPressure, Figures, figuresWith, figuresOf, readingRows, resolvedBy, resolved, judged, neither}
 use mathlib.Core.Bool.{or-true}
-use Rattle.refusal.specs.Outcomes.{accepted}
 use Rattle.refusal.specs.Causes.{NoneHolds}
-use Rattle.refusal.proofs.Rows.{exactly}
 use Rattle.atmosphere.specs.declared.given.Reading.{Reading}
 use Rattle.atmosphere.specs.declared.given.Reading.the-variants.{Given}
 use Rattle.atmosphere.specs.Station as station
 use Rattle.record.specs.declared.entries.Entry.{Entry}
 use Rattle.record.specs.declared.entries.Entry.the-variants.{Absent, Present}
-use Rattle.record.specs.declared.entries.Readings.{Readings}
-use Rattle.record.specs.Entries.{isPresent, entryOf, valueOrZero}
-use Rattle.fields.specs.Fields.{altitude, temperature, stationPressure, qnh, humidity, densityAltitude, measuredPressure}
 use Rattle.mast.specs.Checks.{has, isClash}
-use Rattle.refusal.specs.declared.judge.Figures.{Figures}
 use Rattle.station.specs.declared.resolved.Resolved.{Resolved}
 use Rattle.station.specs.Resolved.{unmeasuredPressure, measuredOr, resolvedTemperature, resolvedPressure, ordinary}
-use Rattle.station.specs.Figures.{figuresWith, figuresOf}
-use Rattle.mast.specs.Judge.{readingRows, resolvedBy, resolved, judged}
 use Rattle.mast.proofs.Dry.{absent}
-use Rattle.mast.proofs.Entries.{neither}
 
 -- ---- what is accepted: no row holds, and the figures are those of what is resolved
 pub of-accepted : (r : Readings) {f : Figures} → judged r ≡ accepted f → NoneHolds (readingRows r) × (figuresOf (resolved r) ≡ f)

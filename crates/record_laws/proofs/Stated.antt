@@ -1,17 +1,9 @@
 -- Document 02's strict judge beside the first, "otherwise both judge a record alike, clashes and values included", and beside the writer; and records before and after a conversion. The page of promises says it in full. Assumes nothing.
-use Rattle.arithmetic.proofs.Kit.{ℕ, _≡_, Bool, List, [], _⊎_}
-use Rattle.refusal.specs.Outcomes.{accepted, refused}
+use Rattle.record_laws.proofs.Kit.{ℕ, _≡_, List, [], _⊎_, accepted, refused, judge, judgeStrictly, Figures}
 use Rattle.writer.specs.Laws.{AreBytes}
-use Rattle.writer.specs.Conversion.{converted}
-use Rattle.mast.specs.Judge.{judge, judgeStrictly}
 use Rattle.record.specs.Readings.{readings}
 use Rattle.fields.specs.Tags.{tags, Rising}
 use Rattle.writer.specs.Records.{recordOf}
-use Rattle.refusal.specs.declared.judge.Figures.{Figures}
-
--- to counts or to doubles, values that a refusal hands out included
-abbrev pub JudgedAlike : Type 0
-JudgedAlike = (counts : Bool) (s t : List ℕ) → AreBytes s → converted counts s ≡ accepted t → judge t ≡ judge s
 
 -- a record whose tags rise has the same outcome, refusals and their values included
 abbrev pub SameWhereRising : Type 0

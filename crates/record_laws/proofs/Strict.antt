@@ -1,15 +1,10 @@
 -- The strict judge beside the first, by the two readers, and beside the writer. Assumes nothing.
-use Rattle.arithmetic.proofs.Kit.{_≡_, refl, sym, ap, _∙_, Bool, true, List, inl, inr, ⊎-elim, ℕ, arith}
-use Rattle.refusal.specs.Outcomes.{Outcome, accepted, refused, _⟫_}
-use Rattle.refusal.proofs.Rows.{exactly}
-use Rattle.record.specs.declared.entries.Readings.{Readings}
+use Rattle.record_laws.proofs.Kit.{_≡_, refl, sym, ap, _∙_, Bool, true, List, inl, inr, ⊎-elim, ℕ, arith, Outcome, accepted, refused, _⟫_, exactly, Readings, Figures, judged, judgeBy, judge, judgeStrictly}
 use Rattle.record.specs.Readings.{readRows, readings, readRecord}
 use Rattle.fields.specs.Tags.{tags, Rising}
 use Rattle.record.proofs.Walk.{all-slots}
 use Rattle.record.proofs.Strict as reader
 use Rattle.writer.proofs.WrittenAgain as writer
-use Rattle.refusal.specs.declared.judge.Figures.{Figures}
-use Rattle.mast.specs.Judge.{judged, judgeBy, judge, judgeStrictly}
 use Rattle.record_laws.proofs.Stated.{SameWhereRising, SameOrFalling, AcceptedWhereRising, WrittenAgain, Strict}
 use Rattle.record_laws.proofs.Numbers.{no-nan}
 

@@ -10,11 +10,11 @@ unfoldable pub stationLines : Figures → List ℕ
 stationLines f =
     figureLine (ascii "altitude                ") 1 (f .«altitude_m») (ascii " m\n") ++
     figureLine (ascii "temperature             ") 2 (f .«temperature_c») (ascii " C\n") ++
-    figureLine (ascii "station pressure        ") 2 (f .«pressure_hpa») (ascii " hPa\n")
+    figureLine (ascii "station pressure        ") 3 (f .«pressure_hpa») (ascii " hPa\n")
 
 unfoldable pub airLines : Figures → List ℕ
 airLines f =
-    figureLine (ascii "density                 ") 4 (f .«density_kg_m3») (ascii " kg/m3\n") ++
+    figureLine (ascii "density                 ") 4 (f .«density_kg_m3») (ascii " kg/m3, the reference for the trim table\n") ++
     figureLine (ascii "speed of sound          ") 1 (f .«speed_of_sound_mps») (ascii " m/s\n") ++
     figureLine (ascii "pressure altitude       ") 1 (f .«pressure_altitude_m») (ascii " m\n") ++
     figureLine (ascii "density-matched altitude") 1 (f .«density_matched_altitude_m») (ascii " m\n") ++

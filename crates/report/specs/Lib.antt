@@ -1,8 +1,7 @@
--- What the contract of `report_text` cites: the report of readings; and samples.
+-- What the contracts of `report` cite: the report of readings and of a record.
 pub mod Report
 pub mod Fault
 pub mod Advice
 pub mod AirLines
 pub mod TrimLines
-pub mod SheetRefusal
 pub mod Columns

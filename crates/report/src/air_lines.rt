@@ -30,7 +30,7 @@ pub fn put_station(page: &mut [u8], at: usize, figures: Figures) -> usize
         temperature,
         b"station pressure        ",
         figures.pressure_hpa,
-        2,
+        3,
         b" hPa\n",
     )
 }
@@ -45,7 +45,7 @@ pub fn put_air(page: &mut [u8], at: usize, figures: Figures) -> usize
         b"density                 ",
         figures.density_kg_m3,
         4,
-        b" kg/m3\n",
+        b" kg/m3, the reference for the trim table\n",
     );
     let sound = put_figure(
         page,

@@ -1,13 +1,8 @@
 -- Each number of a sheet has exactly its cause, in the order of the checks. Assumes nothing.
-use Rattle.arithmetic.proofs.Kit.{_≡_, refl, sym, ap, _∙_, List, [], _∷_, _++_, ℕ, zero, suc, ltb, Float}
-use Rattle.refusal.specs.Outcomes.{Outcome, accepted, _⟫_, row, _then_, numbers}
-use Rattle.refusal.proofs.Rows.{numbers-append, then-append, then-next, then-rows, exactly-by}
+use Rattle.sheet.proofs.Kit.{_≡_, refl, sym, ap, _∙_, List, [], _∷_, _++_, ℕ, zero, suc, ltb, Float, Outcome, accepted, _⟫_, row, _then_, numbers, numbers-append, then-append, then-next, then-rows, exactly-by, airRows, airOutcome, isTooWide, figuresOutcome, stationOfRow, rowOutcome, celsiusOfRow, rows, sheetInputRows, settingSheet, lineRows, lineText, linesRows, linesText, repeated}
 use Rattle.station.specs.Figures.{figuresOf}
-use Rattle.mast.specs.Judge.{airRows, airOutcome}
-use Rattle.sheet.specs.Row.{isTooWide, figuresOutcome, stationOfRow, rowOutcome}
-use Rattle.sheet.specs.Sheet.{celsiusOfRow, rows, sheetInputRows, settingSheet}
-use Rattle.sheet.specs.Laws.{lineRows, lineText, linesRows, linesText, repeated}
-use Rattle.sheet.proofs.Stated.{sheetRows, SheetCaused, SheetOrder}
+use Rattle.sheet.proofs.Stated.{sheetRows}
+use Rattle.refusal.specs.Causes.{ExactlyCaused}
 
 module _ (h p u : Float) where
   by-line : (t : Float) → rowOutcome h p u t ≡ (lineRows h p u t then accepted (lineText h p u t))
@@ -28,7 +23,7 @@ module _ (h p u : Float) where
       ap (λ (o : Outcome (List ℕ)). o ⟫ (λ s. rowOutcome h p u t ⟫ (λ l. accepted (s ++ l)))) (by-lines n)
       ∙ then-rows (linesRows h p u n) (lineRows h p u t) text (text ++ line) (λ s. rowOutcome h p u t ⟫ (λ l. accepted (s ++ l))) last
 
-pub caused : (h p u : Float) (room : ℕ) → SheetCaused h p u room
+pub caused : (h p u : Float) (room : ℕ) → ExactlyCaused (sheetRows h p u room) (linesText h p u 51) (settingSheet h p u room)
 unfolding settingSheet
 caused h p u room =
     let first = row (ltb room 1530) 16 [] ∷ sheetInputRows h p u in
@@ -40,5 +35,5 @@ unfolding linesRows repeated
 lines-in-order h p u zero = refl
 lines-in-order h p u (suc n) = numbers-append (linesRows h p u n) (lineRows h p u (celsiusOfRow n)) ∙ ap (λ (ns : List ℕ). ns ++ 14 ∷ 15 ∷ 17 ∷ []) (lines-in-order h p u n)
 
-pub order-of-checks : SheetOrder
+pub order-of-checks : (h p u : Float) (room : ℕ) → numbers (sheetRows h p u room) ≡ 16 ∷ 11 ∷ 11 ∷ 12 ∷ 11 ∷ 13 ∷ repeated 51 (14 ∷ 15 ∷ 17 ∷ [])
 order-of-checks h p u room = ap (λ (ns : List ℕ). 16 ∷ 11 ∷ 11 ∷ 12 ∷ 11 ∷ 13 ∷ ns) (lines-in-order h p u 51)

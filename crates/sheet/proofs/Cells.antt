@@ -1,15 +1,11 @@
 -- A figure in its column: what the code copies of a text in sixteen places, and how many bytes a row has. Assumes nothing.
-use Rattle.arithmetic.proofs.Kit.{_≡_, refl, sym, ap, _∙_, Bool, true, false, _||_, List, [], _∷_, _++_, append-assoc, ℕ, _+_, _-_, _≤_, arith, ltb-true, ltb-false, lt-ltb, ltb, lit≤, Float, length, drop, replicate, length-append, length-replicate}
+use Rattle.sheet.proofs.Kit.{_≡_, refl, sym, ap, _∙_, Bool, true, false, _||_, List, [], _∷_, _++_, append-assoc, ℕ, _+_, _-_, _≤_, arith, ltb-true, ltb-false, lt-ltb, ltb, lit≤, Float, length, drop, replicate, length-append, length-replicate, drop-at, Figures, cell, isWider, rowText, isTooWide}
 use lib.ListN.{replicate-append-replicate}
-use lib.Seq.{drop-at}
 use Rattle.decimals.specs.declared.shown.DecimalText.{DecimalText}
 use Rattle.decimals.specs.Decimal.{decimalText}
 use Rattle.decimals.specs.Places.{inSixteen}
 use Rattle.decimals.proofs.Standing.{too-long, fits}
-use Rattle.refusal.specs.declared.judge.Figures.{Figures}
 use Rattle.mast.proofs.Entries.{neither}
-use Rattle.sheet.specs.Over.{lastPlaces}
-use Rattle.sheet.specs.Row.{cell, isWider, rowText, isTooWide}
 
 -- the code's length tells whether a text is wider than a column of w places
 pub width-known : (w : ℕ) (t : List ℕ) → w ≤ 16 → ltb w (inSixteen t .len) ≡ ltb w (length t)
@@ -41,9 +37,9 @@ cell-length w k end x e =
     omega (arith, length-append (blanks ++ t) (end ∷ []), length-append blanks t, length-replicate {A = ℕ} (w - length t) 32)
 
 cell-is : (w k end : ℕ) (x : Float) {text : DecimalText} → w ≤ 16 → text ≡ inSixteen (decimalText k x) → isWider w k x ≡ false
-    → lastPlaces w text end ≡ cell w k end x
+    → drop (16 - w) (text .bytes) ++ end ∷ [] ≡ cell w k end x
 cell-is w k end x h is e =
-    ap (λ (r : DecimalText). lastPlaces w r end) is
+    ap (λ (r : DecimalText). drop (16 - w) (r .bytes) ++ end ∷ []) is
     ∙ ap (λ (l : List ℕ). l ++ end ∷ []) (last-places w (decimalText k x) h (ltb-false w (length (decimalText k x)) e))
 
 -- ---- the four figures
@@ -75,7 +71,7 @@ module _ (t : Float) (f : Figures) {a b c d : DecimalText} (first : a ≡ inSixt
       let four = test-is 7 0 (f .«density_matched_altitude_m») (lit≤ tt) fourth in
       λ i. one i || two i || three i || four i
 
-  pub cells-are : Narrow t f → lastPlaces 6 a 32 ++ lastPlaces 7 b 32 ++ lastPlaces 6 c 32 ++ lastPlaces 7 d 10 ≡ rowText t f
+  pub cells-are : Narrow t f → (drop 10 (a .bytes) ++ 32 ∷ []) ++ (drop 9 (b .bytes) ++ 32 ∷ []) ++ (drop 10 (c .bytes) ++ 32 ∷ []) ++ (drop 9 (d .bytes) ++ 10 ∷ []) ≡ rowText t f
   unfolding rowText
   cells-are n =
       let one = cell-is 6 1 32 t (lit≤ tt) first (n .temperature) in

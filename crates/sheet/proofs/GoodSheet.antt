@@ -1,12 +1,7 @@
 -- The first rows of a good sheet are the rows of the first temperatures, which rise. Assumes nothing.
-use Rattle.arithmetic.proofs.Kit.{_≡_, sym, ap, _∙_, Bool, List, [], _∷_, _++_, ℕ, zero, suc, _+_, _-_, _*_, _≤_, add-zero, arith, T, ltb, Float, lt, ofInt, length, take, drop, length-take-le, take-all, take-at}
+use Rattle.sheet.proofs.Kit.{_≡_, sym, ap, _∙_, Bool, List, [], _∷_, _++_, ℕ, zero, suc, _+_, _-_, _*_, _≤_, add-zero, arith, T, ltb, Float, lt, ofInt, length, take, drop, length-take-le, take-all, take-at, drop-at, take-take, take-add, accepted, row, then-accepted, rowOutcome, celsiusOfRow, rows, sheetInputRows, settingSheet}
 use native.Mathlib.Nat.{add-suc}
-use lib.Seq.{drop-at, take-take, take-add}
-use Rattle.refusal.specs.Outcomes.{accepted, row}
-use Rattle.refusal.proofs.Rows.{then-accepted}
 use Rattle.arithmetic.proofs.Every.{every, at}
-use Rattle.sheet.specs.Row.{rowOutcome}
-use Rattle.sheet.specs.Sheet.{celsiusOfRow, rows, sheetInputRows, settingSheet}
 use Rattle.sheet.proofs.Stated.{FirstRows, GoodSheet}
 use Rattle.sheet.proofs.Outcomes.{parts, rows-length}
 

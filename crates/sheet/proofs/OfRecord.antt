@@ -1,54 +1,32 @@
 -- A row of the sheet beside the record of the same air: temperature and pressure are given, so that a row is that of the record with 01, 02, 05 and 07
 -- wherever 02 is no default, and no row looks at the altitude but to see that it is finite. Assumes nothing.
-use Rattle.arithmetic.proofs.Kit.{_≡_, refl, sym, ap, ap₂, subst, _∙_, _≢_, Bool, true, false, not, _&&_, _||_, cond, List, [], _∷_, _++_, ℕ, zero, suc, _<_, ne-eqb, not-false, T, ltb, eqb, Float, sub, lt, le, ofInt, ofBits, is-true, is-false, and-l, and-r}
+use Rattle.sheet.proofs.Kit.{_≡_, refl, sym, ap, ap₂, subst, _∙_, _≢_, Bool, true, false, not, _&&_, _||_, cond, List, [], _∷_, _++_, ℕ, zero, suc, _<_, ne-eqb, not-false, T, ltb, eqb, Float, sub, lt, le, ofInt, ofBits, is-true, is-false, and-l, and-r, Outcome, accepted, refused, _⟫_, _then_, then-append, then-none, then-next, Figures, airRows, airOutcome, judged, rowText, figuresOutcome, stationOfRow, rowOutcome, celsiusOfRow, rows, sheetInputRows, settingSheet}
 use mathlib.Core.Bool.{and-false}
-use Rattle.arithmetic.specs.Places.{places}
-use Rattle.arithmetic.specs.Decimals.{nought, one}
-use Rattle.arithmetic.specs.Doubles.{absDouble, isFinite, isFiniteAbove}
+use Rattle.arithmetic.specs.Decimals.{nought}
+use Rattle.arithmetic.specs.Doubles.{absDouble, isFinite}
 use Rattle.atmosphere.specs.declared.given.Reading.{Reading}
 use Rattle.atmosphere.specs.declared.given.Reading.the-variants.{Given, FromLayer}
 use Rattle.atmosphere.specs.Station.{inTemperatureBand, unlessDefault, resolvedStationTemperature}
 use Rattle.density_altitude.specs.Inverse.{absoluteZero, temperatureRows}
-use Rattle.humid_air.specs.Humidity.{moleFractionCelsius}
 use Rattle.air.specs.Station.{atmosphere}
-use Rattle.refusal.specs.Outcomes.{Outcome, accepted, refused, _⟫_, row, _then_}
 use Rattle.refusal.specs.Causes.{NoneHolds}
-use Rattle.refusal.proofs.Rows.{then-append, then-none, then-next}
 use Rattle.record.specs.declared.entries.Readings.{Readings}
 use Rattle.record.specs.Entries.{noReadings, withEntry}
 use Rattle.fields.specs.Fields.{altitude, temperature, humidity, measuredPressure}
 use Rattle.mast.specs.Checks.{pressureRows, humidityRows, valueRows}
-use Rattle.refusal.specs.declared.judge.Figures.{Figures}
 use Rattle.station.specs.declared.resolved.Resolved.{Resolved}
 use Rattle.station.specs.Resolved.{ordinary}
 use Rattle.station.specs.Figures.{figuresWith, figuresOf}
-use Rattle.mast.specs.Judge.{airRows, airOutcome, judged}
-use Rattle.sheet.specs.Row.{rowText, figuresOutcome, stationOfRow, rowOutcome}
-use Rattle.sheet.specs.Sheet.{celsiusOfRow, rows, sheetInputRows, settingSheet}
 use Rattle.arithmetic.proofs.Every.{every, at}
 
 -- ---- the altitude
--- whether figures are air, if b says that the altitude is finite
-abbrev airIf : Bool → Figures → Bool
-airIf b f =
-    b
-    && isFinite (f .«temperature_c»)
-    && isFiniteAbove nought (f .«pressure_hpa»)
-    && isFiniteAbove nought (f .«density_kg_m3»)
-    && isFiniteAbove nought (f .«speed_of_sound_mps»)
-    && isFinite (f .«pressure_altitude_m»)
-    && isFinite (f .«density_matched_altitude_m»)
-    && isFinite (f .«vapor_mole_fraction»)
-
 module _ (h k p u : Float) (finite : isFinite h ≡ true) (also : isFinite k ≡ true) where
   pub same-row : (t : Float) → rowOutcome h p u t ≡ rowOutcome k p u t
   unfolding rowOutcome airOutcome figuresOutcome rowText figuresWith atmosphere
   same-row t =
-      let f = figuresOf (stationOfRow h p u t) in
-      let row-if : Bool → Outcome (List ℕ) = λ b. (row (lt one (moleFractionCelsius places t p u)) 14 [] ∷ row (not (airIf b f)) 15 [] ∷ []) then figuresOutcome t f in
-      then-next (airRows (stationOfRow h p u t)) (accepted f) (figuresOutcome t)
-      ∙ ap row-if (finite ∙ sym also)
-      ∙ sym (then-next (airRows (stationOfRow k p u t)) (accepted (figuresOf (stationOfRow k p u t))) (figuresOutcome t))
+      then-next (airRows (stationOfRow h p u t)) (accepted (figuresOf (stationOfRow h p u t))) (figuresOutcome t)
+      ∙ rw (finite ∙ sym also)
+      (sym (then-next (airRows (stationOfRow k p u t)) (accepted (figuresOf (stationOfRow k p u t))) (figuresOutcome t)))
 
   same-rows : (n : ℕ) → rows h p u n ≡ rows k p u n
   unfolding rows

@@ -1,11 +1,6 @@
 -- The outcomes of rows: what a row that is accepted has, the rows before it, and that a refusal stays. Assumes nothing.
-use Rattle.arithmetic.proofs.Kit.{_≡_, refl, sym, ap, _∙_, Bool, true, false, List, [], _++_, ℕ, zero, suc, _+_, _*_, add-zero, arith, Float, length, length-append}
+use Rattle.sheet.proofs.Kit.{_≡_, refl, sym, ap, _∙_, Bool, true, false, cond, List, [], _++_, ℕ, zero, suc, _+_, _*_, add-zero, arith, Float, length, length-append, Outcome, accepted, refused, _⟫_, Figures, airOutcome, rowText, isTooWide, figuresOutcome, stationOfRow, rowOutcome, celsiusOfRow, rows, bare}
 use native.Mathlib.Nat.{add-suc}
-use Rattle.refusal.specs.Outcomes.{Outcome, accepted, refused, _⟫_, row}
-use Rattle.refusal.specs.declared.judge.Figures.{Figures}
-use Rattle.mast.specs.Judge.{airOutcome}
-use Rattle.sheet.specs.Row.{rowText, isTooWide, figuresOutcome, stationOfRow, rowOutcome}
-use Rattle.sheet.specs.Sheet.{celsiusOfRow, rows, bare}
 use Rattle.sheet.proofs.Cells.{narrow, row-length}
 
 -- ---- outcomes
@@ -22,20 +17,16 @@ next-accepted (accepted x) k e = (x, refl, e)
 next-accepted (refused n vs) k e = let z : _≡_ {A = ℕ} 0 1 = cc in absurd (omega arith)
 
 -- ---- a row
-pub figures-refused : (t : Float) (f : Figures) → isTooWide t f ≡ true → figuresOutcome t f ≡ refused 17 []
+pub by-width : (t : Float) (f : Figures) {b : Bool} → isTooWide t f ≡ b → figuresOutcome t f ≡ cond b (refused 17 []) (accepted (rowText t f))
 unfolding figuresOutcome
-figures-refused t f e = rw e
-
-pub figures-accepted : (t : Float) (f : Figures) → isTooWide t f ≡ false → figuresOutcome t f ≡ accepted (rowText t f)
-unfolding figuresOutcome
-figures-accepted t f e = rw e
+by-width t f e = rw e
 
 figures-length : (t : Float) (f : Figures) (line : List ℕ) → figuresOutcome t f ≡ accepted line → length line ≡ 30
 figures-length t f line e = go (isTooWide t f) refl
   where
     go : (b : Bool) → isTooWide t f ≡ b → length line ≡ 30
-    go true w = let z : _≡_ {A = ℕ} 0 1 = cc (figures-refused t f w) in absurd (omega arith)
-    go false w = let same : line ≡ rowText t f = cc (figures-accepted t f w) in ap length same ∙ row-length t f (narrow t f w)
+    go true w = let z : _≡_ {A = ℕ} 0 1 = cc (by-width t f w) in absurd (omega arith)
+    go false w = let same : line ≡ rowText t f = cc (by-width t f w) in ap length same ∙ row-length t f (narrow t f w)
 
 module _ (h p u : Float) where
   pub line-length : (t : Float) (line : List ℕ) → rowOutcome h p u t ≡ accepted line → length line ≡ 30
@@ -43,27 +34,16 @@ module _ (h p u : Float) where
   line-length t line e = let f = next-accepted (airOutcome (stationOfRow h p u t)) (figuresOutcome t) e in figures-length t (f .0) line (f .2)
 
   -- what the station's air says
-  pub air-refused : (t : Float) {n : ℕ} {vs : List Float} → airOutcome (stationOfRow h p u t) ≡ refused n vs → rowOutcome h p u t ≡ refused n vs
+  pub by-air : (t : Float) {o : Outcome Figures} → airOutcome (stationOfRow h p u t) ≡ o → rowOutcome h p u t ≡ (o ⟫ figuresOutcome t)
   unfolding rowOutcome
-  air-refused t e = ap (λ (o : Outcome Figures). o ⟫ figuresOutcome t) e
-
-  pub air-accepted : (t : Float) {f : Figures} → airOutcome (stationOfRow h p u t) ≡ accepted f → rowOutcome h p u t ≡ figuresOutcome t f
-  unfolding rowOutcome
-  air-accepted t e = ap (λ (o : Outcome Figures). o ⟫ figuresOutcome t) e
+  by-air t e = ap (λ (o : Outcome Figures). o ⟫ figuresOutcome t) e
 
   -- ---- rows
-  -- one row more
-  pub more : (n : ℕ) (text line : List ℕ) → rows h p u n ≡ accepted text → rowOutcome h p u (celsiusOfRow n) ≡ accepted line
-      → rows h p u (suc n) ≡ accepted (text ++ line)
+  -- one row more, or its refusal
+  pub next-row : (n : ℕ) (text : List ℕ) {o : Outcome (List ℕ)} → rows h p u n ≡ accepted text → rowOutcome h p u (celsiusOfRow n) ≡ o
+      → rows h p u (suc n) ≡ (o ⟫ (λ y. accepted (text ++ y)))
   unfolding rows
-  more n text line e f =
-      ap (λ (o : Outcome (List ℕ)). o ⟫ (λ x. rowOutcome h p u (celsiusOfRow n) ⟫ (λ y. accepted (x ++ y)))) e
-      ∙ ap (λ (o : Outcome (List ℕ)). o ⟫ (λ y. accepted (text ++ y))) f
-
-  pub stopped : (n : ℕ) (text : List ℕ) {k : ℕ} {vs : List Float} → rows h p u n ≡ accepted text → rowOutcome h p u (celsiusOfRow n) ≡ refused k vs
-      → rows h p u (suc n) ≡ refused k vs
-  unfolding rows
-  stopped n text e f =
+  next-row n text e f =
       ap (λ (o : Outcome (List ℕ)). o ⟫ (λ x. rowOutcome h p u (celsiusOfRow n) ⟫ (λ y. accepted (x ++ y)))) e
       ∙ ap (λ (o : Outcome (List ℕ)). o ⟫ (λ y. accepted (text ++ y))) f
 

@@ -1,11 +1,5 @@
 -- What a refused sheet hands out: each check's number and values, and those of the rows. Assumes nothing.
-use Rattle.arithmetic.proofs.Kit.{_≡_, refl, Bool, true, false, cond, inl, inr, List, [], _∷_, _++_, ℕ, zero, suc, _≤_, arith, ltb, lit≤, Float}
-use Rattle.refusal.specs.Outcomes.{Outcome, accepted, refused, _⟫_, Row, row, _then_}
-use Rattle.mast.specs.Judge.{airRows, airOutcome}
-use Rattle.sheet.specs.Row.{rowText, isTooWide, figuresOutcome, stationOfRow, rowOutcome}
-use Rattle.sheet.specs.Sheet.{celsiusOfRow, rows, sheetInputRows, settingSheet}
-use Rattle.sheet.specs.Laws.{HandedOut}
-use Rattle.sheet.proofs.Stated.{RefusedSheet}
+use Rattle.sheet.proofs.Kit.{_≡_, refl, Bool, true, false, cond, inl, inr, List, [], _∷_, _++_, ℕ, zero, suc, _≤_, arith, ltb, lit≤, Float, Outcome, accepted, refused, _⟫_, Row, row, _then_, airRows, airOutcome, rowText, isTooWide, figuresOutcome, stationOfRow, rowOutcome, celsiusOfRow, rows, sheetInputRows, settingSheet, HandedOut}
 
 -- ---- outcomes whose refusals hand out what they should
 abbrev Good : (A : Type 0) → Outcome A → Type 0
@@ -55,7 +49,7 @@ module _ (h p u : Float) where
       good-next (rows h p u n) (λ text. rowOutcome h p u (celsiusOfRow n) ⟫ (λ line. accepted (text ++ line))) (good-sheet n)
       (λ text. good-next (rowOutcome h p u (celsiusOfRow n)) (λ line. accepted (text ++ line)) (good-row (celsiusOfRow n)) (λ line. good-accepted (text ++ line)))
 
-pub refused-sheet : RefusedSheet
+pub refused-sheet : (h p u : Float) (room number : ℕ) (values : List Float) → settingSheet h p u room ≡ refused number values → HandedOut number values
 unfolding settingSheet
 refused-sheet h p u room =
     good-rows (row (ltb room 1530) 16 [] ∷ sheetInputRows h p u) (

@@ -1,10 +1,5 @@
 -- What the page of promises spells out, in the words of the proofs: statements, and what only these cite. Definitions only.
-use Rattle.arithmetic.proofs.Kit.{ℕ, _*_, _≤_, _<_, _≡_, List, [], _∷_, _++_, Float, lt, length, take, drop, T, ltb}
-use Rattle.refusal.specs.Outcomes.{accepted, refused, Row, row, numbers}
-use Rattle.sheet.specs.Row.{rowOutcome}
-use Rattle.sheet.specs.Sheet.{celsiusOfRow, rows, settingSheet, sheetInputRows}
-use Rattle.sheet.specs.Laws.{HandedOut, linesRows, linesText, repeated}
-use Rattle.refusal.specs.Causes.{ExactlyCaused}
+use Rattle.sheet.proofs.Kit.{ℕ, _*_, _≤_, _<_, _≡_, List, [], _∷_, _++_, Float, lt, length, take, drop, T, ltb, accepted, Row, row, rowOutcome, celsiusOfRow, rows, settingSheet, sheetInputRows, linesRows}
 
 -- "The first n rows of a good sheet are always the rows of the first n temperatures, rising": the text is one of 1,530 bytes, its first 30 n bytes are the
 -- first n rows, the 30 bytes of row n are the row of the temperature n - 10 °C, and a later temperature is higher
@@ -17,14 +12,5 @@ pub record GoodSheet : Type 0 where
   pub rowsOf : (h p u : Float) (room : ℕ) (text : List ℕ) → settingSheet h p u room ≡ accepted text → FirstRows h p u text
   pub rising : (m n : ℕ) → m < n → n < 51 → T (lt (celsiusOfRow m) (celsiusOfRow n))
 
-abbrev pub RefusedSheet : Type 0
-RefusedSheet = (h p u : Float) (room number : ℕ) (values : List Float) → settingSheet h p u room ≡ refused number values → HandedOut number values
-
 abbrev pub sheetRows : Float → Float → Float → ℕ → List Row
 sheetRows h p u room = (row (ltb room 1530) 16 [] ∷ sheetInputRows h p u) ++ linesRows h p u 51
-
-abbrev pub SheetCaused : Float → Float → Float → ℕ → Type 0
-SheetCaused h p u room = ExactlyCaused (sheetRows h p u room) (linesText h p u 51) (settingSheet h p u room)
-
-abbrev pub SheetOrder : Type 0
-SheetOrder = (h p u : Float) (room : ℕ) → numbers (sheetRows h p u room) ≡ 16 ∷ 11 ∷ 11 ∷ 12 ∷ 11 ∷ 13 ∷ repeated 51 (14 ∷ 15 ∷ 17 ∷ [])

@@ -9,6 +9,7 @@ use super::row::write_row;
 use mast::checks::check_altitude;
 use mast::checks::check_humidity;
 use mast::checks::check_pressure;
+use pages::put;
 use record::entries::Entry;
 use refusal::Check;
 use refusal::Refusal;
@@ -80,7 +81,7 @@ pub fn setting_sheet(
             match write_rows(&mut own, altitude_m, pressure_hpa, humidity_percent) {
                 Check::Refused(refusal) => Sheet::Refused(refusal),
                 Check::Passed => {
-                    bytes::copy(&own, page);
+                    put(page, 0, &own);
                     Sheet::Written
                 }
             }

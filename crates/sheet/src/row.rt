@@ -1,51 +1,36 @@
 // A row of the setting sheet: four figures, each at the right of its column.
 ghost use mathlib.Core.Path.{_≡_};
-ghost use mathlib.Core.List.{_++_};
-ghost use Prim.Native.Nat.{_+_, _≤_, _<_};
-ghost use lib.ListN.{length};
+ghost use mathlib.Core.List.{[], _∷_, _++_};
+ghost use Prim.Native.Nat.{_-_, _≤_};
+ghost use lib.ListN.{drop};
 ghost use Rattle.refusal.specs.Outcomes.{checked};
-ghost use Rattle.sheet.specs.Over.{over, overOrLeft, lastPlaces};
+ghost use Rattle.pages.specs.Pages.{Appended};
+ghost use Rattle.sheet.specs.Over.{overOrLeft};
 ghost use Rattle.sheet.specs.Row.{figuresOutcome, rowOutcome};
 ghost use Rattle.sheet.specs.Sheet.{bare};
 use atmosphere::given::Reading;
 use decimals::shown::DecimalText;
 use decimals::shown::decimal_text;
 use mast::judge::answer_of;
+use pages::put;
 use refusal::Check;
 use refusal::Refusal;
 use refusal::judge::Answer;
 use refusal::judge::Figures;
 use station::resolved::Resolved;
 
-fn write_cell(page: &mut [u8], at: usize, text: DecimalText, width: usize, end: u8)
-    requires { ⌜ (width ≤ 16) × (at + width < length (now page)) ⌝ }
-    ensures { λ _. ⌜ (now (page .exit) ≡ over (now (page .entry)) at (lastPlaces width text end)) × (length (lastPlaces width text end) ≡ width + 1) ⌝ }
+// A figure's text at the right of its column, and the byte after the column; the position after both.
+fn put_cell(page: &mut [u8], at: usize, text: DecimalText, width: usize, end: u8) -> usize
+    requires { ⌜ width ≤ 16 ⌝ }
+    ensures { λ r. ⌜ Appended (now (page .entry)) at (drop (16 - width) (text .bytes) ++ end ∷ []) (now (page .exit)) r ⌝ }
 {
     let places = text.bytes;
-    bytes::copy(&places[16 - width..], &mut page[at..]);
-    page[at + width] = end;
-}
-
-fn write_cells(
-    page: &mut [u8],
-    at: usize,
-    temperature: DecimalText,
-    density: DecimalText,
-    sound: DecimalText,
-    altitude: DecimalText,
-)
-    requires { ⌜ at + 30 ≤ length (now page) ⌝ }
-    ensures { λ _. ⌜ now (page .exit) ≡ over (now (page .entry)) at
-        (lastPlaces 6 temperature 32 ++ lastPlaces 7 density 32 ++ lastPlaces 6 sound 32 ++ lastPlaces 7 altitude 10) ⌝ }
-{
-    write_cell(page, at, temperature, 6, b' ');
-    write_cell(page, at + 7, density, 7, b' ');
-    write_cell(page, at + 15, sound, 6, b' ');
-    write_cell(page, at + 22, altitude, 7, b'\n');
+    let column = put(page, at, &places[16 - width..]);
+    let last = [end];
+    put(page, column, &last)
 }
 
 fn write_figures(page: &mut [u8], at: usize, temperature_c: f64, figures: Figures) -> Check
-    requires { ⌜ at + 30 ≤ length (now page) ⌝ }
     ensures checked { λ r. ⌜ checked r ≡ bare (figuresOutcome «temperature_c» figures) ⌝ }
     ensures written { λ _. ⌜ now (page .exit) ≡ overOrLeft (now (page .entry)) at (figuresOutcome «temperature_c» figures) ⌝ }
 {
@@ -56,7 +41,10 @@ fn write_figures(page: &mut [u8], at: usize, temperature_c: f64, figures: Figure
     if (temperature.len > 6) | (density.len > 7) | (sound.len > 6) | (altitude.len > 7) {
         return Check::Refused(Refusal::TooWide);
     }
-    write_cells(page, at, temperature, density, sound, altitude);
+    let second = put_cell(page, at, temperature, 6, b' ');
+    let third = put_cell(page, second, density, 7, b' ');
+    let fourth = put_cell(page, third, sound, 6, b' ');
+    put_cell(page, fourth, altitude, 7, b'\n');
     Check::Passed
 }
 
@@ -69,7 +57,6 @@ pub(crate) fn write_row(
     humidity_percent: f64,
     temperature_c: f64,
 ) -> Check
-    requires { ⌜ at + 30 ≤ length (now page) ⌝ }
     ensures checked { λ r. ⌜ checked r ≡ bare (rowOutcome «altitude_m» «pressure_hpa» «humidity_percent» «temperature_c») ⌝ }
     ensures written { λ _. ⌜ now (page .exit) ≡ overOrLeft (now (page .entry)) at (rowOutcome «altitude_m» «pressure_hpa» «humidity_percent» «temperature_c») ⌝ }
 {

@@ -2,4 +2,5 @@
 pub mod Words
 pub mod Sizes
 pub mod Laws
+pub mod Quotients
 pub mod Fields

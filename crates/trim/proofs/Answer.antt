@@ -1,24 +1,7 @@
 -- The answer to a record: the smallest change that gives another class, and the refusals. Assumes nothing.
-use Rattle.arithmetic.proofs.Kit.{_≡_, refl, sym, ap, subst, _∙_, false, List, [], _⊎_, ⊎-elim, ℕ, arith, Float}
-use Rattle.refusal.specs.Outcomes.{Outcome, accepted, refused, _⟫_}
-use Rattle.record.specs.declared.entries.Entry.{Entry}
-use Rattle.record.specs.declared.entries.Entry.the-variants.{Absent, Present}
-use Rattle.record.specs.declared.entries.Readings.{Readings}
-use Rattle.fields.specs.Fields.{temperature, measuredPressure}
-use Rattle.record.specs.Readings.{readRecord}
-use Rattle.record.specs.Entries.{entryOf}
-use Rattle.refusal.specs.declared.judge.Figures.{Figures}
-use Rattle.mast.specs.Judge.{judged, judge}
-use Rattle.trim.specs.declared.changes.Turn.{Turn}
-use Rattle.trim.specs.declared.changes.Found.{Found}
+use Rattle.trim.proofs.Kit.{_≡_, refl, sym, ap, subst, _∙_, false, List, [], _⊎_, ⊎-elim, ℕ, arith, Float, Outcome, accepted, refused, _⟫_, Entry, Absent, Present, Readings, temperature, measuredPressure, readRecord, entryOf, Figures, judged, judge, Turn, Found, Start, trimClass, classOf, changes, firstOf, Next, nextFrom, startOf, nextWith, nextOf, nextTrimClass, OneOfThe800, FirstToGive, Asks}
 use Rattle.trim.specs.declared.changes.Found.the-variants as found
-use Rattle.trim.specs.declared.changes.Start.{Start}
-use Rattle.trim.specs.Classes.{trimClass, classOf}
-use Rattle.trim.specs.InOrder.{changes, firstOf}
-use Rattle.trim.specs.Search.{Next, nextFrom, startOf, nextWith, nextOf, nextTrimClass}
-use Rattle.trim.specs.Laws.{OneOfThe800, FirstToGive, Asks}
-use Rattle.trim.proofs.Stated.{ClassAnswered}
-use Rattle.trim.proofs.Stated.{Searched, SmallestChange, RefusalsFirst}
+use Rattle.trim.proofs.Stated.{ClassAnswered, Refusals, Searched}
 use Rattle.trim.proofs.Found.{FromCount, gives-from, gives-not-from, from-count}
 
 -- ---- the smallest change
@@ -59,7 +42,7 @@ module _ (bytes : List ℕ) (s : Start) (a : Asks bytes s) where
         none-where = λ none. answer bytes s a ∙ ap (λ (f : Found). accepted (record { class = s .class; turn = f })) e;
       }
 
-pub smallest-change : SmallestChange
+pub smallest-change : (bytes : List ℕ) (s : Start) → Asks bytes s → Searched bytes s
 smallest-change bytes s a = searched bytes s a (from-count s 200 1)
 
 -- ---- the refusals
@@ -118,5 +101,5 @@ answered bytes n e = go (readRecord false bytes) refl e
     go (accepted r) read e = by-class r (classOf r) read refl e
     go (refused k vs) read e = absurd (refused-or e)
 
-pub refusals-first : RefusalsFirst
+pub refusals-first : (bytes : List ℕ) → Refusals bytes
 refusals-first bytes = record { own = own-refusal bytes; no-reading = no-reading-refused bytes; else-answered = answered bytes }

@@ -1,22 +1,10 @@
 -- Each number of the answer has exactly its cause, and the class is a count of six limits. Assumes nothing.
-use Rattle.arithmetic.proofs.Kit.{_≡_, refl, sym, ap, ap₂, _∙_, false, not, _||_, List, [], _∷_, ℕ, arith}
-use Rattle.refusal.specs.Outcomes.{Outcome, accepted, _⟫_, row, _then_}
+use Rattle.trim.proofs.Kit.{_≡_, refl, sym, ap, ap₂, _∙_, false, not, _||_, List, [], _∷_, ℕ, arith, Outcome, accepted, _⟫_, row, _then_, Entry, Absent, Present, Readings, entryOf, isPresent, valueOrZero, temperature, measuredPressure, readRows, readings, Figures, resolved, readingRows, recordRows, judged, judge, classDensities, countAtOrBelow, trimClass, classOf, changes, firstOf, Next, nextFrom, startOf, nextWith, nextOf, nextTrimClass, nextFor, Float, _+_, cond, le}
 use Rattle.refusal.proofs.Rows.{then-append, then-next, none-both, exactly-by}
-use Rattle.record.specs.declared.entries.Entry.{Entry}
-use Rattle.record.specs.declared.entries.Entry.the-variants.{Absent, Present}
-use Rattle.record.specs.declared.entries.Readings.{Readings}
-use Rattle.record.specs.Entries.{entryOf, isPresent, valueOrZero}
-use Rattle.fields.specs.Fields.{temperature, measuredPressure}
-use Rattle.record.specs.Readings.{readRows, readings}
-use Rattle.refusal.specs.declared.judge.Figures.{Figures}
 use Rattle.station.specs.Figures.{figuresOf}
-use Rattle.mast.specs.Judge.{resolved, readingRows, recordRows, judged, judge}
 use Rattle.mast.proofs.Causes as mast
-use Rattle.trim.specs.Classes.{classDensities, countAtOrBelow, trimClass, classOf}
-use Rattle.trim.specs.InOrder.{changes, firstOf}
-use Rattle.trim.specs.Search.{Next, nextFrom, startOf, nextWith, nextOf, nextTrimClass}
-use Rattle.trim.specs.Laws.{nextFor}
-use Rattle.trim.proofs.Stated.{trimRows, Caused, NeverRefused, ClassCounts}
+use Rattle.trim.proofs.Stated.{trimRows, Caused}
+use Rattle.arithmetic.specs.Decimals.{decimal}
 
 -- 22 by the two readings
 by-readings : (r : Readings) (c : ℕ) (t p : Entry)
@@ -44,13 +32,16 @@ caused bytes =
     (then-next (readRows false bytes) (accepted r) nextOf ∙ ap (λ (o : Outcome Next). readRows false bytes then o) next-is
     ∙ sym (then-append (readRows false bytes) own (last then accepted n)) ∙ sym (then-append (recordRows false bytes) last (accepted n)))
 
-pub never-refused : NeverRefused
+-- a record that is accepted and has both readings is answered, never refused
+pub never-refused : (bytes : List ℕ) (f : Figures) (t p : Float) → judge bytes ≡ accepted f → entryOf (readings bytes) temperature ≡ Present t
+    → entryOf (readings bytes) measuredPressure ≡ Present p → (n : Next) × (nextTrimClass bytes ≡ accepted n)
 unfolding judge
 never-refused bytes f t p e temperature-there pressure-there =
     let both : (not (isPresent (entryOf (readings bytes) temperature)) || not (isPresent (entryOf (readings bytes) measuredPressure))) ≡ false =
     ap₂ (λ (x y : Entry). not (isPresent x) || not (isPresent y)) temperature-there pressure-there in
     (nextFor bytes, caused bytes .accepted-where (none-both (recordRows false bytes) (row (not (isPresent (entryOf (readings bytes) temperature)) || not (isPresent (entryOf (readings bytes) measuredPressure))) 22 [] ∷ []) (mast.caused false bytes .accepted-because e .0) (both, tt)))
 
-pub class-counts : ClassCounts
+pub class-counts : (r : Readings) (f : Figures) → judged r ≡ accepted f
+    → let d = f .«density_kg_m3» in classOf r ≡ accepted (cond (le (decimal "1.00") d) 1 0 + cond (le (decimal "1.05") d) 1 0 + cond (le (decimal "1.10") d) 1 0 + cond (le (decimal "1.15") d) 1 0 + cond (le (decimal "1.20") d) 1 0 + cond (le (decimal "1.25") d) 1 0)
 unfolding classOf trimClass classDensities countAtOrBelow
 class-counts r f e = ap (λ (o : Outcome Figures). o ⟫ (λ g. accepted (trimClass (g .«density_kg_m3»)))) e ∙ ap accepted (omega arith)

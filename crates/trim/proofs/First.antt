@@ -1,12 +1,6 @@
 -- The first of some changes that gives another class: change by change, and one list after the other. Assumes nothing.
-use Rattle.arithmetic.proofs.Kit.{_≡_, refl, sym, ap, _∙_, List, [], _∷_, _++_}
-use Rattle.trim.specs.declared.changes.Change.{Change}
-use Rattle.trim.specs.declared.changes.Turn.{Turn}
-use Rattle.trim.specs.declared.changes.Found.{Found}
+use Rattle.trim.proofs.Kit.{_≡_, refl, sym, ap, _∙_, List, [], _∷_, _++_, Change, Turn, Found, Start, tried, orElse, firstOf}
 use Rattle.trim.specs.declared.changes.Found.the-variants as found
-use Rattle.trim.specs.declared.changes.Start.{Start}
-use Rattle.trim.specs.Changes.{tried}
-use Rattle.trim.specs.InOrder.{orElse, firstOf}
 
 module _ (s : Start) (x : Change) (xs : List Change) where
   -- the change tried gives another class, or it does not

@@ -1,18 +1,7 @@
 -- What the search finds: of one change, of the four changes by one count, and of the counts from k on. Assumes nothing.
-use Rattle.arithmetic.proofs.Kit.{_≡_, refl, sym, ap, subst, _∙_, Bool, true, false, cond, ⊎-elim, ℕ, zero, suc, _+_, _≤_, _<_, eq-or-lt-of-le, arith, eqb-true, eqb-false, T, leb, eqb, leb→le}
-use Rattle.refusal.specs.Outcomes.{Outcome, accepted, refused}
-use Rattle.trim.specs.declared.changes.Quantity.{Quantity}
-use Rattle.trim.specs.declared.changes.Quantity.the-variants.{Temperature, MeasuredPressure}
+use Rattle.trim.proofs.Kit.{_≡_, refl, sym, ap, subst, _∙_, Bool, true, false, cond, ⊎-elim, ℕ, zero, suc, _+_, _≤_, _<_, eq-or-lt-of-le, arith, eqb-true, eqb-false, T, leb, eqb, leb→le, Outcome, accepted, refused, Quantity, Temperature, MeasuredPressure, Up, Down, Change, Found, Start, classOf, changed, change, another, tried, changesOf, changesFrom, firstOf, rank, place, Gives}
 use Rattle.trim.specs.declared.changes.Direction.{Direction}
-use Rattle.trim.specs.declared.changes.Direction.the-variants.{Up, Down}
-use Rattle.trim.specs.declared.changes.Change.{Change}
-use Rattle.trim.specs.declared.changes.Found.{Found}
 use Rattle.trim.specs.declared.changes.Found.the-variants as found
-use Rattle.trim.specs.declared.changes.Start.{Start}
-use Rattle.trim.specs.Classes.{classOf}
-use Rattle.trim.specs.Changes.{changed, change, another, tried}
-use Rattle.trim.specs.InOrder.{changesOf, changesFrom, firstOf}
-use Rattle.trim.specs.Laws.{rank, place, Gives}
 use Rattle.trim.proofs.First.{first-append}
 
 abbrev pub NotGiven : Start → Change → Type 0

@@ -1,4 +1,5 @@
 -- The places of the changes, and the first of some that gives another class.
+pub mod Kit
 pub mod Stated
 pub mod Places
 pub mod First

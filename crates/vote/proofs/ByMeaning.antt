@@ -1,15 +1,6 @@
 -- The voted readings by meaning: each meaning that is in all three has the middle, and no other is there. Assumes nothing.
-use Rattle.arithmetic.proofs.Kit.{_≡_, refl, sym, subst, _∙_, _≢_, _⊎_, inl, inr, ℕ, zero, suc, _≤_, _<_, eq-or-lt-of-le, le-of-suc-le-suc, arith}
-use Rattle.record.specs.declared.entries.Entry.{Entry}
-use Rattle.record.specs.declared.entries.Entry.the-variants.{Absent, Present}
-use Rattle.record.specs.declared.entries.Readings.{Readings}
-use Rattle.fields.specs.Fields.{meanings}
-use Rattle.record.specs.Entries.{entryOf}
+use Rattle.vote.proofs.Kit.{_≡_, refl, sym, subst, _∙_, _≢_, _⊎_, inl, inr, ℕ, zero, suc, _≤_, _<_, eq-or-lt-of-le, le-of-suc-le-suc, arith, Entry, Absent, Present, Readings, meanings, entryOf, middle, withMiddle, votedOf, middleEntry, voted}
 use Rattle.record.proofs.ByMeaning.{Whole, none-whole, with-whole, none-there, entry-set, entry-left}
-use Rattle.arithmetic.specs.Middle.{middle}
-use Rattle.vote.specs.Fields.{withMiddle, votedOf}
-use Rattle.vote.specs.Laws.{middleEntry}
-use Rattle.vote.proofs.Stated.{VotedByMeaning}
 
 -- ---- one meaning more
 with-middle-whole : (r : Readings) (m : ℕ) (e f g : Entry) → Whole r → Whole (withMiddle r m e f g)
@@ -54,5 +45,5 @@ module _ (a b c : Readings) where
           (here (votedOf n a b c) n (entryOf a n) (entryOf b n) (entryOf c n) (voted-whole n) (omega arith) (not-yet n n (omega arith)))
       go (inr l) rest = elsewhere (votedOf n a b c) n m (entryOf a n) (entryOf b n) (entryOf c n) (λ e. omega arith) ∙ rest l
 
-pub voted-by-meaning : VotedByMeaning
+pub voted-by-meaning : (a b c : Readings) (m : ℕ) → m < meanings → entryOf (voted a b c) m ≡ middleEntry (entryOf a m) (entryOf b m) (entryOf c m)
 voted-by-meaning a b c m h = done a b c meanings m h (omega arith)

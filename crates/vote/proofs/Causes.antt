@@ -1,22 +1,11 @@
 -- Each number of a vote has exactly its cause, and a mast is named exactly if it is the first that is refused. Assumes nothing.
-use Rattle.arithmetic.proofs.Kit.{_≡_, refl, sym, ap, _∙_, Bool, true, false, not, _&&_, _||_, cond, false≢true, _⊎_, inl, inr, List, [], _∷_, _++_, ℕ, zero, suc, _+_, _≤_, _<_, eq-or-lt-of-le, le-of-suc-le-suc, arith, Float}
+use Rattle.vote.proofs.Kit.{_≡_, refl, sym, ap, _∙_, Bool, true, false, not, _&&_, _||_, cond, false≢true, _⊎_, inl, inr, List, [], _∷_, _++_, ℕ, zero, suc, _+_, _≤_, _<_, eq-or-lt-of-le, le-of-suc-le-suc, arith, Float, Outcome, accepted, refused, _⟫_, Row, _then_, Readings, entryOf, isPresent, meanings, readRows, readings, Figures, resolved, readingRows, recordRows, judged, judge, oneIf, isNotInAll, notInAllOf, anyNotInAll, sharedRows, voted, VoteOutcome, byMast, byNoMast, acceptedReadings, afterMast, votedOutcome, vote, Accepts}
 use mathlib.Core.Bool.{or-true}
-use Rattle.refusal.specs.Outcomes.{Outcome, accepted, refused, _⟫_, Row, _then_}
 use Rattle.refusal.proofs.Rows.{then-append, then-next, then-rows, then-none, exactly-by, never-refused}
-use Rattle.record.specs.declared.entries.Readings.{Readings}
-use Rattle.record.specs.Entries.{entryOf, isPresent}
-use Rattle.fields.specs.Fields.{meanings}
-use Rattle.record.specs.Readings.{readRows, readings}
-use Rattle.refusal.specs.declared.judge.Figures.{Figures}
 use Rattle.station.specs.Figures.{figuresOf}
-use Rattle.mast.specs.Judge.{resolved, readingRows, recordRows, judged, judge}
 use Rattle.mast.proofs.Causes as mast
 use Rattle.mast.proofs.Numbers.{readings-never, record-never}
-use Rattle.arithmetic.specs.Middle.{oneIf}
-use Rattle.vote.specs.Fields.{isNotInAll, notInAllOf, anyNotInAll, sharedRows, voted}
-use Rattle.vote.specs.Vote.{VoteOutcome, byMast, byNoMast, acceptedReadings, afterMast, votedOutcome, vote}
-use Rattle.vote.specs.Laws.{Accepts}
-use Rattle.vote.proofs.Stated.{MastsNamed, NoMastNamed, votedReadings, voteRows, Caused, InOneOrTwo, FieldMissing}
+use Rattle.vote.proofs.Stated.{votedReadings, voteRows, Caused, InOneOrTwo, FieldMissing, NamedBecause}
 use Rattle.vote.proofs.Laws.{masts-in-order}
 
 -- ---- the outcome is one list of rows
@@ -104,7 +93,7 @@ module _ (a b c : List ℕ) (number : ℕ) (values : List Float) where
   named-3 (is-3 p q n vs h) e = (p, (q, h ∙ same (masts-in-order a b c n vs .mast-3 p q h) e))
   named-3 (none p q r) e = let z = apart (masts-accepted a b c p q r) e in absurd (omega arith)
 
-pub masts-named : MastsNamed
+pub masts-named : (a b c : List ℕ) (number : ℕ) (values : List Float) → NamedBecause a b c number values
 masts-named a b c number values =
     record {
       mast-1 = named-1 a b c number values (first a b c);
@@ -112,7 +101,7 @@ masts-named a b c number values =
       mast-3 = named-3 a b c number values (first a b c);
     }
 
-pub no-mast-named : NoMastNamed
+pub no-mast-named : (a b c : List ℕ) → Accepts a → Accepts b → Accepts c → vote a b c .mast ≡ 0
 no-mast-named a b c p q r = ap (λ (v : VoteOutcome). v .mast) (masts-accepted a b c p q r)
 
 -- ---- 21

@@ -1,13 +1,6 @@
 -- The laws of a vote: the first mast that is refused is named, the masts may change places, three equal records vote as the one, and two equal ones outvote the third. Assumes nothing.
-use Rattle.arithmetic.proofs.Kit.{_≡_, refl, sym, ap, _∙_, List, ℕ, arith, Float}
-use Rattle.refusal.specs.Outcomes.{Outcome, accepted, refused, _⟫_}
-use Rattle.record.specs.declared.entries.Readings.{Readings}
-use Rattle.refusal.specs.declared.judge.Figures.{Figures}
-use Rattle.mast.specs.Judge.{judged, judge}
-use Rattle.vote.specs.Vote.{VoteOutcome, byNoMast, acceptedReadings, afterMast, vote, votedOutcome}
-use Rattle.vote.specs.Laws.{Accepts}
-use Rattle.vote.proofs.Stated.{Votes}
-use Rattle.vote.proofs.Stated.{MastsInOrder, ExchangeOfMasts, ThreeEqual, TwoEqual}
+use Rattle.vote.proofs.Kit.{_≡_, refl, sym, ap, _∙_, List, ℕ, arith, Float, Outcome, accepted, refused, _⟫_, Readings, Figures, judged, judge, VoteOutcome, byNoMast, acceptedReadings, afterMast, vote, votedOutcome, Accepts, SameFields}
+use Rattle.vote.proofs.Stated.{Votes, FirstRefused, VotesInEveryOrder, Outvoted}
 use Rattle.vote.proofs.Readings.{after, is-accepted, by-the-judge, numbers, exchange-first, exchange-last, outvoted}
 
 -- ---- an accepted vote: three accepted records, and what their readings give together
@@ -35,9 +28,10 @@ taken-apart a b c f e =
     let three = after-mast 3 (acceptedReadings c) (λ p. byNoMast (votedOutcome (one .0) (two .0) p)) (two .2) in
     record { first = one .0; second = two .0; third = three .0; of-first = one .1; of-second = two .1; of-third = three .1; together = ap (λ (v : VoteOutcome). v .outcome) (three .2) }
 
-put-together : (a b c : List ℕ) (f : Figures) → Voted a b c f → Votes a b c f
+put-together : (a b c : List ℕ) (f : Figures) {p q r : Readings} → acceptedReadings a ≡ accepted p → acceptedReadings b ≡ accepted q → acceptedReadings c ≡ accepted r
+    → votedOutcome p q r ≡ accepted f → Votes a b c f
 unfolding vote
-put-together a b c f v = rw (v .of-first, v .of-second, v .of-third) (ap byNoMast (v .together))
+put-together a b c f of-first of-second of-third together = rw (of-first, of-second, of-third) (ap byNoMast together)
 
 -- ---- the masts one after the other
 refused-so : (s : List ℕ) {n : ℕ} {vs : List Float} → judge s ≡ refused n vs → acceptedReadings s ≡ refused n vs
@@ -50,7 +44,7 @@ refused-so s {n} {vs} e = go (acceptedReadings s) refl (sym (by-the-judge s) ∙
 readings-of : (s : List ℕ) → Accepts s → (r : Readings) × (acceptedReadings s ≡ accepted r)
 readings-of s (f, e) = let a = after (acceptedReadings s) judged (sym (by-the-judge s) ∙ e) in (a .0, a .1)
 
-pub masts-in-order : MastsInOrder
+pub masts-in-order : (a b c : List ℕ) (number : ℕ) (values : List Float) → FirstRefused a b c number values
 unfolding vote
 masts-in-order a b c n vs =
     record {
@@ -63,32 +57,16 @@ masts-in-order a b c n vs =
 exchanged-first : (a b c : List ℕ) (f : Figures) → Votes a b c f → Votes b a c f
 exchanged-first a b c f e =
     let v = taken-apart a b c f e in
-    put-together b a c f
-    (record {
-      first = v .second;
-      second = v .first;
-      third = v .third;
-      of-first = v .of-second;
-      of-second = v .of-first;
-      of-third = v .of-third;
-      together = exchange-first (v .first) (v .second) (v .third) (numbers a (v .first) (v .of-first)) (numbers b (v .second) (v .of-second)) (numbers c (v .third) (v .of-third)) ∙ v .together;
-    })
+    put-together b a c f (v .of-second) (v .of-first) (v .of-third)
+    (exchange-first (v .first) (v .second) (v .third) (numbers a (v .first) (v .of-first)) (numbers b (v .second) (v .of-second)) (numbers c (v .third) (v .of-third)) ∙ v .together)
 
 exchanged-last : (a b c : List ℕ) (f : Figures) → Votes a b c f → Votes a c b f
 exchanged-last a b c f e =
     let v = taken-apart a b c f e in
-    put-together a c b f
-    (record {
-      first = v .first;
-      second = v .third;
-      third = v .second;
-      of-first = v .of-first;
-      of-second = v .of-third;
-      of-third = v .of-second;
-      together = exchange-last (v .first) (v .second) (v .third) (numbers a (v .first) (v .of-first)) (numbers b (v .second) (v .of-second)) (numbers c (v .third) (v .of-third)) ∙ v .together;
-    })
+    put-together a c b f (v .of-first) (v .of-third) (v .of-second)
+    (exchange-last (v .first) (v .second) (v .third) (numbers a (v .first) (v .of-first)) (numbers b (v .second) (v .of-second)) (numbers c (v .third) (v .of-third)) ∙ v .together)
 
-pub exchange-of-masts : ExchangeOfMasts
+pub exchange-of-masts : (a b c : List ℕ) (f : Figures) → Votes a b c f → VotesInEveryOrder a b c f
 exchange-of-masts a b c f e =
     let acb = exchanged-last a b c f e in
     let bac = exchanged-first a b c f e in
@@ -97,15 +75,16 @@ exchange-of-masts a b c f e =
     record { acb = acb; bac = bac; bca = bca; cab = cab; cba = exchanged-first b c a f bca }
 
 -- ---- two equal records
-pub two-equal : TwoEqual
+pub two-equal : (s t : List ℕ) (r q : Readings) (f : Figures) → acceptedReadings s ≡ accepted r → acceptedReadings t ≡ accepted q → SameFields r q
+    → judge s ≡ accepted f → Outvoted s t f
 two-equal s t r q f one other same e =
     let figures : judged r ≡ accepted f = sym (ap (λ (o : Outcome Readings). o ⟫ judged) one) ∙ sym (by-the-judge s) ∙ e in
-    let third = put-together s s t f (record { first = r; second = r; third = q; of-first = one; of-second = one; of-third = other; together = outvoted r q same ∙ figures }) in
+    let third = put-together s s t f one one other (outvoted r q same ∙ figures) in
     let second = exchanged-last s s t f third in
     record { first = exchanged-first s t s f second; second = second; third = third }
 
--- ---- three
-pub three-equal : ThreeEqual
+-- ---- three equal records vote as the one
+pub three-equal : (s : List ℕ) → vote s s s ≡ afterMast 1 (judge s) (λ f. byNoMast (accepted f))
 unfolding vote
 three-equal s = rw by-the-judge (go (acceptedReadings s) refl)
   where

@@ -1,4 +1,5 @@
 -- The vote on fields, and of masts.
+pub mod Kit
 pub mod Stated
 pub mod ByMeaning
 pub mod Readings

@@ -1,22 +1,9 @@
 -- What is known of the readings of accepted records: each value is a double that is not NaN. So the vote on them is the same in every order. Assumes nothing.
-use Rattle.arithmetic.proofs.Kit.{_≡_, refl, sym, ap, ap₂, _∙_, Bool, true, false, not, _&&_, _||_, cond, false≢true, List, [], ℕ, zero, suc, _≤_, _<_, arith}
-use Rattle.refusal.specs.Outcomes.{Outcome, accepted, refused, _⟫_}
-use Rattle.record.specs.declared.entries.Entry.{Entry}
-use Rattle.record.specs.declared.entries.Entry.the-variants.{Absent, Present}
-use Rattle.record.specs.declared.entries.Readings.{Readings}
-use Rattle.fields.specs.Fields.{meanings}
-use Rattle.record.specs.Readings.{readRecord}
-use Rattle.record.specs.Entries.{entryOf, withEntry, isPresent}
+use Rattle.vote.proofs.Kit.{_≡_, refl, sym, ap, ap₂, _∙_, Bool, true, false, not, _&&_, _||_, cond, false≢true, List, [], ℕ, zero, suc, _≤_, _<_, arith, Outcome, accepted, refused, _⟫_, Entry, Absent, Present, Readings, meanings, readRecord, entryOf, withEntry, isPresent, Figures, judged, judge, isNotInAll, notInAllOf, withMiddle, votedOf, voted, acceptedReadings, votedOutcome, middleEntry, SameFields}
 use Rattle.record.proofs.ByMeaning.{reads-doubles}
-use Rattle.refusal.specs.declared.judge.Figures.{Figures}
 use Rattle.mast.proofs.Stated.{FiniteEntry}
-use Rattle.mast.specs.Judge.{judged, judge}
 use Rattle.mast.proofs.Entries.{judged-by-entries, accepted-is-finite}
 use Rattle.arithmetic.proofs.NotANumber.{is-number}
-use Rattle.vote.specs.Fields.{isNotInAll, notInAllOf, withMiddle, votedOf, voted}
-use Rattle.vote.specs.Vote.{acceptedReadings, votedOutcome}
-use Rattle.vote.specs.Laws.{middleEntry, SameFields}
-use Rattle.vote.proofs.Stated.{ByTheJudge, TwoEqualValues}
 use Rattle.arithmetic.proofs.OfThree.{middle-in-every-order, two-equal}
 use Rattle.vote.proofs.ByMeaning.{voted-by-meaning}
 use Rattle.arithmetic.proofs.ThreeInOrder.{IsNumber}
@@ -39,7 +26,8 @@ is-accepted s r e =
     let same : one .0 ≡ r = cc in
     record { read = one .1 ∙ ap accepted same; figures = two .0; judged-so = ap judged (sym same) ∙ two .1 }
 
-pub by-the-judge : ByTheJudge
+-- a mast's record is accepted and refused as the judge does it
+pub by-the-judge : (s : List ℕ) → judge s ≡ (acceptedReadings s ⟫ judged)
 unfolding judge acceptedReadings
 by-the-judge s = go (readRecord false s)
   where
@@ -138,7 +126,7 @@ the-two (Present x) (Present z) h = ap Present (two-equal x z)
 the-two (Present x) Absent h = absurd (false≢true (sym h))
 the-two Absent f h = refl
 
-pub two-equal-values : TwoEqualValues
+pub two-equal-values : (r q : Readings) → SameFields r q → (m : ℕ) → m < meanings → entryOf (voted r r q) m ≡ entryOf r m
 two-equal-values r q same m h = voted-by-meaning r r q m h ∙ the-two (entryOf r m) (entryOf q m) (same m h)
 
 none-missing : (r q : Readings) → SameFields r q → (n : ℕ) → n ≤ meanings → notInAllOf n r r q ≡ false

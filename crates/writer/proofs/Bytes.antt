@@ -1,6 +1,5 @@
 -- The bytes of a number: how many they are, and one shift for each. Assumes nothing.
-use Rattle.arithmetic.proofs.Kit.{_≡_, refl, sym, ap, _∙_, List, [], _∷_, _++_, ℕ, zero, suc, _+_, _*_, _^_, add-zero, mul-suc, pow-suc, arith, length, set, pow-add, sets}
-use Rattle.writer.specs.Records.{bytes}
+use Rattle.writer.proofs.Kit.{_≡_, refl, sym, ap, _∙_, List, [], _∷_, _++_, ℕ, zero, suc, _+_, _*_, _^_, add-zero, mul-suc, pow-suc, arith, length, set, pow-add, sets, bytes}
 
 pub length-bytes : (k n : ℕ) → length (bytes k n) ≡ k
 unfolding bytes

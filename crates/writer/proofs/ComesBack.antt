@@ -1,16 +1,7 @@
 -- A record that has no field in a form and converts to it comes back with the same bytes, field by field. Assumes nothing.
-use Rattle.arithmetic.proofs.Kit.{_≡_, refl, sym, ap, ap₂, subst, _∙_, Bool, true, false, not, List, _∷_, _++_, ℕ, arith, take, drop, take-append-drop}
-use Rattle.refusal.specs.Outcomes.{accepted}
-use Rattle.refusal.specs.Causes.{NoneHolds}
-use Rattle.refusal.proofs.Rows.{then-none, then-accepted, none-both}
-use Rattle.fields.specs.Fields.{sizeOf, headsFrom}
-use Rattle.fields.proofs.Heads.{Split, at-end, at-field, split}
-use Rattle.record.specs.Readings.{readRows}
-use Rattle.writer.specs.Laws.{AreBytes}
-use Rattle.writer.specs.Conversion.{fieldIn, fieldsOf, fieldsIn, recordIn, countRows, converted, AllIn}
+use Rattle.writer.proofs.Kit.{_≡_, refl, sym, ap, ap₂, subst, _∙_, Bool, true, false, not, List, _∷_, _++_, ℕ, arith, take, drop, take-append-drop, accepted, NoneHolds, then-none, then-accepted, none-both, sizeOf, headsFrom, Split, at-end, at-field, split, readRows, AreBytes, fieldIn, fieldsOf, fieldsIn, recordIn, countRows, converted, AllIn, head-whole}
 use Rattle.writer.proofs.ConversionStated.{ComesBack, ComeBack}
 use Rattle.writer.proofs.Split.{split-step, split-after, first-size, first-rows, bytes-taken, bytes-dropped, Whole, head-of, is-all-whole}
-use Rattle.record.proofs.EntryLaws.{head-whole}
 use Rattle.writer.proofs.FieldTurned.{seen-as, field-back}
 use Rattle.writer.proofs.ReadAlike.{none-refuses, same-entries}
 

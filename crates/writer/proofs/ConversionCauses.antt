@@ -1,11 +1,6 @@
 -- Each number of a conversion has exactly its cause, in the order of the checks. Assumes nothing.
-use Rattle.arithmetic.proofs.Kit.{_≡_, refl, ap, ap₂, _∙_, Bool, false, List, [], _∷_, _++_, flatMap, ℕ, length}
-use Rattle.refusal.specs.Outcomes.{numbers}
-use Rattle.refusal.proofs.Rows.{numbers-append, then-rows, exactly-by}
-use Rattle.record.specs.Readings.{readRows}
+use Rattle.writer.proofs.Kit.{_≡_, refl, ap, ap₂, _∙_, Bool, false, List, [], _∷_, _++_, flatMap, ℕ, length, numbers, numbers-append, then-rows, exactly-by, readRows, roomRows, lengthWritten, fieldsOf, recordIn, countRows, converted}
 use Rattle.record.proofs.Numbers.{fields-in-order}
-use Rattle.writer.specs.Written.{roomRows, lengthWritten}
-use Rattle.writer.specs.Conversion.{fieldsOf, recordIn, countRows, converted}
 use Rattle.writer.proofs.ConversionStated.{conversionRows, Caused, OrderOfChecks}
 
 pub caused : (counts : Bool) (s buffer : List ℕ) → Caused counts s buffer

@@ -1,14 +1,6 @@
 -- What is proved of a conversion, as types; the page of promises says it in full. Assumes nothing.
-use Rattle.arithmetic.proofs.Kit.{ℕ, _≡_, Bool, true, false, not, List, [], _∷_, _++_, flatMap, length, Float}
-use Rattle.refusal.specs.Outcomes.{accepted, refused, Row, numbers}
-use Rattle.refusal.specs.Causes.{ExactlyCaused}
-use Rattle.record.specs.declared.entries.Readings.{Readings}
+use Rattle.writer.proofs.Kit.{ℕ, _≡_, Bool, true, false, not, List, [], _∷_, _++_, flatMap, length, accepted, Row, numbers, ExactlyCaused, Readings, readRecord, readRows, entryOf, AreBytes, roomRows, AllIn, fieldsOf, converted, lengthConverted, countRows, recordIn}
 use Rattle.fields.specs.Tags.{tags}
-use Rattle.record.specs.Readings.{readRecord, readRows}
-use Rattle.record.specs.Entries.{entryOf}
-use Rattle.writer.specs.Laws.{AreBytes}
-use Rattle.writer.specs.Written.{roomRows}
-use Rattle.writer.specs.Conversion.{AllIn, fieldsOf, converted, lengthConverted, countRows, recordIn}
 
 -- a record that has no field in the form and converts to it comes back with the same bytes
 abbrev pub ComesBack : Bool → Type 0
@@ -28,10 +20,6 @@ pub record ReadAlike (s t : List ℕ) : Type 0 where
 
 abbrev pub SameEntries : Type 0
 SameEntries = (counts : Bool) (s t : List ℕ) → AreBytes s → converted counts s ≡ accepted t → ReadAlike s t
-
--- ---- every count has a double: 20 is never answered to a conversion to doubles
-abbrev pub OnlyToCounts : Type 0
-OnlyToCounts = (s buffer : List ℕ) (values : List Float) → lengthConverted false s buffer ≡ refused 20 values → ⊥
 
 -- ---- each number has exactly its cause: 5 to 8 by the first reader, then 20, then 18
 abbrev pub conversionRows : Bool → List ℕ → List ℕ → List Row

@@ -1,20 +1,7 @@
 -- A field that is written, as the readers see it: no row of a field refuses it, and its value is the one that was written. Assumes nothing.
-use Rattle.arithmetic.proofs.Kit.{_≡_, sym, ap, ap₂, _∙_, Bool, true, false, not, _&&_, cond, List, [], _++_, append-nil, append-assoc, ℕ, _+_, _%_, _^_, _<_, mod-eq-of-lt, arith, le-ltb, eq-eqb, not-true, ltb, binary64, ofBits, ofBits-toBits, length, length-append, drop-of-length-le}
+use Rattle.writer.proofs.Kit.{_≡_, sym, ap, ap₂, _∙_, Bool, true, false, not, _&&_, cond, List, [], _++_, append-nil, append-assoc, ℕ, _+_, _%_, _^_, _<_, mod-eq-of-lt, arith, le-ltb, eq-eqb, not-true, ltb, binary64, ofBits, ofBits-toBits, length, length-append, drop-of-length-le, NoneHolds, then-none, none-both, Value, Double, Count, Readings, numberAt, doubleAt, isCountTag, isTag, meaningOf, isCount, dataSize, tagOf, lengthOf, sizeOf, valueOf, field, headRows, orderRows, noted, withValue, entryOf, isPresent, size-by, at-most, fieldRows, read, bytes, dataOf, fieldWith, hasForm, IsHeld}
 use lib.Ieee.Bits.{toBits-lt}
-use Rattle.refusal.specs.Causes.{NoneHolds}
-use Rattle.refusal.proofs.Rows.{then-none, none-both}
-use Rattle.fields.specs.declared.fields.Value.{Value}
-use Rattle.fields.specs.declared.fields.Value.the-variants.{Double, Count}
-use Rattle.record.specs.declared.entries.Readings.{Readings}
-use Rattle.fields.specs.Bytes.{numberAt, doubleAt}
-use Rattle.fields.specs.Fields.{isCountTag, isTag, meaningOf, isCount, dataSize, tagOf, lengthOf, sizeOf, valueOf, field, headRows}
-use Rattle.record.specs.Readings.{orderRows, noted}
-use Rattle.record.specs.Entries.{withValue, entryOf, isPresent}
-use Rattle.fields.proofs.Forms.{size-by, at-most}
-use Rattle.record.proofs.Walk.{fieldRows, read}
 use Rattle.record.proofs.Followed.{read-whole}
-use Rattle.writer.specs.Records.{bytes, dataOf, fieldWith, hasForm}
-use Rattle.writer.specs.Laws.{IsHeld}
 use Rattle.writer.proofs.Bytes.{length-bytes}
 use Rattle.writer.proofs.Fields.{length-field}
 use Rattle.writer.proofs.Spelled.{spelled}

@@ -1,21 +1,10 @@
 -- A field in a form: the readers take it, with the same meaning and the same double; and out of the other form it comes back byte for byte. Assumes nothing.
-use Rattle.arithmetic.proofs.Kit.{_≡_, refl, sym, ap, ap₂, _∙_, Bool, true, false, not, cond, true≢false, List, ℕ, _<_, arith, binary64, ofBits-fits, length, take-all}
-use Rattle.refusal.specs.Causes.{NoneHolds}
-use Rattle.fields.specs.declared.fields.Value.{Value}
-use Rattle.fields.specs.declared.fields.Value.the-variants.{Double, Count}
-use Rattle.fields.specs.Bytes.{numberAt, doubleAt}
-use Rattle.fields.specs.Fields.{meanings, isCountTag, isTag, meaningOf, tagIn, isCount, doubleOf, tagOf, sizeOf, valueOf, headRows}
-use Rattle.fields.proofs.Forms.{tag-known, tag-meaning}
-use Rattle.writer.specs.Records.{fieldWith, fieldFor, hasForm}
-use Rattle.writer.specs.Laws.{AreBytes, IsHeld}
+use Rattle.writer.proofs.Kit.{_≡_, refl, sym, ap, ap₂, _∙_, Bool, true, false, not, cond, true≢false, List, ℕ, _<_, arith, binary64, ofBits-fits, length, take-all, NoneHolds, Value, Double, Count, numberAt, doubleAt, meanings, isCountTag, isTag, meaningOf, tagIn, isCount, doubleOf, tagOf, sizeOf, valueOf, headRows, tag-known, tag-meaning, fieldWith, fieldFor, hasForm, AreBytes, IsHeld, Turned, Kept, Other, NoCount, turned, fieldAs, turnedOf, fieldIn, hasNoCount}
 use Rattle.writer.proofs.Fields.{field-meant}
 use Rattle.writer.proofs.Spelled.{word-lt}
 use Rattle.writer.proofs.FieldRead.{tag-read, size-read, value-read, none-refuses}
 use Rattle.writer.proofs.FieldWritten.{value-form, tag-is, same-bytes}
 use Rattle.writer.proofs.Passed.{tag-at-most, tag-of-form}
-use Rattle.writer.specs.declared.conversion.Turned.{Turned}
-use Rattle.writer.specs.declared.conversion.Turned.the-variants.{Kept, Other, NoCount}
-use Rattle.writer.specs.Conversion.{turned, fieldAs, turnedOf, fieldIn, hasNoCount}
 use Rattle.writer.proofs.Values.{TurnedTo, turned-to, kept-form}
 
 -- the value of bytes is one that the code holds

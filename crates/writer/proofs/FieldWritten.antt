@@ -1,15 +1,7 @@
 -- A field that no row of a field refuses is byte for byte what is written of its tag and its value, where that is not NaN, which has other patterns too. Assumes
 -- nothing.
-use Rattle.arithmetic.proofs.Kit.{_≡_, refl, sym, ap, ap₂, subst, _∙_, Bool, true, false, not, cond, List, _++_, ℕ, _≤_, arith, ltb-false, eqb-true, not-false, T, binary64, length, take, drop}
+use Rattle.writer.proofs.Kit.{_≡_, refl, sym, ap, ap₂, subst, _∙_, Bool, true, false, not, cond, List, _++_, ℕ, _≤_, arith, ltb-false, eqb-true, not-false, T, binary64, length, take, drop, take-add, NoneHolds, Double, Count, numberAt, doubleAt, isCountTag, isCount, dataSize, tagOf, lengthOf, sizeOf, valueOf, headRows, Tagged, tagged, bytes, dataOf, fieldWith, hasForm, AreBytes}
 use lib.Ieee.Bits.{toBits-ofBits}
-use lib.Seq.{take-add}
-use Rattle.refusal.specs.Causes.{NoneHolds}
-use Rattle.fields.specs.declared.fields.Value.the-variants.{Double, Count}
-use Rattle.fields.specs.Bytes.{numberAt, doubleAt}
-use Rattle.fields.specs.Fields.{isCountTag, isCount, dataSize, tagOf, lengthOf, sizeOf, valueOf, headRows}
-use Rattle.fields.proofs.Forms.{Tagged, tagged}
-use Rattle.writer.specs.Records.{bytes, dataOf, fieldWith, hasForm}
-use Rattle.writer.specs.Laws.{AreBytes}
 use Rattle.writer.proofs.Stated.{NotNan}
 use Rattle.writer.proofs.Spelled.{word-lt, spells}
 

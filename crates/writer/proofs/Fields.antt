@@ -1,13 +1,5 @@
 -- The bytes of a field and of the fields from a tag on: how many they are, and one field after the other. Assumes nothing.
-use Rattle.arithmetic.proofs.Kit.{_≡_, sym, ap, _∙_, Bool, true, false, cond, List, [], _++_, ℕ, zero, suc, _+_, _-_, _*_, _≤_, _<_, arith, add-one, lt-ltb, le-ltb, ltb, length, length-append}
-use Rattle.fields.specs.declared.fields.Value.{Value}
-use Rattle.record.specs.declared.entries.Stored.{Stored}
-use Rattle.record.specs.declared.entries.Stored.the-variants.{Absent, Present}
-use Rattle.record.specs.declared.entries.Readings.{Readings}
-use Rattle.fields.specs.Fields.{meanings, meaningOf, tagIn, dataSize, isCount}
-use Rattle.record.specs.Entries.{storedOf}
-use Rattle.fields.proofs.Forms.{at-most}
-use Rattle.writer.specs.Records.{bytes, dataOf, fieldWith, fieldFor, hasForm, storedField, fieldsFrom}
+use Rattle.writer.proofs.Kit.{_≡_, sym, ap, _∙_, Bool, true, false, cond, List, [], _++_, ℕ, zero, suc, _+_, _-_, _*_, _≤_, _<_, arith, add-one, lt-ltb, le-ltb, ltb, length, length-append, Value, Stored, Absent, Present, Readings, meanings, meaningOf, tagIn, dataSize, isCount, storedOf, at-most, bytes, dataOf, fieldWith, fieldFor, hasForm, storedField, fieldsFrom}
 use Rattle.writer.proofs.Bytes.{length-bytes}
 
 pub length-field : (tag : ℕ) (v : Value) → length (fieldWith tag v) ≡ 3 + dataSize tag

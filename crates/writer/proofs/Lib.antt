@@ -1,4 +1,5 @@
 -- The bytes of a number and of a field, and a run of stores.
+pub mod Kit
 pub mod Stated
 pub mod ConversionStated
 pub mod Bytes

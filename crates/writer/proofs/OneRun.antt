@@ -1,11 +1,5 @@
 -- A record as one run of tags, 01 to 17 (hex): those between the two forms have no field. Assumes nothing.
-use Rattle.arithmetic.proofs.Kit.{_≡_, refl, sym, ap, _∙_, Bool, true, false, cond, List, [], _++_, append-assoc, ℕ, zero, suc, _+_, _≤_, _<_, arith, add-one, length}
-use Rattle.record.specs.declared.entries.Stored.{Stored}
-use Rattle.record.specs.declared.entries.Stored.the-variants.{Absent, Present}
-use Rattle.record.specs.declared.entries.Readings.{Readings}
-use Rattle.fields.specs.Fields.{meanings, meaningOf, isCount, tagIn}
-use Rattle.record.specs.Entries.{storedOf}
-use Rattle.writer.specs.Records.{fieldWith, hasForm, storedField, fieldsFrom, recordOf}
+use Rattle.writer.proofs.Kit.{_≡_, refl, sym, ap, _∙_, Bool, true, false, cond, List, [], _++_, append-assoc, ℕ, zero, suc, _+_, _≤_, _<_, arith, add-one, length, Stored, Absent, Present, Readings, meanings, meaningOf, isCount, tagIn, storedOf, fieldWith, hasForm, storedField, fieldsFrom, recordOf}
 use Rattle.writer.proofs.Fields.{rest, next-field}
 use Rattle.writer.proofs.Passed.{NoField, is-meant, form-tag}
 

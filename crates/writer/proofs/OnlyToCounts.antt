@@ -1,15 +1,6 @@
 -- Every count has a double: no field of a record has cause 20 on the way to doubles, and the reader has no such cause. Assumes nothing.
-use Rattle.arithmetic.proofs.Kit.{_≡_, refl, ap, _∙_, Bool, true, false, cond, List, [], _∷_, _++_, ℕ, arith, ltb, Float, length}
-use Rattle.refusal.specs.Outcomes.{Outcome, accepted, refused, _⟫_}
-use Rattle.refusal.proofs.Rows.{Never, never-both, never-refused}
-use Rattle.fields.specs.declared.fields.Value.{Value}
-use Rattle.fields.specs.declared.fields.Value.the-variants.{Double, Count}
-use Rattle.fields.specs.Fields.{meaningOf, tagOf, valueOf}
-use Rattle.record.specs.Readings.{readRows}
+use Rattle.writer.proofs.Kit.{_≡_, refl, ap, _∙_, Bool, true, false, cond, List, [], _∷_, _++_, ℕ, arith, ltb, Float, length, Outcome, accepted, refused, _⟫_, Never, never-both, never-refused, Value, Double, Count, meaningOf, tagOf, valueOf, readRows, lengthWritten, turned, hasNoCount, fieldsOf, recordIn, countRows, converted, lengthConverted}
 use Rattle.record.proofs.Numbers.{fields-never}
-use Rattle.writer.specs.Written.{lengthWritten}
-use Rattle.writer.specs.Conversion.{turned, hasNoCount, fieldsOf, recordIn, countRows, converted}
-use Rattle.writer.proofs.ConversionStated.{OnlyToCounts}
 
 -- ---- rows that never refuse by 20
 has-double : (m : ℕ) (v : Value) → hasNoCount (turned false m v) ≡ false
@@ -26,7 +17,8 @@ converted-never s e =
     never-refused 20 (recordIn false s) (readRows false s ++ countRows false (fieldsOf s))
     (never-both 20 (readRows false s) (countRows false (fieldsOf s)) (fields-never 20 (omega arith) false s) (counts-never (fieldsOf s))) e
 
-pub only-to-counts : OnlyToCounts
+-- every count has a double: 20 is never answered to a conversion to doubles
+pub only-to-counts : (s buffer : List ℕ) (values : List Float) → lengthConverted false s buffer ≡ refused 20 values → ⊥
 only-to-counts s buffer vs e = go (converted false s) refl e
   where
     no-room : (t : List ℕ) (b : Bool) → cond b (refused 18 []) (accepted (length t)) ≡ refused 20 vs → ⊥

@@ -1,11 +1,6 @@
 -- The outcome of a conversion, by its checks: what the reader refuses, then 20, then whether there is room. Assumes nothing.
-use Rattle.arithmetic.proofs.Kit.{_≡_, ap₂, _∙_, Bool, true, false, cond, List, [], _∷_, ℕ, _≤_, _<_, arith, Float, length, sets}
-use Rattle.refusal.specs.Outcomes.{Outcome, accepted, refused, Row, _then_}
-use Rattle.refusal.specs.Causes.{NoneHolds}
-use Rattle.refusal.proofs.Rows.{then-append, then-none, then-accepted}
-use Rattle.record.specs.Readings.{readRows, readings, readRecord}
+use Rattle.writer.proofs.Kit.{_≡_, ap₂, _∙_, Bool, true, false, cond, List, [], _∷_, ℕ, _≤_, _<_, arith, Float, length, sets, Outcome, accepted, refused, Row, _then_, NoneHolds, then-append, then-none, then-accepted, readRows, readings, readRecord, fieldsOf, recordIn, countRows, converted, lengthConverted, writtenIn}
 use Rattle.writer.proofs.Room.{no-room, room}
-use Rattle.writer.specs.Conversion.{fieldsOf, recordIn, countRows, converted, lengthConverted, writtenIn}
 
 -- what rows refuse, they refuse whatever comes after them
 rows-refuse : {A B : Type 0} (x : A) (rows : List Row) {n : ℕ} {vs : List Float} → (rows then accepted x) ≡ refused n vs → (o : Outcome B) → (rows then o) ≡ refused n vs

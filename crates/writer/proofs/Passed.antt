@@ -1,17 +1,7 @@
 -- What is stored of readings for the tags below one: how far a record is written or read, field by field in the order of its tags. Assumes nothing.
-use Rattle.arithmetic.proofs.Kit.{_≡_, refl, sym, ap, subst, _∙_, Bool, true, false, not, cond, List, ℕ, suc, _+_, _-_, _≤_, _<_, arith, lt-ltb, le-ltb, ltb-true, ltb-false, leb-true, leb-false, eqb-true, eqb-false, ltb, leb, eqb, length, length-set, List·getD-eq-default}
+use Rattle.writer.proofs.Kit.{_≡_, refl, sym, ap, subst, _∙_, Bool, true, false, not, cond, List, ℕ, suc, _+_, _-_, _≤_, _<_, arith, lt-ltb, le-ltb, ltb-true, ltb-false, leb-true, leb-false, eqb-true, eqb-false, ltb, leb, eqb, length, length-set, List·getD-eq-default, getD-set-same, getD-set-other, ext-getD, Value, Double, Count, Stored, Absent, Present, Readings, meanings, isCountTag, meaningOf, tagIn, isCount, slotOf, noReadings, storedOf, withValue, from-first, tag-form, tag-meaning, hasForm}
 use lib.ListN.{getD-replicate}
-use lib.Seq.{getD-set-same, getD-set-other, ext-getD}
-use Rattle.fields.specs.declared.fields.Value.{Value}
-use Rattle.fields.specs.declared.fields.Value.the-variants.{Double, Count}
-use Rattle.record.specs.declared.entries.Stored.{Stored}
-use Rattle.record.specs.declared.entries.Stored.the-variants.{Absent, Present}
 use Rattle.record.specs.declared.entries.Slot.{Slot}
-use Rattle.record.specs.declared.entries.Readings.{Readings}
-use Rattle.fields.specs.Fields.{meanings, isCountTag, meaningOf, tagIn, isCount}
-use Rattle.record.specs.Entries.{slotOf, noReadings, storedOf, withValue}
-use Rattle.fields.proofs.Forms.{from-first, tag-form, tag-meaning}
-use Rattle.writer.specs.Records.{hasForm}
 use Rattle.writer.proofs.FieldRead.{one-form}
 
 -- ---- what is stored for a meaning

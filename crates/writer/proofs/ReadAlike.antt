@@ -1,23 +1,8 @@
 -- To the first reader a record and what it converts to are the same: field by field, it notes the same doubles for the same meanings. Assumes nothing.
-use Rattle.arithmetic.proofs.Kit.{_≡_, refl, sym, ap, subst, _∙_, Bool, true, false, List, _∷_, _++_, ℕ, _≤_, _<_, arith, eqb-true, eqb-false, eqb, length, take, drop, length-set}
-use Rattle.refusal.specs.Outcomes.{accepted}
-use Rattle.refusal.specs.Causes.{NoneHolds}
-use Rattle.refusal.proofs.Rows.{then-none, then-accepted, none-before, none-after, none-both}
-use Rattle.fields.specs.declared.fields.Field.{Field}
-use Rattle.fields.specs.declared.fields.Value.{Value}
+use Rattle.writer.proofs.Kit.{_≡_, refl, sym, ap, subst, _∙_, Bool, true, false, List, _∷_, _++_, ℕ, _≤_, _<_, arith, eqb-true, eqb-false, eqb, length, take, drop, length-set, accepted, NoneHolds, then-none, then-accepted, none-before, none-after, none-both, Field, Value, Present, Readings, meanings, doubleOf, tagOf, sizeOf, field, headRows, headsFrom, orderRows, noted, readRows, readings, readRecord, slotOf, noReadings, withValue, entryFor, entryOf, isPresent, Split, at-end, at-field, split, fieldRows, no-bytes, read-step, any-last, is-new, is-whole, in-range, AreBytes, fieldIn, turnedOf, hasNoCount, fieldsOf, fieldsIn, recordIn, countRows, converted}
 use Rattle.record.specs.declared.entries.Entry.the-variants as entry
-use Rattle.record.specs.declared.entries.Stored.the-variants.{Present}
-use Rattle.record.specs.declared.entries.Readings.{Readings}
-use Rattle.fields.specs.Fields.{meanings, doubleOf, tagOf, sizeOf, field, headRows, headsFrom}
-use Rattle.record.specs.Readings.{orderRows, noted, readRows, readings, readRecord}
-use Rattle.record.specs.Entries.{slotOf, noReadings, withValue, entryFor, entryOf, isPresent}
-use Rattle.fields.proofs.Heads.{Split, at-end, at-field, split}
-use Rattle.record.proofs.Walk.{fieldRows, no-bytes, read-step, any-last}
-use Rattle.record.proofs.EntryLaws.{is-new, is-whole, in-range}
 use Rattle.record.proofs.Exchange.{whole, read-one}
-use Rattle.writer.specs.Laws.{AreBytes}
 use Rattle.writer.proofs.Passed.{stored-same, stored-other}
-use Rattle.writer.specs.Conversion.{fieldIn, turnedOf, hasNoCount, fieldsOf, fieldsIn, recordIn, countRows, converted}
 use Rattle.writer.proofs.ConversionStated.{SameEntries}
 use Rattle.writer.proofs.Split.{split-step, first-size, first-rows, first-field, bytes-taken, bytes-dropped}
 use Rattle.writer.proofs.FieldTurned.{SeenAs, seen-as}

@@ -1,18 +1,5 @@
 -- What is written is read back: field by field, the readings so far are those of the tags passed. Assumes nothing.
-use Rattle.arithmetic.proofs.Kit.{_≡_, refl, sym, ap, subst, _∙_, Bool, true, false, cond, true≢false, List, [], _++_, ℕ, zero, suc, _+_, _≤_, _<_, arith, le-ltb}
-use Rattle.refusal.specs.Outcomes.{accepted}
-use Rattle.fields.specs.declared.fields.Value.{Value}
-use Rattle.record.specs.declared.entries.Stored.{Stored}
-use Rattle.record.specs.declared.entries.Stored.the-variants.{Absent, Present}
-use Rattle.record.specs.declared.entries.Readings.{Readings}
-use Rattle.fields.specs.Fields.{meanings, isTag, meaningOf, isCount}
-use Rattle.record.specs.Readings.{readRecord}
-use Rattle.record.specs.Entries.{noReadings, storedOf, withValue, entryFor, entryOf, isPresent}
-use Rattle.fields.proofs.Forms.{tag-known}
-use Rattle.record.proofs.Walk.{no-bytes, read}
-use Rattle.writer.specs.Records.{fieldWith, hasForm, storedField, fieldsFrom}
-use Rattle.writer.specs.Laws.{AreHeld}
-use Rattle.writer.proofs.Stated.{ReadBack}
+use Rattle.writer.proofs.Kit.{_≡_, refl, sym, ap, subst, _∙_, Bool, true, false, cond, true≢false, List, [], _++_, ℕ, zero, suc, _+_, _≤_, _<_, arith, le-ltb, accepted, Value, Stored, Absent, Present, Readings, meanings, isTag, meaningOf, isCount, readRecord, noReadings, storedOf, withValue, entryFor, entryOf, isPresent, tag-known, no-bytes, read, fieldWith, hasForm, storedField, fieldsFrom, AreHeld, recordOf}
 use Rattle.writer.proofs.FieldRead.{read-field}
 use Rattle.writer.proofs.Passed.{is-meant, form-tag, upTo, is-not-below, Below, none-passed, all-passed, no-field-passed, field-passed}
 use Rattle.writer.proofs.OneRun.{one-run}
@@ -58,5 +45,6 @@ module _ (r : Readings) (known : AreHeld r) where
               let same : v ≡ w = cc in
               true≢false (sym other ∙ ap (hasForm tag) (sym same) ∙ form)))
 
-pub read-back : ReadBack
+-- the strict reader reads back what is written, each value in its form, NaN as the one NaN
+pub read-back : (r : Readings) → AreHeld r → readRecord true (recordOf r) ≡ accepted r
 read-back r known = ap (readRecord true) (sym (one-run r (known .all))) ∙ read-rest r known (16 + meanings) 1 noReadings 0 refl (omega arith) (omega arith) (none-passed r)

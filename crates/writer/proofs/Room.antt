@@ -1,8 +1,5 @@
 -- Bytes at the start of a buffer, by whether they have room there. Assumes nothing.
-use Rattle.arithmetic.proofs.Kit.{_≡_, _∙_, List, [], ℕ, _≤_, _<_, zero-add, arith, lt-ltb, le-ltb, length, sets}
-use lib.Seq.{sets-eq}
-use Rattle.refusal.specs.Outcomes.{accepted, refused}
-use Rattle.writer.specs.Written.{lengthWritten, overwritten}
+use Rattle.writer.proofs.Kit.{_≡_, _∙_, List, [], ℕ, _≤_, _<_, zero-add, arith, lt-ltb, le-ltb, length, sets, sets-eq, accepted, refused, lengthWritten, overwritten}
 
 module _ (s buffer : List ℕ) where
   pub no-room : length buffer < length s → (refused 18 [] ≡ lengthWritten s buffer) × (buffer ≡ overwritten s buffer)

@@ -1,11 +1,7 @@
 -- The bytes of a number and the number that bytes spell: each undoes the other. Assumes nothing.
-use Rattle.arithmetic.proofs.Kit.{_≡_, refl, sym, ap, ap₂, _∙_, List, [], _∷_, _++_, append-assoc, ℕ, zero, suc, _+_, _*_, _/_, _%_, _^_, _≤_, _<_, pow-suc, pow-succ', one-le-pow, div-div-eq-div-mul, arith, digits-lt, digits-div, lit<, length, take, drop, getD, length-drop, getD-drop}
+use Rattle.writer.proofs.Kit.{_≡_, refl, sym, ap, ap₂, _∙_, List, [], _∷_, _++_, append-assoc, ℕ, zero, suc, _+_, _*_, _/_, _%_, _^_, _≤_, _<_, pow-suc, pow-succ', one-le-pow, div-div-eq-div-mul, arith, digits-lt, digits-div, lit<, length, take, drop, getD, length-drop, getD-drop, getD-append-add, getD-at, take-suc, numberAt, bytes, AreBytes}
 use native.Mathlib.Nat.{mod-one}
 use lib.Arith.{mod-mul, digits-mod}
-use lib.Seq.{getD-append-add, getD-at, take-suc}
-use Rattle.fields.specs.Bytes.{numberAt}
-use Rattle.writer.specs.Records.{bytes}
-use Rattle.writer.specs.Laws.{AreBytes}
 use Rattle.writer.proofs.Bytes.{length-bytes}
 
 -- the lowest byte apart

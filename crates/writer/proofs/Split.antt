@@ -1,25 +1,9 @@
 -- The fields of a record, each with all of its bytes: the first, and those that follow it. A record that is read is whole, and its fields are few. Assumes nothing.
-use Rattle.arithmetic.proofs.Kit.{_≡_, refl, sym, ap, ap₂, subst, _∙_, Bool, true, false, List, [], _∷_, _++_, map, ℕ, _+_, _*_, _≤_, _<_, arith, ltb-true, ltb-false, ltb, length, take, drop, getD, length-take, length-append, length-set, take-append-drop, List·getD-eq-default, length-take-le, getD-drop}
+use Rattle.writer.proofs.Kit.{_≡_, refl, sym, ap, ap₂, subst, _∙_, Bool, true, false, List, [], _∷_, _++_, map, ℕ, _+_, _*_, _≤_, _<_, arith, ltb-true, ltb-false, ltb, length, take, drop, getD, length-take, length-append, length-set, take-append-drop, List·getD-eq-default, length-take-le, getD-drop, getD-take, take-append-seam, drop-append-seam, NoneHolds, none-before, none-after, Present, Readings, meanings, dataSize, tagOf, sizeOf, field, headRows, heads, noted, orderRows, rowsOf, readRows, slotOf, noReadings, at-most, heads-step, fieldRows, is-new, in-range, AreBytes, Turned, Kept, Other, NoCount, fieldAs, sizeAs, turnedOf, fieldIn, fieldsOf, fieldsIn, recordIn}
 use lib.ListN.{List·getD-append}
-use lib.Seq.{getD-take, take-append-seam, drop-append-seam}
-use Rattle.refusal.specs.Causes.{NoneHolds}
-use Rattle.refusal.proofs.Rows.{none-before, none-after}
-use Rattle.record.specs.declared.entries.Stored.the-variants.{Present}
-use Rattle.record.specs.declared.entries.Readings.{Readings}
-use Rattle.fields.specs.Fields.{meanings, dataSize, tagOf, sizeOf, field, headRows, heads}
-use Rattle.record.specs.Readings.{noted, orderRows, rowsOf, readRows}
-use Rattle.record.specs.Entries.{slotOf, noReadings}
-use Rattle.fields.proofs.Forms.{at-most}
-use Rattle.fields.proofs.Heads.{heads-step}
-use Rattle.record.proofs.Walk.{fieldRows}
-use Rattle.record.proofs.EntryLaws.{is-new, in-range}
 use Rattle.record.proofs.Followed.{same-rows, same-field}
 use Rattle.record.proofs.FirstBytes.{room, falls}
-use Rattle.writer.specs.Laws.{AreBytes}
 use Rattle.writer.proofs.Fields.{field-short}
-use Rattle.writer.specs.declared.conversion.Turned.{Turned}
-use Rattle.writer.specs.declared.conversion.Turned.the-variants.{Kept, Other, NoCount}
-use Rattle.writer.specs.Conversion.{fieldAs, sizeAs, turnedOf, fieldIn, fieldsOf, fieldsIn, recordIn}
 
 -- ---- one field after the other
 pub split-step : (s : List ℕ) → 0 < length s → fieldsOf s ≡ take (sizeOf s) s ∷ fieldsOf (drop (sizeOf s) s)

@@ -1,20 +1,5 @@
 -- What is proved of a record that is written and read, as types; the page of promises says it in full. Assumes nothing.
-use Rattle.arithmetic.proofs.Kit.{ℕ, _≡_, true, false, List, isNan, length}
-use Rattle.refusal.specs.Outcomes.{accepted}
-use Rattle.refusal.specs.Causes.{ExactlyCaused}
-use Rattle.fields.specs.declared.fields.Value.{Value}
-use Rattle.fields.specs.declared.fields.Value.the-variants.{Double, Count}
-use Rattle.record.specs.declared.entries.Stored.the-variants.{Present}
-use Rattle.record.specs.declared.entries.Readings.{Readings}
-use Rattle.record.specs.Readings.{readRecord}
-use Rattle.record.specs.Entries.{storedOf}
-use Rattle.writer.specs.Records.{recordOf}
-use Rattle.writer.specs.Written.{roomRows, lengthWritten}
-use Rattle.writer.specs.Laws.{AreHeld, AreBytes}
-
--- the strict reader reads back what is written, each value in its form, NaN as the one NaN
-abbrev pub ReadBack : Type 0
-ReadBack = (r : Readings) → AreHeld r → readRecord true (recordOf r) ≡ accepted r
+use Rattle.writer.proofs.Kit.{ℕ, _≡_, true, false, List, isNan, length, accepted, ExactlyCaused, Value, Double, Count, Present, Readings, readRecord, storedOf, recordOf, roomRows, lengthWritten, AreBytes}
 
 abbrev pub NotNan : Value → Type 0
 NotNan (Double x) = isNan x ≡ false

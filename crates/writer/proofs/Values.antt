@@ -1,17 +1,11 @@
 -- A value in the other form: it means the same double, and comes back. By the laws of counts, their words and their doubles. Assumes nothing.
-use Rattle.arithmetic.proofs.Kit.{_≡_, refl, sym, ap, subst, _∙_, Bool, true, false, not, ℕ, arith, ℤ, T, Float, nan, inf, fin, isNan, finite}
+use Rattle.writer.proofs.Kit.{_≡_, refl, sym, ap, subst, _∙_, Bool, true, false, not, ℕ, arith, ℤ, T, Float, nan, inf, fin, isNan, finite, Value, Double, Count, isCount, doubleOf, IsHeld, Kept, Other, countedField, turned}
 use Rattle.thousandths.specs.declared.Counted.{Counted}
 use Rattle.thousandths.specs.declared.Counted.the-variants as found
 use Rattle.thousandths.specs.Thousandths.{countOf, twosComplement, thousandths, countFor}
 use Rattle.thousandths.proofs.Words.{twos-complement}
 use Rattle.thousandths.proofs.Laws.{thousandths-fits, count-of-double, double-of-count}
-use Rattle.fields.specs.declared.fields.Value.{Value}
-use Rattle.fields.specs.declared.fields.Value.the-variants.{Double, Count}
-use Rattle.fields.specs.Fields.{isCount, doubleOf}
-use Rattle.writer.specs.Laws.{IsHeld}
 use Rattle.writer.proofs.Stated.{NotNan}
-use Rattle.writer.specs.declared.conversion.Turned.the-variants.{Kept, Other}
-use Rattle.writer.specs.Conversion.{countedField, turned}
 
 pub record TurnedTo (counts : Bool) (m : ℕ) (v : Value) (n : ℕ) (w : Value) : Type 0 where
   pub its-meaning : n ≡ m

@@ -1,20 +1,5 @@
 -- What the strict reader takes is what is written of its readings: its tags rise, so field by field the record is the fields of the tags passed. Assumes nothing.
-use Rattle.arithmetic.proofs.Kit.{_≡_, refl, sym, ap, ap₂, subst, _∙_, Bool, true, false, true≢false, List, [], _∷_, _++_, _⊎_, inl, inr, ⊎-elim, ℕ, suc, _+_, _-_, _≤_, _<_, arith, add-one, ltb-true, ltb-false, eqb-true, eqb-false, ltb, eqb, length, drop, length-set, take-append-drop, getD-drop}
-use Rattle.refusal.specs.Outcomes.{accepted}
-use Rattle.refusal.specs.Causes.{NoneHolds}
-use Rattle.refusal.proofs.Rows.{then-accepted, none-before}
-use Rattle.fields.specs.declared.fields.Value.{Value}
-use Rattle.record.specs.declared.entries.Stored.{Stored}
-use Rattle.record.specs.declared.entries.Stored.the-variants.{Present}
-use Rattle.record.specs.declared.entries.Readings.{Readings}
-use Rattle.fields.specs.Fields.{meanings, meaningOf, tagIn, isCount, tagOf, sizeOf, valueOf, field, headRows}
-use Rattle.record.specs.Readings.{orderRows, noted}
-use Rattle.record.specs.Entries.{slotOf, noReadings, storedOf, withValue, entryFor, entryOf, isPresent}
-use Rattle.fields.proofs.Forms.{Tagged}
-use Rattle.fields.proofs.Heads.{Split, at-end, at-field, split}
-use Rattle.record.proofs.Walk.{fieldRows, no-bytes, read, read-step}
-use Rattle.record.proofs.EntryLaws.{is-new, in-order}
-use Rattle.writer.specs.Laws.{AreBytes}
+use Rattle.writer.proofs.Kit.{_≡_, refl, sym, ap, ap₂, subst, _∙_, Bool, true, false, true≢false, List, [], _∷_, _++_, _⊎_, inl, inr, ⊎-elim, ℕ, suc, _+_, _-_, _≤_, _<_, arith, add-one, ltb-true, ltb-false, eqb-true, eqb-false, ltb, eqb, length, drop, length-set, take-append-drop, getD-drop, accepted, NoneHolds, then-accepted, none-before, Value, Stored, Present, Readings, meanings, meaningOf, tagIn, isCount, tagOf, sizeOf, valueOf, field, headRows, orderRows, noted, slotOf, noReadings, storedOf, withValue, entryFor, entryOf, isPresent, Tagged, Split, at-end, at-field, split, fieldRows, no-bytes, read, read-step, is-new, in-order, AreBytes}
 use Rattle.writer.proofs.Stated.{NoNan, WrittenAgain}
 use Rattle.writer.proofs.Fields.{next-field, no-field, by-form}
 use Rattle.writer.proofs.FieldWritten.{value-form, has-its-form, tag-is, same-bytes}

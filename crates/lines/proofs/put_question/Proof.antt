@@ -1,7 +1,7 @@
 -- `lines::put_question` meets its contract. Assumes nothing.
 use Rattle.arithmetic.proofs.Kit.{_≡_, sym, ap, ap₂, _∙_, true, false, List, [], ℕ, _≤_, _<_, le-leb, lt-leb, eq-eqb, ne-eqb, getD, needs}
 use Rattle.pages.proofs.Growing.{same-more}
-use Rattle.park_text.specs.Word.{placeIn}
+use Rattle.questions.specs.Words.{placeIn}
 use Rattle.questions.specs.Words.{lineParts}
 use Rattle.questions.specs.Forms.{fits, wrongLine}
 use Rattle.lines.specs.Asked.{functionAnswer}

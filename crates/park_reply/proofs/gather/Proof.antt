@@ -12,7 +12,7 @@ abbrev μ-loop : tie.MeasureT-loop
 loop-again : tie.Need-loop-again Inv-loop μ-loop
 loop-again c =
     let lent = c .before .before .before .before in
-    simp length-set (omega (arith, lent .words2 .given .1), omega (arith, lent .words2 .given .1))
+    simp length-set (omega (arith, lent .words .given .1), omega (arith, lent .words .given .1))
 
 returns-4 : tie.Need-returns-4 Inv-loop μ-loop
 returns-4 c =

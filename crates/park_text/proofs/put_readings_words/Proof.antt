@@ -1,8 +1,8 @@
 -- `park_text::put_readings_words` meets its contract. Assumes nothing.
 use Rattle.arithmetic.proofs.Kit.{ap, _∙_, List, ℕ, needs}
-use Rattle.report.specs.Report.{reportText}
 use Rattle.park_text.specs.Words.{arguments}
-use Rattle.park_text.specs.ParkText.{problemLine, readingsWords}
+use Rattle.park_text.specs.ParkLines.{problemLine}
+use Rattle.park_text.specs.ParkText.{reportOf, readingsWords}
 use Rattle.pages.proofs.Growing.{same-more}
 use Rattle.park_text.proofs.Said.{said-given, said-wrong}
 use Rattle.park_text.proofs.put_readings_words.Statement.{statement}
@@ -13,8 +13,8 @@ unfolding readingsWords
 returns c =
     let told = c .before .before .before .before in
     let read = told .before .before in
-    same-more (said-given reportText (arguments (read .before .before .before .args .text .now)) (read .read-words .result) (read .read-words .ensures .0) (told .enum-told .given .1))
-    (c .before .before .put-report .ensures)
+    same-more (said-given (reportOf (arguments (read .before .before .before .args .text .now))) (arguments (read .before .before .before .args .text .now)) (read .read-words .result) (read .read-words .ensures .0) (told .enum-told .given .1))
+    (c .before .before .put-said .ensures)
 
 returns-2 : tie.Need-returns-2
 unfolding readingsWords
@@ -24,7 +24,7 @@ returns-2 c =
     let read = told .before .before in
     same-more
     (ap (λ (w : List ℕ). problemLine w (told .check .given .0 .0)) (word .nth-word .ensures .0)
-    ∙ said-wrong reportText (arguments (read .before .before .before .args .text .now)) (read .read-words .result) (read .read-words .ensures .0) (told .check .given .1))
+    ∙ said-wrong (reportOf (arguments (read .before .before .before .args .text .now))) (arguments (read .before .before .before .args .text .now)) (read .read-words .result) (read .read-words .ensures .0) (told .check .given .1))
     (c .before .before .put-problem .ensures)
 
 pub put-readings-words-spec : {M : Type 1} → statement M

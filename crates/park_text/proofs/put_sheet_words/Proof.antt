@@ -1,7 +1,9 @@
 -- `park_text::put_sheet_words` meets its contract. Assumes nothing.
 use Rattle.arithmetic.proofs.Kit.{ap, _∙_, List, ℕ, needs}
+use Rattle.sheet_text.specs.SheetText.{sheetOf}
 use Rattle.park_text.specs.Words.{arguments}
-use Rattle.park_text.specs.ParkText.{problemLine, sheetOf, sheetWords}
+use Rattle.park_text.specs.ParkLines.{problemLine}
+use Rattle.park_text.specs.ParkText.{sheetWords}
 use Rattle.pages.proofs.Growing.{same-more}
 use Rattle.park_text.proofs.Said.{said-given, said-wrong}
 use Rattle.park_text.proofs.put_sheet_words.Statement.{statement}

@@ -17,7 +17,7 @@ returns c =
     and-then
     (and-then
     (and-then (and-then (station .put-station .ensures) (air .put-air .ensures)) (same-more (ap trimLine (class .before .trim-class .ensures)) (class .put-trim .ensures)))
-    (same-more (ap nextClassLine (next .before .next-trim-class-of-readings .ensures)) (next .put-next .ensures)))
+    (same-more (ap nextClassLine (next .before .next-class .ensures)) (next .put-next .ensures)))
     (mark .put-mark .ensures)
 
 pub put-accepted-spec : {M : Type 1} → statement M

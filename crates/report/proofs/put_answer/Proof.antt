@@ -10,13 +10,19 @@ returns : tie.Need-returns
 returns c =
     let told = c .before .before .before .before .before in
     let judged = told .before .before in
-    same-more (ap (answerLines (judged .before .before .args .readings)) (ap outcome (sym (told .figures .given .1)) ∙ judged .judge-readings .ensures)) (c .before .before .put-accepted .ensures)
+    let a = judged .before .before .args in
+    same-more (ap (answerLines (a .origin) (a .readings)) (ap outcome (sym (told .figures .given .1)) ∙ judged .judge-readings .ensures))
+    (c .before .before .put-noted .ensures)
 
 returns-2 : tie.Need-returns-2
 returns-2 c =
     let told = c .before .before .before .before .before in
     let judged = told .before .before in
-    same-more (ap (answerLines (judged .before .before .args .readings)) (ap outcome (sym (told .refusal .given .1)) ∙ judged .judge-readings .ensures)) (c .before .before .put-refused .ensures)
+    let a = judged .before .before .args in
+    same-more (ap (answerLines (a .origin) (a .readings)) (ap outcome (sym (told .refusal .given .1)) ∙ judged .judge-readings .ensures))
+    (c .before .before .put-refused .ensures)
 
 pub put-answer-spec : {M : Type 1} → statement M
-put-answer-spec = tie.close (tie.spec (λ c κs. search needs) (λ c. search needs) (λ c κs. search needs) (λ c. search needs) (λ c κs. search needs) (λ c. search needs) returns (λ c. search needs) returns-2)
+put-answer-spec =
+    tie.close (tie.spec (λ c κs. search needs) (λ c. search needs) (λ c κs. search needs) (λ c. search needs) (λ c κs. search needs) (λ c. search needs)
+    returns (λ c. search needs) returns-2)

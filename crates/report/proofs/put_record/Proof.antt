@@ -2,8 +2,7 @@
 use Rattle.arithmetic.proofs.Kit.{_≡_, sym, ap, _∙_, List, ℕ, arith, needs, length, take, replicate, length-replicate}
 use Rattle.writer.specs.Records.{recordOf}
 use Rattle.writer.specs.Written.{written}
-use Rattle.pages.specs.Characters.{hex}
-use Rattle.pages.proofs.Growing.{and-then, same-more}
+use Rattle.pages.proofs.Growing.{same-more}
 use Rattle.report.specs.Report.{recordLine}
 use Rattle.report.proofs.Short.{record-short}
 use Rattle.report.proofs.Recorded.{not-refused, length-is, recorded}
@@ -25,7 +24,7 @@ whole-record : (c : tie.After-length) → take (c .length .given .0 .0) (c .befo
 whole-record c = recorded (c .before .before .before .before .before .before .args .readings) buffer buffer-length (counted c) (c .before .before .before .write .ensures .1)
 
 array-share-prefix-record : tie.Need-array-share-prefix-record
-array-share-prefix-record c = let told = c .before .before .before .before .before .before .before in omega (arith, counted told, record-short (told .before .before .before .before .before .before .args .readings))
+array-share-prefix-record c = let told = c .before .before in omega (arith, counted told, record-short (told .before .before .before .before .before .before .args .readings))
 
 returns : tie.Need-returns
 returns c =
@@ -34,16 +33,12 @@ returns c =
     absurd (not-refused r buffer buffer-length (c .enum-told .given .0 .0) (ap written (sym (c .enum-told .given .1)) ∙ told .write .ensures .0))
 
 returns-2 : tie.Need-returns-2
-unfolding recordLine
 returns-2 c =
-    let digits = c .before .before .before .before .before .before .before in
-    let word = digits .before .before .before .before .before in
-    let told = word .before .before .before .before in
-    and-then (and-then (word .put .ensures .0) (same-more (ap hex (whole-record told)) (digits .put-hex .ensures .0))) (c .before .before .put2 .ensures .0)
+    let line = c .before .before in
+    same-more (ap recordLine (whole-record (line .before .before .before .before))) (line .put-record-line .ensures)
 
 pub put-record-spec : {M : Type 1} → statement M
 put-record-spec =
-    tie.close (tie.spec (λ c. search needs) (λ c κs. search needs) (λ c. search needs) (λ c. search needs) (λ c. search needs) (λ c κs. search needs)
-    array-share-prefix-record
-    (λ c. let told = c .before .before .before .before .before .before .before .before in counted told ∙ sym (ap length (whole-record told)))
-    (λ c κs. search needs) (λ c. search needs) (λ c κs. search needs) returns (λ c. search needs) returns-2)
+    tie.close (tie.spec (λ c. search needs) (λ c κs. search needs) (λ c. search needs) (λ c. search needs) array-share-prefix-record
+    (λ c. let told = c .before .before .before in counted told ∙ sym (ap length (whole-record told))) (λ c κs. search needs) returns
+    (λ c. search needs) returns-2)

@@ -10,4 +10,5 @@ unfolding reportText
 returns c = and-then (c .before .before .before .before .before .before .put-answer .ensures) (c .before .before .put-record .ensures)
 
 pub put-report-spec : {M : Type 1} → statement M
-put-report-spec = tie.close (tie.spec (λ c κs. search needs) (λ c κs. search needs) (λ c. search needs) returns)
+put-report-spec =
+    tie.close (tie.spec (λ c κs. search needs) (λ c κs. search needs) (λ c. search needs) returns)

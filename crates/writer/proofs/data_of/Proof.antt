@@ -1,6 +1,5 @@
 -- `writer::data_of` meets its contract. Assumes nothing.
-use Rattle.arithmetic.proofs.Kit.{sym, ap, _∙_, needs}
-use Rattle.writer.specs.Records.{dataOf}
+use Rattle.writer.proofs.Kit.{sym, ap, _∙_, needs, dataOf}
 use Rattle.writer.proofs.data_of.Statement.{statement}
 use Rattle.writer.proofs.data_of.Tie as tie
 

@@ -1,7 +1,5 @@
 -- `writer::field_size` meets its contract, by whether there is such a meaning. Assumes nothing.
-use Rattle.arithmetic.proofs.Kit.{sym, ap, _∙_, ℕ, _+_, arith, needs, length}
-use Rattle.fields.specs.Fields.{tagIn, dataSize, isCount}
-use Rattle.fields.proofs.Forms.{at-most}
+use Rattle.writer.proofs.Kit.{sym, ap, _∙_, ℕ, _+_, arith, needs, length, tagIn, dataSize, isCount, at-most}
 use Rattle.writer.proofs.Fields.{length-field, field-meant, no-field-meant}
 use Rattle.writer.proofs.field_size.Statement.{statement}
 use Rattle.writer.proofs.field_size.Tie as tie

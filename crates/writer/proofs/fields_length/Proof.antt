@@ -1,9 +1,5 @@
 -- `writer::fields_length` meets its contract. The loop's invariant: the bytes counted and those of the fields that are left are those of the form. Assumes nothing.
-use Rattle.arithmetic.proofs.Kit.{_≡_, sym, ap, _∙_, _++_, ℕ, _+_, _-_, _≤_, arith, needs, length, length-append}
-use Rattle.record.specs.declared.entries.Stored.{Stored}
-use Rattle.fields.specs.Fields.{meanings, meaningOf}
-use Rattle.record.specs.Entries.{storedOf}
-use Rattle.writer.specs.Records.{storedField, fieldsFrom}
+use Rattle.writer.proofs.Kit.{_≡_, sym, ap, _∙_, _++_, ℕ, _+_, _-_, _≤_, arith, needs, length, length-append, Stored, meanings, meaningOf, storedOf, storedField, fieldsFrom}
 use Rattle.writer.proofs.Fields.{rest, all-fields, next-field, no-field, few}
 use Rattle.writer.proofs.fields_length.Statement.{statement}
 use Rattle.writer.proofs.fields_length.Tie as tie

@@ -1,6 +1,5 @@
 -- `writer::has_form` meets its contract. Assumes nothing.
-use Rattle.arithmetic.proofs.Kit.{sym, ap, _∙_, not, needs}
-use Rattle.writer.specs.Records.{hasForm}
+use Rattle.writer.proofs.Kit.{sym, ap, _∙_, not, needs, hasForm}
 use Rattle.writer.proofs.has_form.Statement.{statement}
 use Rattle.writer.proofs.has_form.Tie as tie
 

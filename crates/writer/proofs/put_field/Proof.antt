@@ -1,9 +1,5 @@
 -- `writer::put_field` meets its contract: tag, length and data, one number after the other. Assumes nothing.
-use Rattle.arithmetic.proofs.Kit.{_≡_, sym, ap, ap₂, _∙_, List, _++_, ℕ, _+_, arith, needs, length, sets}
-use Rattle.fields.specs.declared.fields.Value.{Value}
-use Rattle.fields.specs.Fields.{dataSize}
-use Rattle.fields.proofs.Forms.{at-most}
-use Rattle.writer.specs.Records.{bytes, dataOf, fieldWith}
+use Rattle.writer.proofs.Kit.{_≡_, sym, ap, ap₂, _∙_, List, _++_, ℕ, _+_, arith, needs, length, sets, Value, dataSize, at-most, bytes, dataOf, fieldWith}
 use Rattle.writer.proofs.Bytes.{sets-append}
 use Rattle.writer.proofs.Fields.{length-field}
 use Rattle.writer.proofs.put_field.Statement.{statement}

@@ -1,10 +1,6 @@
 -- `writer::put_fields` meets its contract. The loop's invariant: the fields that are left, stored from the position on, make the buffer what all fields of the form
 -- make it. Assumes nothing.
-use Rattle.arithmetic.proofs.Kit.{_≡_, refl, sym, ap, _∙_, List, _++_, ℕ, _+_, _-_, _≤_, arith, needs, length, length-append, sets}
-use Rattle.record.specs.declared.entries.Stored.{Stored}
-use Rattle.fields.specs.Fields.{meanings}
-use Rattle.record.specs.Entries.{storedOf}
-use Rattle.writer.specs.Records.{storedField, fieldsFrom}
+use Rattle.writer.proofs.Kit.{_≡_, refl, sym, ap, _∙_, List, _++_, ℕ, _+_, _-_, _≤_, arith, needs, length, length-append, sets, Stored, meanings, storedOf, storedField, fieldsFrom}
 use Rattle.writer.proofs.Bytes.{sets-append}
 use Rattle.writer.proofs.Fields.{rest, all-fields, next-field, no-field}
 use Rattle.writer.proofs.put_fields.Statement.{statement}

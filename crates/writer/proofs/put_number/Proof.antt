@@ -1,7 +1,6 @@
 -- `writer::put_number` meets its contract. The loop's invariant: the bytes that are left, stored from the place on, make the buffer what all of them make it.
 -- Assumes nothing.
-use Rattle.arithmetic.proofs.Kit.{_≡_, refl, ap, _∙_, List, ℕ, suc, _+_, _-_, _*_, _/_, _%_, _^_, _≤_, arith, add-one, length, set, length-set, sets}
-use Rattle.writer.specs.Records.{bytes}
+use Rattle.writer.proofs.Kit.{_≡_, refl, ap, _∙_, List, ℕ, suc, _+_, _-_, _*_, _/_, _%_, _^_, _≤_, arith, add-one, length, set, length-set, sets, bytes}
 use Rattle.writer.proofs.Bytes.{shifts}
 use Rattle.writer.proofs.put_number.Statement.{statement}
 use Rattle.writer.proofs.put_number.Tie as tie

@@ -1,5 +1,5 @@
 -- `writer::put_stored` meets its contract. Assumes nothing.
-use Rattle.arithmetic.proofs.Kit.{_≡_, sym, ap, subst, _∙_, List, [], ℕ, _+_, _≤_, add-zero, needs, length, sets}
+use Rattle.writer.proofs.Kit.{_≡_, sym, ap, subst, _∙_, List, [], ℕ, _+_, _≤_, add-zero, needs, length, sets}
 use Rattle.writer.proofs.Fields.{absent, by-form}
 use Rattle.writer.proofs.put_stored.Statement.{statement}
 use Rattle.writer.proofs.put_stored.Tie as tie

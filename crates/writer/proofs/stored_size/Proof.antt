@@ -1,6 +1,5 @@
 -- `writer::stored_size` meets its contract. Assumes nothing.
-use Rattle.arithmetic.proofs.Kit.{sym, ap, _∙_, ℕ, _+_, arith, needs, length}
-use Rattle.fields.proofs.Forms.{at-most}
+use Rattle.writer.proofs.Kit.{sym, ap, _∙_, ℕ, _+_, arith, needs, length, at-most}
 use Rattle.writer.proofs.Fields.{length-field, by-form}
 use Rattle.writer.proofs.stored_size.Statement.{statement}
 use Rattle.writer.proofs.stored_size.Tie as tie

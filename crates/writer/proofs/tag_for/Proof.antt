@@ -1,7 +1,5 @@
 -- `writer::tag_for` meets its contract, by the value's form. Assumes nothing.
-use Rattle.arithmetic.proofs.Kit.{sym, ap, needs}
-use Rattle.fields.specs.declared.fields.Value.{Value}
-use Rattle.fields.specs.Fields.{tagIn, isCount}
+use Rattle.writer.proofs.Kit.{sym, ap, needs, Value, tagIn, isCount}
 use Rattle.writer.proofs.tag_for.Statement.{statement}
 use Rattle.writer.proofs.tag_for.Tie as tie
 

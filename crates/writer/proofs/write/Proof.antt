@@ -1,8 +1,5 @@
 -- `writer::write` meets its contract, by whether the record has room. Assumes nothing.
-use Rattle.arithmetic.proofs.Kit.{_≡_, sym, ap, _∙_, List, ℕ, _+_, arith, needs, length, length-append, sets}
-use Rattle.fields.specs.Fields.{meanings}
-use Rattle.refusal.specs.Outcomes.{accepted}
-use Rattle.writer.specs.Records.{fieldsFrom, recordOf}
+use Rattle.writer.proofs.Kit.{_≡_, sym, ap, _∙_, List, ℕ, _+_, arith, needs, length, length-append, sets, meanings, accepted, fieldsFrom, recordOf}
 use Rattle.writer.proofs.Bytes.{sets-append}
 use Rattle.writer.proofs.Fields.{few}
 use Rattle.writer.proofs.Room.{no-room, room}

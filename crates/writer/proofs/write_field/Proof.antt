@@ -1,8 +1,5 @@
 -- `writer::write_field` meets its contract, by whether there is such a meaning and whether its field has room. Assumes nothing.
-use Rattle.arithmetic.proofs.Kit.{_≡_, sym, ap, subst, _∙_, List, [], ℕ, _≤_, zero-add, arith, needs, length, sets}
-use Rattle.refusal.specs.Outcomes.{accepted}
-use Rattle.writer.specs.Records.{fieldWith, fieldFor}
-use Rattle.writer.specs.Written.{lengthWritten, overwritten}
+use Rattle.writer.proofs.Kit.{_≡_, sym, ap, subst, _∙_, List, [], ℕ, _≤_, zero-add, arith, needs, length, sets, accepted, fieldWith, fieldFor, lengthWritten, overwritten}
 use Rattle.writer.proofs.Fields.{field-meant, no-field-meant}
 use Rattle.writer.proofs.Room.{no-room, room}
 use Rattle.writer.proofs.write_field.Statement.{statement}

@@ -44,19 +44,18 @@ returns-2 c =
 
 returns-3 : tie.Need-returns-3
 returns-3 c =
-    let at = c .before in
-    let altitude = at .before .before .before .before .before .before .args .altitude-m in
-    let e = at .before .before .before .calculate-icao-standard-atmosphere2 .ensures in
-    read altitude (standard-k altitude e) refl (standard-c altitude e) refl (at .before .before .before .before .enum-told2 .given .1) (at .before .press-override-hpa2 .given .1)
+    let told = c .before .before in
+    let e = c .standard-temperature-k .ensures in
+    read (told .before .before .before .before .args .altitude-m) e refl (ap (λ (T : Float). T ⊖ icePoint) e) refl (told .before .before .enum-told2 .given .1) (told .press-override-hpa2 .given .1)
 
 returns-4 : tie.Need-returns-4
 returns-4 c =
     let at = c .before .before in
     let altitude = at .before .before .before .before .before .args .altitude-m in
-    let e = at .before .before .calculate-icao-standard-atmosphere2 .ensures in
-    read altitude (standard-k altitude e) (standard-pa altitude e) (standard-c altitude e) (standard-hpa altitude e) (at .before .before .before .enum-told2 .given .1) (at .enum-told3 .given .1)
+    let e = at .calculate-icao-standard-atmosphere2 .ensures in
+    read altitude (standard-k altitude e) (standard-pa altitude e) (standard-c altitude e) (standard-hpa altitude e) (at .before .before .before .enum-told2 .given .1) (at .before .enum-told3 .given .1)
 
 pub conditions-at-spec : {M : Type 1} → statement M
 conditions-at-spec =
-    tie.close (tie.spec (λ c. search needs) (λ c. search needs) (λ c. search needs) (λ c κs. search needs) (λ c. search needs) (λ c κs. search needs)
-    (λ c. search needs) (λ c. search needs) returns returns-2 returns-3 returns-4)
+    tie.close (tie.spec (λ c. search needs) (λ c. search needs) (λ c. search needs) (λ c κs. search needs) (λ c. search needs) (λ c. search needs)
+    (λ c κs. search needs) (λ c. search needs) (λ c κs. search needs) returns returns-2 returns-3 returns-4)

@@ -15,14 +15,14 @@ unfolding withDecimals
 returns-3 c =
     let d = c .before .before .before .before .before .before .args .decimals .now in
     let all : digitsIn d ≡ length d = sym (c .before .before .digits-in .ensures) ∙ c .before .if2 .left in
-    rw (ne-eqb (length d) 0 (c .before .before .before .if1 .left), eq-eqb (digitsIn d) (length d) all, lt-leb (length d) 3 (c .if3 .taken))
+    rw (ne-eqb (length d) 0 (c .before .before .before .if1 .left), eq-eqb (digitsIn d) (length d) all, lt-leb (length d) _ (c .if3 .taken))
 
 returns-4 : tie.Need-returns-4
 unfolding withDecimals
 returns-4 c =
     let d = c .before .before .before .before .before .before .before .args .decimals .now in
     let all : digitsIn d ≡ length d = sym (c .before .before .before .digits-in .ensures) ∙ c .before .before .if2 .left in
-    rw (ne-eqb (length d) 0 (c .before .before .before .before .if1 .left), eq-eqb (digitsIn d) (length d) all, le-leb (length d) 3 (c .before .if3 .left))
+    rw (ne-eqb (length d) 0 (c .before .before .before .before .if1 .left), eq-eqb (digitsIn d) (length d) all, le-leb (length d) _ (c .before .if3 .left))
     (c .from-digits .ensures)
 
 pub with-decimals-spec : {M : Type 1} → statement M

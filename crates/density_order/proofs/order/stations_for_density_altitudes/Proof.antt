@@ -1,16 +1,10 @@
 -- `density_order::order::stations_for_density_altitudes` meets its contract: demand 3, of the three calls. Assumes nothing.
-use Rattle.arithmetic.proofs.Kit.{_≡_, sym, subst, subst₂, needs, T, lit≤, Float, binary64, fits, le}
-use Rattle.atmosphere.specs.declared.given.Reading.{Reading}
-use Rattle.refusal.specs.declared.inverse.Station.{Station}
-use Rattle.refusal.specs.Outcomes.{Outcome}
-use Rattle.density_altitude.specs.Inverse.{station}
-use Rattle.density_order.specs.Order.{Accepted, Demand₃}
+use Rattle.density_order.proofs.Kit.{_≡_, sym, subst, subst₂, needs, T, lit≤, Float, binary64, fits, le, Reading, Station, Outcome, station, Accepted, Demand₃, places}
 use Rattle.density_order.proofs.Spread.{ReadingFits}
 use Rattle.density_order.proofs.Owned.{held, reading-held}
 use Rattle.density_order.proofs.Demand.{demand}
 use Rattle.density_order.proofs.order.stations_for_density_altitudes.Statement.{statement}
 use Rattle.density_order.proofs.order.stations_for_density_altitudes.Tie as tie
-use Rattle.arithmetic.specs.Places.{places}
 
 -- of answers that are the definition's
 of-answers : (t : Reading) (d₁ d d₂ : Float) {a₁ a a₂ : Outcome Station} → ReadingFits t → T (fits binary64 d₁) → T (fits binary64 d) → T (fits binary64 d₂)

@@ -1,13 +1,7 @@
 -- `density_order::order::two_stations_for_density_altitudes` meets its contract, by what its call promises where the middle one of three is the low one.
 -- Assumes nothing.
-use Rattle.arithmetic.proofs.Kit.{_≡_, sym, subst, _∙_, needs, T, Float, binary64, fits, le, ofBits-fits}
-use Rattle.arithmetic.specs.Decimals.{decimal}
-use Rattle.arithmetic.proofs.Order.{numbers-of-le, le-trans-double}
+use Rattle.density_order.proofs.Kit.{_≡_, sym, subst, _∙_, needs, T, Float, binary64, fits, le, ofBits-fits, decimal, numbers-of-le, le-trans-double, Reading, Station, Outcome, Accepted, InOrder, Demand₃, TwoInOrder}
 use Rattle.atmosphere.proofs.AltitudeOrder.{le-self}
-use Rattle.atmosphere.specs.declared.given.Reading.{Reading}
-use Rattle.refusal.specs.declared.inverse.Station.{Station}
-use Rattle.refusal.specs.Outcomes.{Outcome}
-use Rattle.density_order.specs.Order.{Accepted, InOrder, Demand₃, TwoInOrder}
 use Rattle.density_order.proofs.Owned.{held}
 use Rattle.density_order.proofs.order.two_stations_for_density_altitudes.Statement.{statement}
 use Rattle.density_order.proofs.order.two_stations_for_density_altitudes.Tie as tie

@@ -1,5 +1,5 @@
 -- `density_order::warmth::faa_density_altitudes_ft` meets its contract: the FAA's density altitude never falls with the temperature. Assumes nothing.
-use Rattle.arithmetic.proofs.Kit.{needs}
+use Rattle.density_order.proofs.Kit.{needs}
 use Rattle.density_order.proofs.Warmer.{faa-in-order}
 use Rattle.density_order.proofs.Owned.{held}
 use Rattle.density_order.proofs.warmth.faa_density_altitudes_ft.Statement.{statement}

@@ -1,12 +1,5 @@
 -- `density_order::warmth::stations_for_temperatures` meets its contract: warmer means lower, of the three calls. Assumes nothing.
-use Rattle.arithmetic.proofs.Kit.{_≡_, sym, subst, subst₂, needs, T, Float, binary64, fits}
-use Rattle.arithmetic.specs.Places.{places}
-use Rattle.atmosphere.specs.declared.given.Reading.the-variants.{Given}
-use Rattle.refusal.specs.declared.inverse.Station.{Station}
-use Rattle.refusal.specs.Outcomes.{Outcome}
-use Rattle.density_altitude.specs.Inverse.{station}
-use Rattle.density_order.specs.Order.{Accepted}
-use Rattle.density_order.specs.Warmer.{InBetween, WarmerMeansLower}
+use Rattle.density_order.proofs.Kit.{_≡_, sym, subst, subst₂, needs, T, Float, binary64, fits, places, Given, Station, Outcome, station, Accepted, InBetween, WarmerMeansLower}
 use Rattle.density_order.proofs.Owned.{held}
 use Rattle.density_order.proofs.Warmer.{warmer-means-lower}
 use Rattle.density_order.proofs.warmth.stations_for_temperatures.Statement.{statement}

@@ -1,6 +1,6 @@
 -- `fields::bits::double` meets its contract: what a NaN's pattern stands for is the one NaN, which 0 / 0 is too.
 -- Assumes nothing.
-use Rattle.arithmetic.proofs.Kit.{_≡_, refl, sym, subst, _∙_, Bool, true, not, true≢false, needs, T, Float, nan, inf, fin, binary64, ofBits, isNan, div}
+use Rattle.fields.proofs.Kit.{_≡_, refl, sym, subst, _∙_, Bool, true, not, true≢false, needs, T, Float, nan, inf, fin, binary64, ofBits, isNan, div}
 use lib.Ieee.Bits.{nanBits-is}
 use Rattle.fields.proofs.bits.double.Statement.{statement}
 use Rattle.fields.proofs.bits.double.Tie as tie

@@ -1,5 +1,5 @@
 -- `fields::bits::double_at` meets its contract. Assumes nothing.
-use Rattle.arithmetic.proofs.Kit.{ap, _∙_, needs, binary64, ofBits}
+use Rattle.fields.proofs.Kit.{ap, _∙_, needs, binary64, ofBits}
 use Rattle.fields.proofs.bits.double_at.Statement.{statement}
 use Rattle.fields.proofs.bits.double_at.Tie as tie
 

@@ -1,6 +1,6 @@
 -- `fields::bits::is_nan_pattern` meets its contract, by the logic's two laws of a NaN's patterns.
 -- Assumes nothing.
-use Rattle.arithmetic.proofs.Kit.{sym, _∙_, binary64}
+use Rattle.fields.proofs.Kit.{sym, _∙_, binary64}
 use lib.Ieee.Bits.{nanBits-is, nanBits-above}
 use Rattle.fields.proofs.bits.is_nan_pattern.Statement.{statement}
 use Rattle.fields.proofs.bits.is_nan_pattern.Tie as tie

@@ -1,5 +1,5 @@
 -- `fields::bits::pattern` meets its contract: only a NaN differs from itself. Assumes nothing.
-use Rattle.arithmetic.proofs.Kit.{sym, ap, subst, needs, T, binary64, toBits, differs-from-itself}
+use Rattle.fields.proofs.Kit.{sym, ap, subst, needs, T, binary64, toBits, differs-from-itself}
 use Rattle.arithmetic.proofs.Parts.{not-nan}
 use Rattle.fields.proofs.bits.pattern.Statement.{statement}
 use Rattle.fields.proofs.bits.pattern.Tie as tie

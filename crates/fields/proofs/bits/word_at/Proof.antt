@@ -1,6 +1,6 @@
 -- `fields::bits::word_at` meets its contract. The loop's invariant: the value is the word of the bytes passed, and has room for one more.
 -- Assumes nothing.
-use Rattle.arithmetic.proofs.Kit.{_≡_, refl, ℕ, _≤_, _<_, _-_, _^_, pow-suc, pow-le-pow-right, arith, add-one, needs, digits-lt, lit<}
+use Rattle.fields.proofs.Kit.{_≡_, refl, ℕ, _≤_, _<_, _-_, _^_, pow-suc, pow-le-pow-right, arith, add-one, needs, digits-lt, lit<}
 use Rattle.fields.specs.Bytes.{numberAt}
 use Rattle.fields.proofs.bits.word_at.Statement.{statement}
 use Rattle.fields.proofs.bits.word_at.Tie as tie

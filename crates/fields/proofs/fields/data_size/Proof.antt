@@ -1,5 +1,5 @@
 -- `fields::fields::data_size` meets its contract. Assumes nothing.
-use Rattle.arithmetic.proofs.Kit.{sym, _∙_, needs}
+use Rattle.fields.proofs.Kit.{sym, _∙_, needs}
 use Rattle.fields.proofs.fields.data_size.Statement.{statement}
 use Rattle.fields.proofs.fields.data_size.Tie as tie
 

@@ -1,6 +1,5 @@
 -- `fields::fields::double_of_value` meets its contract. Assumes nothing.
-use Rattle.arithmetic.proofs.Kit.{sym, ap, _∙_, needs}
-use Rattle.fields.specs.Fields.{doubleOf}
+use Rattle.fields.proofs.Kit.{sym, ap, _∙_, needs, doubleOf}
 use Rattle.fields.proofs.fields.double_of_value.Statement.{statement}
 use Rattle.fields.proofs.fields.double_of_value.Tie as tie
 

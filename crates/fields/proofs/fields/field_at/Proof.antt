@@ -1,6 +1,5 @@
 -- `fields::fields::field_at` meets its contract: past the record's end a header is cut. Assumes nothing.
-use Rattle.arithmetic.proofs.Kit.{refl, ap, _∙_, _<_, _≤_, _-_, arith, needs, lt-ltb, length, drop, length-drop, take-all}
-use Rattle.fields.specs.Fields.{fieldOf}
+use Rattle.fields.proofs.Kit.{refl, ap, _∙_, _<_, _≤_, _-_, arith, needs, lt-ltb, length, drop, length-drop, take-all, fieldOf}
 use Rattle.fields.proofs.FieldChecks.{by-checks}
 use Rattle.fields.proofs.fields.field_at.Statement.{statement}
 use Rattle.fields.proofs.fields.field_at.Tie as tie

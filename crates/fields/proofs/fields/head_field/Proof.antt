@@ -1,8 +1,6 @@
 -- `fields::fields::head_field` meets its contract: each answer is that of the checks that led to it. Assumes nothing.
-use Rattle.arithmetic.proofs.Kit.{_≡_, refl, sym, ap, _∙_, false, not, ℕ, ltb, eqb, length, List, arith, needs, lt-ltb, le-ltb, eq-eqb, ne-eqb}
-use Rattle.refusal.specs.Outcomes.{accepted}
+use Rattle.fields.proofs.Kit.{_≡_, refl, sym, ap, _∙_, false, not, ℕ, ltb, eqb, length, List, arith, needs, lt-ltb, le-ltb, eq-eqb, ne-eqb, accepted, isTag, meaningOf, dataSize, tagOf, lengthOf, sizeOf, valueOf, field}
 use Rattle.fields.specs.declared.fields.Value.{Value}
-use Rattle.fields.specs.Fields.{isTag, meaningOf, dataSize, tagOf, lengthOf, sizeOf, valueOf, field}
 use Rattle.fields.proofs.Forms.{at-most}
 use Rattle.fields.proofs.FieldChecks.{by-checks}
 use Rattle.fields.proofs.fields.head_field.Statement.{statement}

@@ -1,5 +1,5 @@
 -- `fields::fields::is_tag` meets its contract. Assumes nothing.
-use Rattle.arithmetic.proofs.Kit.{needs}
+use Rattle.fields.proofs.Kit.{needs}
 use Rattle.fields.proofs.fields.is_tag.Statement.{statement}
 use Rattle.fields.proofs.fields.is_tag.Tie as tie
 

@@ -1,5 +1,5 @@
 -- `fields::fields::meaning_of` meets its contract. Assumes nothing.
-use Rattle.arithmetic.proofs.Kit.{sym, _∙_, arith, needs}
+use Rattle.fields.proofs.Kit.{sym, _∙_, arith, needs}
 use Rattle.fields.proofs.Forms.{from-first}
 use Rattle.fields.proofs.fields.meaning_of.Statement.{statement}
 use Rattle.fields.proofs.fields.meaning_of.Tie as tie

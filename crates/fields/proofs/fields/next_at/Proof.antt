@@ -1,6 +1,5 @@
 -- `fields::fields::next_at` meets its contract. Assumes nothing.
-use Rattle.arithmetic.proofs.Kit.{_≡_, refl, sym, ap, _∙_, List, ℕ, _+_, _<_, _≤_, _-_, arith, needs, le-leb, lt-leb, length, getD, drop, length-drop, getD-drop}
-use Rattle.fields.specs.Fields.{dataSize, sizeOf, nextAt}
+use Rattle.fields.proofs.Kit.{_≡_, refl, sym, ap, _∙_, List, ℕ, _+_, _<_, _≤_, _-_, arith, needs, le-leb, lt-leb, length, getD, drop, length-drop, getD-drop, dataSize, sizeOf, nextAt}
 use Rattle.fields.proofs.Forms.{at-most}
 use Rattle.fields.proofs.fields.next_at.Statement.{statement}
 use Rattle.fields.proofs.fields.next_at.Tie as tie

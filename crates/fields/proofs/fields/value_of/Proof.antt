@@ -1,7 +1,6 @@
 -- `fields::fields::value_of` meets its contract, by the form of the tag. Assumes nothing.
-use Rattle.arithmetic.proofs.Kit.{sym, ap, _∙_, true, false, arith, needs, lit≤}
+use Rattle.fields.proofs.Kit.{sym, ap, _∙_, true, false, arith, needs, lit≤, tagOf}
 use Rattle.fields.specs.declared.fields.Value.the-variants.{Double, Count}
-use Rattle.fields.specs.Fields.{tagOf}
 use Rattle.fields.proofs.Forms.{size-by}
 use Rattle.fields.proofs.fields.value_of.Statement.{statement}
 use Rattle.fields.proofs.fields.value_of.Tie as tie

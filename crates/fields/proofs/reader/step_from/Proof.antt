@@ -1,9 +1,6 @@
 -- `fields::reader::step_from` meets its contract, by what is found. Assumes nothing.
-use Rattle.arithmetic.proofs.Kit.{_≡_, refl, sym, ap, _∙_, List, ℕ, needs, drop}
-use Rattle.refusal.specs.Outcomes.{Outcome, accepted, _⟫_}
+use Rattle.fields.proofs.Kit.{_≡_, refl, sym, ap, _∙_, List, ℕ, needs, drop, Outcome, accepted, _⟫_, Found, found, fieldOf, nextAt, stepAt}
 use Rattle.fields.specs.declared.fields.Field.{Field}
-use Rattle.fields.specs.declared.fields.Found.{Found}
-use Rattle.fields.specs.Fields.{found, fieldOf, nextAt, stepAt}
 use Rattle.fields.proofs.reader.step_from.Statement.{statement}
 use Rattle.fields.proofs.reader.step_from.Tie as tie
 

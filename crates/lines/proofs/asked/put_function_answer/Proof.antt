@@ -1,7 +1,7 @@
 -- `lines::asked::put_function_answer` meets its contract. Assumes nothing.
 use Rattle.arithmetic.proofs.Kit.{_≡_, refl, sym, ap, ap₂, _∙_, true, false, List, [], ℕ, _≤_, _<_, lt-ltb, le-ltb, getD, needs}
 use Rattle.pages.proofs.Growing.{same-more}
-use Rattle.park_text.specs.Word.{placeIn}
+use Rattle.questions.specs.Words.{placeIn}
 use Rattle.questions.specs.Words.{lineParts}
 use Rattle.questions.specs.Forms.{fits, wrongLine}
 use Rattle.lines.specs.Asked.{nameText, shapeText, functionNames, functionShapes, unknownLine, functionNumbered, numberedFunction, functionAnswer}
@@ -14,14 +14,14 @@ module _ (line : List ℕ) {n : ℕ} (is : n ≡ placeIn functionNames (getD (li
   unfolding functionAnswer
   answered = ap (λ (k : ℕ). numberedFunction k (lineParts line)) is
 
-  unknown : 35 ≤ n → unknownLine ≡ functionAnswer line
-  unknown h = sym (rw (le-ltb n 35 h)) ∙ answered
+  unknown : 36 ≤ n → unknownLine ≡ functionAnswer line
+  unknown h = sym (rw (le-ltb n 36 h)) ∙ answered
 
-  known : n < 35 → fits (lineParts line) (getD functionShapes n []) ≡ true → functionNumbered n (lineParts line) ≡ functionAnswer line
-  known h f = sym (rw (lt-ltb n 35 h, f)) ∙ answered
+  known : n < 36 → fits (lineParts line) (getD functionShapes n []) ≡ true → functionNumbered n (lineParts line) ≡ functionAnswer line
+  known h f = sym (rw (lt-ltb n 36 h, f)) ∙ answered
 
-  wrong : n < 35 → fits (lineParts line) (getD functionShapes n []) ≡ false → wrongLine (getD functionNames n []) (getD functionShapes n []) ≡ functionAnswer line
-  wrong h f = sym (rw (lt-ltb n 35 h, f)) ∙ answered
+  wrong : n < 36 → fits (lineParts line) (getD functionShapes n []) ≡ false → wrongLine (getD functionNames n []) (getD functionShapes n []) ≡ functionAnswer line
+  wrong h f = sym (rw (lt-ltb n 36 h, f)) ∙ answered
 
 returns : tie.Need-returns
 unfolding nameText unknownLine

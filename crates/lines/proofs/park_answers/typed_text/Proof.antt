@@ -1,7 +1,7 @@
 -- `lines::park_answers::typed_text` meets its contract. The loop's invariant: the places passed are filled from the line. Assumes nothing.
 use Rattle.arithmetic.proofs.Kit.{_≡_, subst, _∙_, ℕ, _+_, _-_, _≤_, min, arith, length, needs}
 use Rattle.bytes.specs.Bytes.{indexOf}
-use Rattle.park_text.proofs.OneWord.{found}
+use Rattle.questions.proofs.Found.{found}
 use Rattle.pages.specs.Pages.{upTo, Holds}
 use Rattle.pages.proofs.Filled.{Filled, none, again, spelled}
 use Rattle.lines.specs.Typed.{typedAt, typedText}

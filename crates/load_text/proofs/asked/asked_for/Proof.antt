@@ -1,6 +1,5 @@
 -- `load_text::asked::asked_for` meets its contract. Assumes nothing.
-use Rattle.arithmetic.proofs.Kit.{refl, ap, _∙_, needs, le-leb, lt-leb, eq-eqb, ne-eqb}
-use Rattle.load_text.specs.Asked.{askedIn, loadAskedBy}
+use Rattle.load_text.proofs.Kit.{refl, ap, _∙_, needs, le-leb, lt-leb, eq-eqb, ne-eqb, askedIn, loadAskedBy}
 use Rattle.load_text.proofs.asked.asked_for.Statement.{statement}
 use Rattle.load_text.proofs.asked.asked_for.Tie as tie
 

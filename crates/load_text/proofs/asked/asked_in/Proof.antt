@@ -1,6 +1,5 @@
 -- `load_text::asked::asked_in` meets its contract. Assumes nothing.
-use Rattle.arithmetic.proofs.Kit.{sym, ap, _∙_, needs, ℤ, w32, toZ-ofZ}
-use Rattle.load_text.specs.Asked.{wholeIn, askedIn}
+use Rattle.load_text.proofs.Kit.{sym, ap, _∙_, needs, ℤ, w32, toZ-ofZ, wholeIn, askedIn}
 use Rattle.load_text.proofs.asked.asked_in.Statement.{statement}
 use Rattle.load_text.proofs.asked.asked_in.Tie as tie
 

@@ -1,11 +1,9 @@
 -- `load_text::asked::whole_in` meets its contract: a count from 0 on is its own word. Assumes nothing.
-use Rattle.arithmetic.proofs.Kit.{_≡_, refl, sym, ap, _∙_, true, false, cond, true≢false, ℕ, _/_, _%_, needs, eq-eqb, ne-eqb, eqb, ℤ, pos, negsuc, w32, SFits, ofZ, toZ, toZ-ofZ}
+use Rattle.load_text.proofs.Kit.{_≡_, refl, sym, ap, _∙_, true, false, cond, true≢false, ℕ, _/_, _%_, needs, eq-eqb, ne-eqb, eqb, ℤ, pos, negsuc, w32, SFits, ofZ, toZ, toZ-ofZ, twosComplement, wholeIn}
 use lib.Dec.{leb·zero}
 use lib.Signed.{leZ}
-use Rattle.thousandths.specs.Thousandths.{twosComplement}
 use Rattle.load_text.specs.declared.asked.Asked.{Asked}
 use Rattle.load_text.specs.declared.asked.Asked.the-variants.{Records, Unknown}
-use Rattle.load_text.specs.Asked.{wholeIn}
 use Rattle.load_text.proofs.asked.whole_in.Statement.{statement}
 use Rattle.load_text.proofs.asked.whole_in.Tie as tie
 

@@ -1,7 +1,5 @@
 -- `load_text::blocks::put_bytes` meets its contract. Assumes nothing.
-use Rattle.arithmetic.proofs.Kit.{refl, needs}
-use Rattle.pages.proofs.Growing.{and-then}
-use Rattle.load_text.specs.Text.{bytesLine}
+use Rattle.load_text.proofs.Kit.{refl, needs, and-then, bytesLine}
 use Rattle.load_text.proofs.blocks.put_bytes.Statement.{statement}
 use Rattle.load_text.proofs.blocks.put_bytes.Tie as tie
 

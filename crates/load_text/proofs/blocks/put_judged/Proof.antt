@@ -1,8 +1,6 @@
 -- `load_text::blocks::put_judged` meets its contract. Assumes nothing.
-use Rattle.arithmetic.proofs.Kit.{ap, needs}
-use Rattle.pages.proofs.Growing.{and-then, same-more}
+use Rattle.load_text.proofs.Kit.{ap, needs, and-then, same-more, judgedText}
 use Rattle.text.specs.Text.{answerText}
-use Rattle.load_text.specs.Text.{judgedText}
 use Rattle.load_text.proofs.blocks.put_judged.Statement.{statement}
 use Rattle.load_text.proofs.blocks.put_judged.Tie as tie
 

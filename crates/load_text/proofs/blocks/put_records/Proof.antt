@@ -1,8 +1,6 @@
 -- `load_text::blocks::put_records` meets its contract. The loop's invariant: the records passed are on the page. Assumes nothing.
-use Rattle.arithmetic.proofs.Kit.{_≡_, ap, _∙_, ℕ, _-_, _≤_, add-one, arith, needs, length}
+use Rattle.load_text.proofs.Kit.{_≡_, ap, _∙_, _-_, _≤_, add-one, arith, needs, length, same-length, no-more, and-then, same-more, recordsText}
 use Rattle.pages.specs.Pages.{Appended}
-use Rattle.pages.proofs.Growing.{same-length, no-more, and-then, same-more}
-use Rattle.load_text.specs.Text.{recordsText}
 use Rattle.load_text.proofs.Room.{has-room}
 use Rattle.load_text.proofs.blocks.put_records.Statement.{statement}
 use Rattle.load_text.proofs.blocks.put_records.Tie as tie

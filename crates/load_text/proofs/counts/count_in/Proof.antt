@@ -1,5 +1,5 @@
 -- `load_text::counts::count_in` meets its contract: neither the remainder nor the sum leaves the 32 bits. Assumes nothing.
-use Rattle.arithmetic.proofs.Kit.{_≡_, refl, ap₂, _∙_, Bool, true, false, cond, ℕ, suc, _-_, _%_, _^_, _<_, lt-of-lt-of-le, mod-lt, arith, ltb, ℤ, pos, negsuc, _+ℤ_, w32, SFits, toZ, ofZ, toZ-ofZ}
+use Rattle.load_text.proofs.Kit.{_≡_, refl, ap₂, _∙_, Bool, true, false, cond, ℕ, suc, _-_, _%_, _^_, _<_, lt-of-lt-of-le, mod-lt, arith, ltb, ℤ, pos, negsuc, _+ℤ_, w32, SFits, toZ, ofZ, toZ-ofZ}
 use lib.Signed.{mag}
 use Rattle.load_text.proofs.counts.count_in.Statement.{statement}
 use Rattle.load_text.proofs.counts.count_in.Tie as tie

@@ -1,6 +1,5 @@
 -- `load_text::counts::counts_of` meets its contract. Assumes nothing.
-use Rattle.arithmetic.proofs.Kit.{_∙_, _%_, needs, eqb, w32, toZ-ofZ}
-use Rattle.load_text.specs.Counts.{countsOf}
+use Rattle.load_text.proofs.Kit.{_∙_, _%_, needs, eqb, w32, toZ-ofZ, countsOf}
 use Rattle.load_text.proofs.counts.counts_of.Statement.{statement}
 use Rattle.load_text.proofs.counts.counts_of.Tie as tie
 

@@ -1,6 +1,5 @@
 -- `load_text::counts::draw` meets its contract. Assumes nothing.
-use Rattle.arithmetic.proofs.Kit.{needs}
-use Rattle.load_text.specs.Counts.{drawn}
+use Rattle.load_text.proofs.Kit.{needs, drawn}
 use Rattle.load_text.proofs.counts.draw.Statement.{statement}
 use Rattle.load_text.proofs.counts.draw.Tie as tie
 

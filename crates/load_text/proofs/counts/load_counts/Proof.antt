@@ -1,8 +1,6 @@
 -- `load_text::counts::load_counts` meets its contract: the states repeat, so a number of outputs may wrap. Assumes nothing.
-use Rattle.arithmetic.proofs.Kit.{ap, _∙_, ℕ, _*_, _%_, _^_, mul-comm, needs}
+use Rattle.load_text.proofs.Kit.{ap, _∙_, ℕ, _*_, _%_, _^_, mul-comm, needs, stateAfter, drawn}
 use Rattle.load_text.specs.declared.counts.Drawn.{Drawn}
-use Rattle.load_text.specs.SplitMix.{stateAfter}
-use Rattle.load_text.specs.Counts.{drawn}
 use Rattle.load_text.proofs.States.{state-repeats}
 use Rattle.load_text.proofs.Stepping.{stepping}
 use Rattle.load_text.proofs.counts.load_counts.Statement.{statement}

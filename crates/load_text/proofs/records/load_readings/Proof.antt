@@ -1,6 +1,5 @@
 -- `load_text::records::load_readings` meets its contract. Assumes nothing.
-use Rattle.arithmetic.proofs.Kit.{ap, _∙_, needs}
-use Rattle.load_text.specs.Records.{readingsOfCounts, loadReadings}
+use Rattle.load_text.proofs.Kit.{ap, _∙_, needs, readingsOfCounts, loadReadings}
 use Rattle.load_text.proofs.records.load_readings.Statement.{statement}
 use Rattle.load_text.proofs.records.load_readings.Tie as tie
 

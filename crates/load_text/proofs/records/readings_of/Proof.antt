@@ -1,10 +1,7 @@
 -- `load_text::records::readings_of` meets its contract, by whether there is a humidity. The machine reads each count back from its bits, which gives the count,
 -- since it fits. Assumes nothing.
-use Rattle.arithmetic.proofs.Kit.{_≡_, ap₂, _∙_, ℕ, needs, ℤ, w32, SFits, ofZ, toZ, toZ-ofZ}
-use Rattle.record.specs.declared.entries.Readings.{Readings}
-use Rattle.record.specs.Entries.{noReadings}
+use Rattle.load_text.proofs.Kit.{_≡_, ap₂, _∙_, ℕ, needs, ℤ, w32, SFits, ofZ, toZ, toZ-ofZ, Readings, noReadings, withCount, readingsOfCounts}
 use Rattle.fields.specs.Fields.{altitude, temperature, humidity, measuredPressure}
-use Rattle.load_text.specs.Records.{withCount, readingsOfCounts}
 use Rattle.load_text.proofs.records.readings_of.Statement.{statement}
 use Rattle.load_text.proofs.records.readings_of.Tie as tie
 

@@ -1,8 +1,5 @@
 -- `load_text::records::with_count` meets its contract. Assumes nothing.
-use Rattle.arithmetic.proofs.Kit.{ap, _∙_, ℕ, needs, w32, toZ-ofZ}
-use Rattle.thousandths.specs.Thousandths.{twosComplement}
-use Rattle.fields.specs.declared.fields.Value.the-variants.{Count}
-use Rattle.record.specs.Entries.{withValue}
+use Rattle.load_text.proofs.Kit.{ap, _∙_, ℕ, needs, w32, toZ-ofZ, twosComplement, Count, withValue}
 use Rattle.load_text.proofs.records.with_count.Statement.{statement}
 use Rattle.load_text.proofs.records.with_count.Tie as tie
 

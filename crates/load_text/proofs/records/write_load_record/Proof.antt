@@ -1,9 +1,6 @@
 -- `load_text::records::write_load_record` meets its contract. Assumes nothing.
-use Rattle.arithmetic.proofs.Kit.{ap, _∙_, needs}
-use Rattle.record.specs.declared.entries.Readings.{Readings}
-use Rattle.writer.specs.Records.{recordOf}
+use Rattle.load_text.proofs.Kit.{ap, _∙_, needs, Readings, recordOf, loadRecord}
 use Rattle.writer.specs.Written.{lengthWritten, overwritten}
-use Rattle.load_text.specs.Records.{loadRecord}
 use Rattle.load_text.proofs.records.write_load_record.Statement.{statement}
 use Rattle.load_text.proofs.records.write_load_record.Tie as tie
 

@@ -1,6 +1,5 @@
 -- `load_text::splitmix::mixed` meets its contract. Assumes nothing.
-use Rattle.arithmetic.proofs.Kit.{ap, _∙_, ℕ, _*_, _%_, _^_, needs}
-use Rattle.load_text.specs.SplitMix.{xorShifted, mixed}
+use Rattle.load_text.proofs.Kit.{ap, _∙_, ℕ, _*_, _%_, _^_, needs, xorShifted, mixed}
 use Rattle.load_text.proofs.splitmix.mixed.Statement.{statement}
 use Rattle.load_text.proofs.splitmix.mixed.Tie as tie
 

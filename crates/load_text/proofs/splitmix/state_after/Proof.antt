@@ -1,5 +1,5 @@
 -- `load_text::splitmix::state_after` meets its contract. Assumes nothing.
-use Rattle.arithmetic.proofs.Kit.{sym, _∙_, needs}
+use Rattle.load_text.proofs.Kit.{sym, _∙_, needs}
 use Rattle.load_text.proofs.States.{state-is}
 use Rattle.load_text.proofs.splitmix.state_after.Statement.{statement}
 use Rattle.load_text.proofs.splitmix.state_after.Tie as tie

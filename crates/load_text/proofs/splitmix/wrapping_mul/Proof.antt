@@ -1,5 +1,5 @@
 -- `load_text::splitmix::wrapping_mul` meets its contract: the product's low word is what is left of it. Assumes nothing.
-use Rattle.arithmetic.proofs.Kit.{_≡_, ℕ, _+_, _*_, _%_, _^_, _<_, arith, needs}
+use Rattle.load_text.proofs.Kit.{_≡_, ℕ, _+_, _*_, _%_, _^_, _<_, arith, needs}
 use Rattle.load_text.proofs.splitmix.wrapping_mul.Statement.{statement}
 use Rattle.load_text.proofs.splitmix.wrapping_mul.Tie as tie
 

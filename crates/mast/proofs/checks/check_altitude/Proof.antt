@@ -1,8 +1,5 @@
 -- `mast::checks::check_altitude` meets its contract. Assumes nothing.
-use Rattle.arithmetic.proofs.Kit.{sym, ap, _∙_, needs}
-use Rattle.record.specs.declared.entries.Entry.{Entry}
-use Rattle.refusal.specs.Outcomes.{passed}
-use Rattle.mast.specs.Checks.{finiteRows, present}
+use Rattle.mast.proofs.Kit.{sym, ap, _∙_, needs, Entry, passed, finiteRows, present}
 use Rattle.mast.proofs.checks.check_altitude.Statement.{statement}
 use Rattle.mast.proofs.checks.check_altitude.Tie as tie
 

@@ -1,9 +1,5 @@
 -- `mast::checks::check_celsius` meets its contract. Assumes nothing.
-use Rattle.arithmetic.proofs.Kit.{sym, ap, _∙_, needs}
-use Rattle.record.specs.declared.entries.Entry.{Entry}
-use Rattle.refusal.specs.Outcomes.{passed}
-use Rattle.mast.specs.Checks.{present}
-use Rattle.density_altitude.specs.Inverse.{temperatureRows}
+use Rattle.mast.proofs.Kit.{sym, ap, _∙_, needs, Entry, passed, present, temperatureRows}
 use Rattle.mast.proofs.checks.check_celsius.Statement.{statement}
 use Rattle.mast.proofs.checks.check_celsius.Tie as tie
 

@@ -1,6 +1,5 @@
 -- `mast::checks::check_finite` meets its contract. Assumes nothing.
-use Rattle.arithmetic.proofs.Kit.{ap, _∙_, Bool, not, [], _∷_, needs}
-use Rattle.refusal.specs.Outcomes.{row, passed}
+use Rattle.mast.proofs.Kit.{ap, _∙_, Bool, not, [], _∷_, needs, row, passed}
 use Rattle.mast.proofs.checks.check_finite.Statement.{statement}
 use Rattle.mast.proofs.checks.check_finite.Tie as tie
 

@@ -1,10 +1,5 @@
 -- `mast::checks::check_humidity` meets its contract. Assumes nothing.
-use Rattle.arithmetic.proofs.Kit.{sym, ap, _∙_, [], _∷_, lt, _||_, needs}
-use Rattle.record.specs.declared.entries.Entry.{Entry}
-use Rattle.arithmetic.specs.Decimals.{nought, hundred}
-use Rattle.refusal.specs.Outcomes.{row, passed}
-use Rattle.refusal.proofs.Rows.{first-passed}
-use Rattle.mast.specs.Checks.{finiteRows, humidityRows, present}
+use Rattle.mast.proofs.Kit.{sym, ap, _∙_, [], _∷_, lt, _||_, needs, Entry, nought, hundred, row, passed, first-passed, finiteRows, humidityRows, present}
 use Rattle.mast.proofs.checks.check_humidity.Statement.{statement}
 use Rattle.mast.proofs.checks.check_humidity.Tie as tie
 

@@ -1,10 +1,5 @@
 -- `mast::checks::check_ordinary` meets its contract. Assumes nothing.
-use Rattle.arithmetic.proofs.Kit.{ap, _∙_, Bool, not, [], _∷_, needs}
-use Rattle.refusal.specs.Outcomes.{row, passed}
-use Rattle.refusal.proofs.Rows.{first-passed}
-use Rattle.fields.specs.Fields.{altitude}
-use Rattle.record.specs.Entries.{isPresent}
-use Rattle.mast.specs.Checks.{has, valueRows}
+use Rattle.mast.proofs.Kit.{ap, _∙_, Bool, not, [], _∷_, needs, row, passed, first-passed, altitude, isPresent, has, valueRows}
 use Rattle.mast.proofs.checks.check_ordinary.Statement.{statement}
 use Rattle.mast.proofs.checks.check_ordinary.Tie as tie
 

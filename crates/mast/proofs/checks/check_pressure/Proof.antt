@@ -1,10 +1,5 @@
 -- `mast::checks::check_pressure` meets its contract. Assumes nothing.
-use Rattle.arithmetic.proofs.Kit.{sym, ap, _∙_, [], _∷_, le, needs}
-use Rattle.record.specs.declared.entries.Entry.{Entry}
-use Rattle.arithmetic.specs.Decimals.{nought}
-use Rattle.refusal.specs.Outcomes.{row, passed}
-use Rattle.refusal.proofs.Rows.{first-passed}
-use Rattle.mast.specs.Checks.{finiteRows, pressureRows, present}
+use Rattle.mast.proofs.Kit.{sym, ap, _∙_, [], _∷_, le, needs, Entry, nought, row, passed, first-passed, finiteRows, pressureRows, present}
 use Rattle.mast.proofs.checks.check_pressure.Statement.{statement}
 use Rattle.mast.proofs.checks.check_pressure.Tie as tie
 

@@ -1,12 +1,5 @@
 -- `mast::checks::check_values` meets its contract: its checks are the rows, in their order. Assumes nothing.
-use Rattle.arithmetic.proofs.Kit.{_≡_, ap, _∙_, List, _++_, Float, needs}
-use Rattle.record.specs.declared.entries.Entry.{Entry}
-use Rattle.refusal.specs.Outcomes.{Outcome, Row, passed}
-use Rattle.refusal.proofs.Rows.{first-passed}
-use Rattle.density_altitude.specs.Inverse.{temperatureRows}
-use Rattle.fields.specs.Fields.{altitude, temperature, stationPressure, qnh, humidity, measuredPressure}
-use Rattle.record.specs.Entries.{entryOf}
-use Rattle.mast.specs.Checks.{finiteRows, pressureRows, humidityRows, present}
+use Rattle.mast.proofs.Kit.{_≡_, ap, _∙_, List, _++_, Float, needs, Entry, Outcome, Row, passed, first-passed, temperatureRows, altitude, temperature, stationPressure, qnh, humidity, measuredPressure, entryOf, finiteRows, pressureRows, humidityRows, present}
 use Rattle.mast.proofs.checks.check_values.Statement.{statement}
 use Rattle.mast.proofs.checks.check_values.Tie as tie
 

@@ -1,5 +1,5 @@
 -- `mast::checks::is_clash` meets its contract. Assumes nothing.
-use Rattle.arithmetic.proofs.Kit.{needs}
+use Rattle.mast.proofs.Kit.{needs}
 use Rattle.mast.proofs.checks.is_clash.Statement.{statement}
 use Rattle.mast.proofs.checks.is_clash.Tie as tie
 

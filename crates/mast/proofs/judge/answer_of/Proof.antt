@@ -1,12 +1,6 @@
 -- `mast::judge::answer_of` meets its contract, by the tests of the vapour and of the figures. Assumes nothing.
-use Rattle.arithmetic.proofs.Kit.{_≡_, refl, sym, ap, ap₂, _∙_, Bool, not, cond, [], lt, needs}
-use Rattle.arithmetic.specs.Decimals.{one}
-use Rattle.refusal.specs.Outcomes.{Outcome, accepted, refused}
-use Rattle.refusal.specs.declared.judge.Figures.{Figures}
+use Rattle.mast.proofs.Kit.{_≡_, refl, sym, ap, ap₂, _∙_, Bool, not, cond, [], lt, needs, one, Outcome, accepted, refused, Figures, Resolved, stationFigures, isAir, airOutcome}
 use Rattle.station.specs.declared.figures.StationFigures.{StationFigures}
-use Rattle.station.specs.declared.resolved.Resolved.{Resolved}
-use Rattle.station.specs.Figures.{stationFigures, isAir}
-use Rattle.mast.specs.Judge.{airOutcome}
 use Rattle.mast.proofs.judge.answer_of.Statement.{statement}
 use Rattle.mast.proofs.judge.answer_of.Tie as tie
 

@@ -1,16 +1,6 @@
 -- `mast::judge::humid_answer` meets its contract. Assumes nothing.
-use Rattle.arithmetic.proofs.Kit.{_≡_, ap, _∙_, needs}
-use Rattle.record.specs.declared.entries.Entry.{Entry}
-use Rattle.refusal.specs.declared.Check.{Check}
-use Rattle.refusal.specs.Outcomes.{_⟫_, _then_, checked, passed}
-use Rattle.refusal.proofs.Rows.{after-check}
+use Rattle.mast.proofs.Kit.{_≡_, ap, _∙_, needs, Entry, Check, _⟫_, _then_, checked, passed, after-check, Readings, humidity, entryOf, humidityRows, present, atStation, airOutcome}
 use Rattle.refusal.specs.declared.inverse.Station.{Station}
-use Rattle.record.specs.declared.entries.Readings.{Readings}
-use Rattle.fields.specs.Fields.{humidity}
-use Rattle.record.specs.Entries.{entryOf}
-use Rattle.mast.specs.Checks.{humidityRows, present}
-use Rattle.station.specs.Resolved.{atStation}
-use Rattle.mast.specs.Judge.{airOutcome}
 use Rattle.mast.proofs.judge.humid_answer.Statement.{statement}
 use Rattle.mast.proofs.judge.humid_answer.Tie as tie
 

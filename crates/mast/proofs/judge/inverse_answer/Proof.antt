@@ -1,21 +1,8 @@
 -- `mast::judge::inverse_answer` meets its contract. Assumes nothing.
-use Rattle.arithmetic.proofs.Kit.{_≡_, sym, ap, _∙_, Float, needs}
-use Rattle.arithmetic.specs.Places.{places}
-use Rattle.atmosphere.specs.declared.given.Reading.{Reading}
-use Rattle.refusal.specs.Outcomes.{Outcome, accepted, _⟫_, _then_}
-use Rattle.refusal.proofs.Rows.{then-append, then-next}
+use Rattle.mast.proofs.Kit.{_≡_, sym, ap, _∙_, Float, needs, places, Reading, Outcome, accepted, _⟫_, _then_, then-append, then-next, resolve, stationRows, station, Figures, Present, Readings, temperature, humidity, entryOf, humidityRows, present, givenTemperature, atStation, airOutcome, wayRows, resolvedBy}
 use Rattle.refusal.specs.declared.inverse.Station.{Station}
 use Rattle.refusal.specs.declared.inverse.Answer.{Answer}
-use Rattle.density_altitude.specs.Inverse.{resolve, stationRows, station}
 use Rattle.refusal.specs.Inverted as inverse
-use Rattle.refusal.specs.declared.judge.Figures.{Figures}
-use Rattle.record.specs.declared.entries.Entry.the-variants.{Present}
-use Rattle.record.specs.declared.entries.Readings.{Readings}
-use Rattle.fields.specs.Fields.{temperature, humidity}
-use Rattle.record.specs.Entries.{entryOf}
-use Rattle.mast.specs.Checks.{humidityRows, present}
-use Rattle.station.specs.Resolved.{givenTemperature, atStation}
-use Rattle.mast.specs.Judge.{airOutcome, wayRows, resolvedBy}
 use Rattle.mast.proofs.judge.inverse_answer.Statement.{statement}
 use Rattle.mast.proofs.judge.inverse_answer.Tie as tie
 

@@ -1,10 +1,6 @@
 -- `mast::judge::judge` meets its contract. Assumes nothing.
-use Rattle.arithmetic.proofs.Kit.{refl, ap, _∙_, false, needs}
-use Rattle.refusal.specs.Outcomes.{Outcome, _⟫_}
-use Rattle.record.specs.declared.entries.Readings.{Readings}
-use Rattle.record.specs.Readings.{readRecord}
+use Rattle.mast.proofs.Kit.{refl, ap, _∙_, false, needs, Outcome, _⟫_, Readings, readRecord, judged, judge}
 use Rattle.record.proofs.Parts.{outcome-of-parts}
-use Rattle.mast.specs.Judge.{judged, judge}
 use Rattle.mast.proofs.judge.judge.Statement.{statement}
 use Rattle.mast.proofs.judge.judge.Tie as tie
 

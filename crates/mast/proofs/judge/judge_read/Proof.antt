@@ -1,10 +1,6 @@
 -- `mast::judge::judge_read` meets its contract: a refusal of the reading is the last word. Assumes nothing.
-use Rattle.arithmetic.proofs.Kit.{_≡_, sym, ap, _∙_, needs}
-use Rattle.refusal.specs.declared.Check.{Check}
-use Rattle.refusal.specs.Outcomes.{accepted, _⟫_, checked}
+use Rattle.mast.proofs.Kit.{_≡_, sym, ap, _∙_, needs, Check, accepted, _⟫_, checked, readOutcome, judged}
 use Rattle.record.specs.declared.readings.Read.{Read}
-use Rattle.record.specs.Readings.{readOutcome}
-use Rattle.mast.specs.Judge.{judged}
 use Rattle.mast.proofs.judge.judge_read.Statement.{statement}
 use Rattle.mast.proofs.judge.judge_read.Tie as tie
 

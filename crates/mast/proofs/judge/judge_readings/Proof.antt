@@ -1,15 +1,5 @@
 -- `mast::judge::judge_readings` meets its contract, by the way that the readings ask. Assumes nothing.
-use Rattle.arithmetic.proofs.Kit.{_≡_, refl, sym, ap, _∙_, Bool, cond, [], needs}
-use Rattle.refusal.specs.Outcomes.{Outcome, accepted, refused, _then_}
-use Rattle.refusal.proofs.Rows.{then-append}
-use Rattle.record.specs.declared.entries.Entry.{Entry}
-use Rattle.record.specs.declared.entries.Readings.{Readings}
-use Rattle.fields.specs.Fields.{densityAltitude}
-use Rattle.record.specs.Entries.{entryOf}
-use Rattle.refusal.specs.declared.judge.Figures.{Figures}
-use Rattle.mast.specs.Checks.{isClash}
-use Rattle.station.specs.Figures.{figuresOf}
-use Rattle.mast.specs.Judge.{airRows, airOutcome, wayRows, resolvedBy, judged}
+use Rattle.mast.proofs.Kit.{_≡_, refl, sym, ap, _∙_, Bool, cond, [], needs, Outcome, accepted, refused, _then_, then-append, Entry, Readings, densityAltitude, entryOf, Figures, isClash, figuresOf, airRows, airOutcome, wayRows, resolvedBy, judged}
 use Rattle.mast.proofs.judge.judge_readings.Statement.{statement}
 use Rattle.mast.proofs.judge.judge_readings.Tie as tie
 

@@ -1,10 +1,6 @@
 -- `mast::judge::judge_strictly` meets its contract. Assumes nothing.
-use Rattle.arithmetic.proofs.Kit.{refl, ap, _∙_, true, needs}
-use Rattle.refusal.specs.Outcomes.{Outcome, _⟫_}
-use Rattle.record.specs.declared.entries.Readings.{Readings}
-use Rattle.record.specs.Readings.{readRecord}
+use Rattle.mast.proofs.Kit.{refl, ap, _∙_, true, needs, Outcome, _⟫_, Readings, readRecord, judged, judgeStrictly}
 use Rattle.record.proofs.Parts.{outcome-of-parts}
-use Rattle.mast.specs.Judge.{judged, judgeStrictly}
 use Rattle.mast.proofs.judge.judge_strictly.Statement.{statement}
 use Rattle.mast.proofs.judge.judge_strictly.Tie as tie
 

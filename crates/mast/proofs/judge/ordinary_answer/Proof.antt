@@ -1,12 +1,5 @@
 -- `mast::judge::ordinary_answer` meets its contract. Assumes nothing.
-use Rattle.arithmetic.proofs.Kit.{_≡_, ap, _∙_, needs}
-use Rattle.refusal.specs.declared.Check.{Check}
-use Rattle.refusal.specs.Outcomes.{_⟫_, _then_, checked, passed}
-use Rattle.refusal.proofs.Rows.{after-check}
-use Rattle.record.specs.declared.entries.Readings.{Readings}
-use Rattle.mast.specs.Checks.{ordinaryRows}
-use Rattle.station.specs.Resolved.{ordinary}
-use Rattle.mast.specs.Judge.{airOutcome}
+use Rattle.mast.proofs.Kit.{_≡_, ap, _∙_, needs, Check, _⟫_, _then_, checked, passed, after-check, Readings, ordinaryRows, ordinary, airOutcome}
 use Rattle.mast.proofs.judge.ordinary_answer.Statement.{statement}
 use Rattle.mast.proofs.judge.ordinary_answer.Tie as tie
 

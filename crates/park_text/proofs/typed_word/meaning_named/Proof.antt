@@ -1,7 +1,8 @@
 -- `park_text::typed_word::meaning_named` meets its contract, name by name. Assumes nothing.
 use Rattle.arithmetic.proofs.Kit.{_≡_, refl, List, ℕ, suc, needs, drop}
-use Rattle.park_text.specs.Word.{readingNames, placeIn, meaningNamed}
-use Rattle.park_text.proofs.Names.{first, later}
+use Rattle.questions.specs.Words.{placeIn}
+use Rattle.questions.proofs.Names.{first, later}
+use Rattle.park_text.specs.Word.{readingNames, meaningNamed}
 use Rattle.park_text.proofs.typed_word.meaning_named.Statement.{statement}
 use Rattle.park_text.proofs.typed_word.meaning_named.Tie as tie
 

@@ -1,7 +1,7 @@
 -- `questions::line_ends::first_line` meets its contract. Assumes nothing.
 use Rattle.arithmetic.proofs.Kit.{_≡_, refl, ap, ap₂, _∙_, Bool, true, false, List, ℕ, _+_, _≤_, _<_, arith, lt-ltb, le-ltb, length, needs}
 use Rattle.bytes.specs.Bytes.{indexOf, slice}
-use Rattle.park_text.proofs.OneWord.{found}
+use Rattle.questions.proofs.Found.{found}
 use Rattle.questions.specs.declared.line_ends.Found.the-variants.{Line, Nothing}
 use Rattle.questions.specs.Lines.{beforeReturn, lineEnd, foundLine}
 use Rattle.questions.proofs.line_ends.first_line.Statement.{statement}

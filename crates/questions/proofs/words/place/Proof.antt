@@ -1,7 +1,7 @@
 -- `questions::words::place` meets its contract. The loop's invariant: none of the names passed is the word. Assumes nothing.
 use Rattle.arithmetic.proofs.Kit.{_≡_, refl, sym, ap, _∙_, List, [], ℕ, suc, _+_, _-_, _≤_, arith, length, drop, needs}
-use Rattle.park_text.specs.Word.{placeIn}
-use Rattle.park_text.proofs.Names.{first, later}
+use Rattle.questions.specs.Words.{placeIn}
+use Rattle.questions.proofs.Names.{first, later}
 use Rattle.questions.specs.Words.{lineParts}
 use Rattle.questions.proofs.Split.{next-at, last-at, some-at}
 use Rattle.questions.proofs.words.place.Statement.{statement}

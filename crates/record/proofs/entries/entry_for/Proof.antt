@@ -1,7 +1,6 @@
 -- `record::entries::entry_for` meets its contract. Assumes nothing.
-use Rattle.arithmetic.proofs.Kit.{sym, ap, _∙_, needs}
+use Rattle.record.proofs.Kit.{sym, ap, _∙_, needs, entryFor}
 use Rattle.record.specs.declared.entries.Entry.the-variants.{Present}
-use Rattle.record.specs.Entries.{entryFor}
 use Rattle.record.proofs.entries.entry_for.Statement.{statement}
 use Rattle.record.proofs.entries.entry_for.Tie as tie
 

@@ -1,6 +1,5 @@
 -- `record::entries::entry_of` meets its contract. Assumes nothing.
-use Rattle.arithmetic.proofs.Kit.{ap, _∙_, needs}
-use Rattle.record.specs.Entries.{entryFor}
+use Rattle.record.proofs.Kit.{ap, _∙_, needs, entryFor}
 use Rattle.record.proofs.entries.entry_of.Statement.{statement}
 use Rattle.record.proofs.entries.entry_of.Tie as tie
 

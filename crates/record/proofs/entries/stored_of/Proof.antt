@@ -1,10 +1,5 @@
 -- `record::entries::stored_of` meets its contract. Assumes nothing.
-use Rattle.arithmetic.proofs.Kit.{_≡_, sym, ap, _≤_, arith, needs, length, List·getD-eq-default}
-use lib.ListN.{length-map}
-use Rattle.record.specs.declared.entries.Slot.{Slot}
-use Rattle.record.specs.declared.entries.Stored.the-variants.{Absent}
-use Rattle.fields.specs.Fields.{meanings}
-use Rattle.record.specs.Entries.{slotOf}
+use Rattle.record.proofs.Kit.{_≡_, sym, ap, _≤_, arith, needs, length, List·getD-eq-default, length-map, Slot, Absent, meanings, slotOf}
 use Rattle.record.proofs.entries.stored_of.Statement.{statement}
 use Rattle.record.proofs.entries.stored_of.Tie as tie
 

@@ -1,6 +1,5 @@
 -- `record::entries::value_or_zero` meets its contract. Assumes nothing.
-use Rattle.arithmetic.proofs.Kit.{sym, ap, needs}
-use Rattle.record.specs.Entries.{valueOrZero}
+use Rattle.record.proofs.Kit.{sym, ap, needs, valueOrZero}
 use Rattle.record.proofs.entries.value_or_zero.Statement.{statement}
 use Rattle.record.proofs.entries.value_or_zero.Tie as tie
 

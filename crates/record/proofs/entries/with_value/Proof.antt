@@ -1,12 +1,5 @@
 -- `record::entries::with_value` meets its contract. Assumes nothing.
-use Rattle.arithmetic.proofs.Kit.{_≡_, sym, ap, List, _≤_, arith, needs, length}
-use lib.ListN.{length-map}
-use lib.Seq.{set-out}
-use Rattle.record.specs.declared.entries.Slot.{Slot}
-use Rattle.record.specs.declared.entries.Stored.the-variants.{Present}
-use Rattle.record.specs.declared.entries.Readings.{Readings}
-use Rattle.fields.specs.Fields.{meanings}
-use Rattle.record.specs.Entries.{slotOf}
+use Rattle.record.proofs.Kit.{_≡_, sym, ap, List, _≤_, arith, needs, length, length-map, set-out, Slot, Present, Readings, meanings, slotOf}
 use Rattle.record.proofs.entries.with_value.Statement.{statement}
 use Rattle.record.proofs.entries.with_value.Tie as tie
 

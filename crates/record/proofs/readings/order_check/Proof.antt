@@ -1,6 +1,5 @@
 -- `record::readings::order_check` meets its contract, by whether the meaning has a value and whether the tag falls. Assumes nothing.
-use Rattle.arithmetic.proofs.Kit.{_≡_, refl, sym, _∙_, Bool, _&&_, cond, [], _∷_, ℕ, needs, ltb}
-use Rattle.refusal.specs.Outcomes.{accepted, refused, row, passed}
+use Rattle.record.proofs.Kit.{_≡_, refl, sym, _∙_, Bool, _&&_, cond, [], _∷_, ℕ, needs, ltb, accepted, refused, row, passed}
 use Rattle.record.proofs.readings.order_check.Statement.{statement}
 use Rattle.record.proofs.readings.order_check.Tie as tie
 

@@ -1,12 +1,6 @@
 -- `record::readings::read_fields` meets its contract. The loop's invariant: what is left of the record, read from the readings and the last tag so far, gives the
 -- whole record's outcome. Assumes nothing.
-use Rattle.arithmetic.proofs.Kit.{_≡_, refl, sym, ap, _∙_, Bool, List, ℕ, _-_, _≤_, _<_, arith, needs, length, drop, drop-of-length-le}
-use Rattle.refusal.specs.Outcomes.{Outcome, accepted, checked, passed}
-use Rattle.record.specs.declared.entries.Slot.{Slot}
-use Rattle.record.specs.declared.entries.Readings.{Readings}
-use Rattle.fields.specs.Fields.{fieldOf, nextAt, stepped, meanings}
-use Rattle.record.specs.Readings.{orderRows, readRecord, readParts}
-use Rattle.fields.proofs.Heads.{step-found, step-refused, further}
+use Rattle.record.proofs.Kit.{_≡_, refl, sym, ap, _∙_, Bool, List, ℕ, _-_, _≤_, _<_, arith, needs, length, drop, drop-of-length-le, Outcome, accepted, checked, passed, Slot, Readings, fieldOf, nextAt, stepped, meanings, orderRows, readRecord, readParts, step-found, step-refused, further}
 use Rattle.record.proofs.Walk.{no-bytes, read}
 use Rattle.record.proofs.Turn.{field-refuses, whole, in-place, order-refuses, moves-on}
 use Rattle.record.proofs.readings.read_fields.Statement.{statement}

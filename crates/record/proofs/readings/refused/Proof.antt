@@ -1,5 +1,5 @@
 -- `record::readings::refused` meets its contract. Assumes nothing.
-use Rattle.arithmetic.proofs.Kit.{needs}
+use Rattle.record.proofs.Kit.{needs}
 use Rattle.record.proofs.readings.refused.Statement.{statement}
 use Rattle.record.proofs.readings.refused.Tie as tie
 

@@ -12,9 +12,11 @@ returns c =
     let reading = cause .before .before .before .before in
     let line = reading .before .before .before .before .before in
     let numbered = line .before .before in
-    let r = numbered .before .before .args .readings in
-    same-more (ap (refusedLines r) (numbered .number .ensures))
+    let a = numbered .before .before .args in
+    same-more (ap (refusedLines (a .origin) (a .readings)) (numbered .number .ensures))
     (and-then (and-then (line .put-refusal .ensures) (same-more (ap readingLine (reading .before .reading-of .ensures)) (reading .put-reading .ensures))) (cause .put-cause .ensures))
 
 pub put-refused-spec : {M : Type 1} → statement M
-put-refused-spec = tie.close (tie.spec (λ c κs. search needs) (λ c κs. search needs) (λ c κs. search needs) (λ c κs. search needs) (λ c κs. search needs) (λ c. search needs) returns)
+put-refused-spec =
+    tie.close (tie.spec (λ c κs. search needs) (λ c κs. search needs) (λ c κs. search needs) (λ c κs. search needs) (λ c κs. search needs)
+    (λ c. search needs) returns)

@@ -1,9 +1,8 @@
 -- `sheet::page::celsius` meets its contract. Assumes nothing.
-use Rattle.arithmetic.proofs.Kit.{_≡_, ap, _∙_, Bool, true, false, cond, ℕ, suc, _-_, _^_, _<_, lt-of-lt-of-le, arith, needs, leb, lit≤, ℤ, pos, negsuc, _-ℤ_, binary64, minus, ofInt, SFits, toZ, w32}
+use Rattle.sheet.proofs.Kit.{_≡_, ap, _∙_, Bool, true, false, cond, ℕ, suc, _-_, _^_, _<_, lt-of-lt-of-le, arith, needs, leb, lit≤, ℤ, pos, negsuc, _-ℤ_, binary64, minus, ofInt, SFits, toZ, w32, celsiusOfRow}
 use lib.Signed.{mag}
 use mir.Facts.{toZ-pos, toZ-ofZ}
 use Rattle.arithmetic.proofs.Differences.{minus-is}
-use Rattle.sheet.specs.Sheet.{celsiusOfRow}
 use Rattle.sheet.proofs.page.celsius.Statement.{statement}
 use Rattle.sheet.proofs.page.celsius.Tie as tie
 

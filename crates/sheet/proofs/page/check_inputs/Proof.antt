@@ -1,6 +1,5 @@
 -- `sheet::page::check_inputs` meets its contract: its checks are the rows, in their order. Assumes nothing.
-use Rattle.arithmetic.proofs.Kit.{_++_, needs}
-use Rattle.refusal.proofs.Rows.{first-passed}
+use Rattle.sheet.proofs.Kit.{_++_, needs, first-passed}
 use Rattle.mast.specs.Checks.{finiteRows, pressureRows, humidityRows}
 use Rattle.sheet.proofs.page.check_inputs.Statement.{statement}
 use Rattle.sheet.proofs.page.check_inputs.Tie as tie

@@ -1,10 +1,6 @@
 -- `sheet::page::setting_sheet` meets its contract, check by check. Assumes nothing.
-use Rattle.arithmetic.proofs.Kit.{_≡_, sym, ap, ap₂, _∙_, List, [], _++_, ℕ, _+_, _≤_, _<_, zero-add, needs, lt-ltb, le-ltb, Float, length, take, drop, take-length}
+use Rattle.sheet.proofs.Kit.{_≡_, sym, ap, _∙_, List, [], ℕ, _≤_, _<_, needs, lt-ltb, le-ltb, Float, length, Outcome, accepted, refused, _⟫_, checked, passed, after-check, over, overOrLeft, rows, sheetInputRows, settingSheet, bare}
 use Rattle.refusal.specs.declared.Check.{Check}
-use Rattle.refusal.specs.Outcomes.{Outcome, accepted, refused, _⟫_, checked, passed}
-use Rattle.refusal.proofs.Rows.{after-check}
-use Rattle.sheet.specs.Over.{overOrLeft}
-use Rattle.sheet.specs.Sheet.{rows, sheetInputRows, settingSheet, bare}
 use Rattle.sheet.proofs.page.setting_sheet.Statement.{statement}
 use Rattle.sheet.proofs.page.setting_sheet.Tie as tie
 
@@ -24,12 +20,9 @@ module _ (h p u : Float) (page : List ℕ) where
       → (refused n vs ≡ bare (settingSheet h p u (length page))) × (page ≡ overOrLeft page 0 (settingSheet h p u (length page)))
   left e = (ap bare e, ap (overOrLeft page 0) e)
 
-  written : {text last : List ℕ} → accepted text ≡ settingSheet h p u (length page) → last ≡ take (length text) text ++ drop (length text) page
+  written : {text last : List ℕ} → accepted text ≡ settingSheet h p u (length page) → last ≡ over page 0 text
       → (_≡_ {A = Outcome (Unit {0})} (accepted tt) (bare (settingSheet h p u (length page)))) × (last ≡ overOrLeft page 0 (settingSheet h p u (length page)))
-  written {text} {last} e l = (
-    ap bare e,
-    l ∙ ap₂ (λ (t : List ℕ) (n : ℕ). t ++ drop n page) (take-length text) (sym (zero-add (length text))) ∙ ap (overOrLeft page 0) e,
-  )
+  written e l = (ap bare e, l ∙ ap (overOrLeft page 0) e)
 
 returns : tie.Need-returns
 returns c =
@@ -71,7 +64,7 @@ returns-4 c =
     let w = told .before .before .before in
     let a = w .before .before .before .before .before .before .before .args in
     written (a .altitude-m) (a .pressure-hpa) (a .humidity-percent) (a .page .now) (rows-are w (told .enum-told2 .given .1))
-    (c .before .before .copy .ensures .1)
+    (c .before .before .put .ensures .0 .all)
 
 pub setting-sheet-spec : {M : Type 1} → statement M
 setting-sheet-spec =

@@ -1,11 +1,7 @@
 -- `sheet::page::write_rows` meets its contract. The loop's invariant: the page begins with the rows of the turns passed. Assumes nothing.
-use Rattle.arithmetic.proofs.Kit.{_≡_, refl, sym, ap, ap₂, _∙_, List, ℕ, suc, _+_, _-_, _*_, _≤_, _<_, add-one, arith, needs, Float, length, take, take-all}
-use Rattle.refusal.specs.Outcomes.{Outcome, accepted, checked}
-use Rattle.sheet.specs.Over.{over, overOrLeft}
-use Rattle.sheet.specs.Row.{rowOutcome}
-use Rattle.sheet.specs.Sheet.{celsiusOfRow, rows, bare}
+use Rattle.sheet.proofs.Kit.{_≡_, refl, sym, ap, ap₂, _∙_, List, ℕ, suc, _+_, _-_, _*_, _≤_, _<_, add-one, arith, needs, Float, length, take, take-all, Outcome, accepted, checked, over, overOrLeft, rowOutcome, celsiusOfRow, rows, bare}
 use Rattle.sheet.proofs.OnAPage.{over-length, over-front}
-use Rattle.sheet.proofs.Outcomes.{bare-accepted, bare-refused, line-length, more, stopped, stays}
+use Rattle.sheet.proofs.Outcomes.{bare-accepted, bare-refused, line-length, next-row, stays}
 use Rattle.sheet.proofs.page.write_rows.Statement.{statement}
 use Rattle.sheet.proofs.page.write_rows.Tie as tie
 
@@ -44,7 +40,7 @@ returns c =
     let n = turn w .loop .n in
     let rest : 51 ≡ suc n + (51 - suc n) = omega (arith, w .before .before .before .loop-test .taken) in
     let here =
-    stopped (a .altitude-m) (a .pressure-hpa) (a .humidity-percent) n _ (turn w .loop .inv .2)
+    next-row (a .altitude-m) (a .pressure-hpa) (a .humidity-percent) n _ (turn w .loop .inv .2)
     (bare-refused (outcomeOf w) (sym (row-is w) ∙ ap checked (told .refusal .given .1))) in
     ap (rows (a .altitude-m) (a .pressure-hpa) (a .humidity-percent)) rest
     ∙ stays (a .altitude-m) (a .pressure-hpa) (a .humidity-percent) (suc n) (51 - suc n) here
@@ -63,7 +59,7 @@ loop-again c =
     let next : 30 * (n + 1) ≡ 30 * n + length (good .0) = omega arith in (
       omega arith,
       ap length written ∙ over-length page (30 * n) (good .0) room ∙ turn w .loop .inv .1,
-      rw add-one (more (a .altitude-m) (a .pressure-hpa) (a .humidity-percent) n (take (30 * n) page) (good .0) (turn w .loop .inv .2) (good .1))
+      rw add-one (next-row (a .altitude-m) (a .pressure-hpa) (a .humidity-percent) n (take (30 * n) page) (turn w .loop .inv .2) (good .1))
           ∙ ap accepted (sym (over-front page (30 * n) (good .0) room) ∙ ap₂ take (sym next) (sym written)),
     )
 
@@ -79,5 +75,5 @@ returns-2 c =
 pub write-rows-spec : {M : Type 1} → statement M
 write-rows-spec =
     tie.close (tie.spec Inv-loop μ-loop (λ c. unfold rows in (omega arith, c .before .pre, refl)) (λ c. omega arith) (λ c. omega arith) (λ c κs. omega arith)
-    (λ c κs. omega arith) (λ c. search needs) (λ c. search needs) returns (λ c. search needs) (λ c. omega arith) (λ c. omega arith) loop-again
+    (λ c κs. search needs) (λ c. search needs) (λ c. search needs) returns (λ c. search needs) (λ c. omega arith) (λ c. omega arith) loop-again
     (λ c. search needs) returns-2)

@@ -1,10 +1,8 @@
 -- `sheet::row::write_figures` meets its contract: its tests are those of the columns, and its four cells the row. Assumes nothing.
-use Rattle.arithmetic.proofs.Kit.{_≡_, sym, ap, _∙_, _||_, needs, ltb}
-use Rattle.sheet.specs.Over.{over, overOrLeft}
-use Rattle.sheet.specs.Row.{isTooWide}
-use Rattle.sheet.specs.Sheet.{bare}
+use Rattle.sheet.proofs.Kit.{_≡_, sym, ap, _∙_, _||_, needs, ltb, over, overOrLeft, isTooWide, bare}
+use Rattle.pages.proofs.Growing.{and-then}
 use Rattle.sheet.proofs.Cells.{narrow, tests-are, cells-are}
-use Rattle.sheet.proofs.Outcomes.{figures-refused, figures-accepted}
+use Rattle.sheet.proofs.Outcomes.{by-width}
 use Rattle.sheet.proofs.row.write_figures.Statement.{statement}
 use Rattle.sheet.proofs.row.write_figures.Tie as tie
 
@@ -26,22 +24,25 @@ returns : tie.Need-returns
 returns c =
     let fourth = c .before .before .before .before .before in
     let a = fourth .before .before .before .before .before .args in
-    let refusal = sym (figures-refused (a .temperature-c) (a .figures) (sym (tested fourth) ∙ c .if1 .taken)) in
+    let refusal = sym (by-width (a .temperature-c) (a .figures) (sym (tested fourth) ∙ c .if1 .taken)) in
     (ap bare refusal, ap (overOrLeft (a .page .now) (a .at)) refusal)
 
 returns-2 : tie.Need-returns-2
 returns-2 c =
-    let written = c .before .before in
-    let test = written .before .before in
+    let altitude = c .before .before in
+    let sound = altitude .before .before .before .before in
+    let density = sound .before .before .before .before in
+    let temperature = density .before .before .before .before in
+    let test = temperature .before .before in
     let fourth = test .before .before .before .before .before in
     let third = fourth .before in
     let second = third .before in
     let first = second .before in
     let a = first .before .before .args in
     let fits = sym (tested fourth) ∙ test .if1 .left in
-    let row = sym (figures-accepted (a .temperature-c) (a .figures) fits) in (
+    let row = sym (by-width (a .temperature-c) (a .figures) fits) in (
       ap bare row,
-      written .write-cells .ensures
+      (and-then (and-then (and-then (temperature .put-cell .ensures) (density .put-cell2 .ensures)) (sound .put-cell3 .ensures)) (altitude .put-cell4 .ensures)) .all
           ∙ ap (over (a .page .now) (a .at))
           (cells-are (a .temperature-c) (a .figures) (first .decimal-text .ensures) (second .decimal-text2 .ensures) (third .decimal-text3 .ensures)
           (fourth .decimal-text4 .ensures) (narrow (a .temperature-c) (a .figures) fits))
@@ -49,4 +50,6 @@ returns-2 c =
     )
 
 pub write-figures-spec : {M : Type 1} → statement M
-write-figures-spec = tie.close (tie.spec (λ c κs. search needs) (λ c κs. search needs) (λ c κs. search needs) (λ c κs. search needs) returns (λ c κs. search needs) (λ c. search needs) returns-2)
+write-figures-spec =
+    tie.close (tie.spec (λ c κs. search needs) (λ c κs. search needs) (λ c κs. search needs) (λ c κs. search needs) returns (λ c κs. search needs)
+    (λ c κs. search needs) (λ c κs. search needs) (λ c κs. search needs) (λ c. search needs) returns-2)

@@ -1,9 +1,7 @@
 -- `sheet::row::write_row` meets its contract, by what the station's air says. Assumes nothing.
-use Rattle.arithmetic.proofs.Kit.{sym, ap, _∙_, needs}
+use Rattle.sheet.proofs.Kit.{sym, ap, _∙_, needs, overOrLeft, bare}
 use Rattle.refusal.specs.Judged.{outcome}
-use Rattle.sheet.specs.Over.{overOrLeft}
-use Rattle.sheet.specs.Sheet.{bare}
-use Rattle.sheet.proofs.Outcomes.{air-refused, air-accepted}
+use Rattle.sheet.proofs.Outcomes.{by-air}
 use Rattle.sheet.proofs.row.write_row.Statement.{statement}
 use Rattle.sheet.proofs.row.write_row.Tie as tie
 
@@ -13,7 +11,7 @@ returns c =
     let air = told .before .before in
     let a = air .before .before .args in
     let refusal =
-    sym (air-refused (a .altitude-m) (a .pressure-hpa) (a .humidity-percent) (a .temperature-c)
+    sym (by-air (a .altitude-m) (a .pressure-hpa) (a .humidity-percent) (a .temperature-c)
     (sym (air .answer-of .ensures) ∙ ap outcome (told .refusal .given .1))) in
     (ap bare refusal, ap (overOrLeft (a .page .now) (a .at)) refusal)
 
@@ -24,7 +22,7 @@ returns-2 c =
     let air = told .before .before in
     let a = air .before .before .args in
     let row =
-    sym (air-accepted (a .altitude-m) (a .pressure-hpa) (a .humidity-percent) (a .temperature-c)
+    sym (by-air (a .altitude-m) (a .pressure-hpa) (a .humidity-percent) (a .temperature-c)
     (sym (air .answer-of .ensures) ∙ ap outcome (told .figures .given .1))) in
     (written .write-figures .ensures .0 ∙ ap bare row, written .write-figures .ensures .1 ∙ ap (overOrLeft (a .page .now) (a .at)) row)
 

@@ -1,11 +1,8 @@
 -- `trim::changes::another` meets its contract, by whether there is a class and whether it is another. Assumes nothing.
-use Rattle.arithmetic.proofs.Kit.{_≡_, sym, ap, _∙_, Bool, cond, ℕ, needs, eq-eqb, ne-eqb, eqb}
+use Rattle.trim.proofs.Kit.{_≡_, sym, ap, _∙_, Bool, cond, ℕ, needs, eq-eqb, ne-eqb, eqb, Change, classified, another}
 use Rattle.trim.specs.declared.classes.Class.{Class}
 use Rattle.trim.specs.declared.classes.Class.the-variants as class
-use Rattle.trim.specs.declared.changes.Change.{Change}
 use Rattle.trim.specs.declared.changes.Found.the-variants.{Turn, Nothing}
-use Rattle.trim.specs.Classes.{classified}
-use Rattle.trim.specs.Changes.{another}
 use Rattle.trim.proofs.changes.another.Statement.{statement}
 use Rattle.trim.proofs.changes.another.Tie as tie
 

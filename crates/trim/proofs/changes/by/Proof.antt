@@ -1,9 +1,8 @@
 -- `trim::changes::by` meets its contract, by the direction. Assumes nothing.
-use Rattle.arithmetic.proofs.Kit.{sym, ap, needs}
+use Rattle.trim.proofs.Kit.{sym, ap, needs, changedCount}
 use Rattle.arithmetic.specs.Decimals.{decimal}
 use Rattle.arithmetic.specs.Operators.{_⊘_}
 use Rattle.trim.specs.declared.changes.Direction.{Direction}
-use Rattle.trim.specs.Changes.{changedCount}
 use Rattle.trim.proofs.changes.by.Statement.{statement}
 use Rattle.trim.proofs.changes.by.Tie as tie
 

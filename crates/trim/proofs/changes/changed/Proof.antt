@@ -1,9 +1,5 @@
 -- `trim::changes::changed` meets its contract, by the quantity. Assumes nothing.
-use Rattle.arithmetic.proofs.Kit.{_≡_, sym, ap₂, _∙_, needs, Float}
-use Rattle.trim.specs.declared.changes.Quantity.{Quantity}
-use Rattle.trim.specs.declared.changes.Change.{Change}
-use Rattle.trim.specs.declared.changes.Start.{Start}
-use Rattle.trim.specs.Changes.{by, changedBy, changed}
+use Rattle.trim.proofs.Kit.{_≡_, sym, ap₂, _∙_, needs, Float, Quantity, Change, Start, by, changedBy, changed}
 use Rattle.trim.proofs.changes.changed.Statement.{statement}
 use Rattle.trim.proofs.changes.changed.Tie as tie
 

@@ -1,7 +1,5 @@
 -- `trim::changes::tried` meets its contract. Assumes nothing.
-use Rattle.arithmetic.proofs.Kit.{ap, _∙_, needs}
-use Rattle.trim.specs.Classes.{classOf}
-use Rattle.trim.specs.Changes.{change, another, tried}
+use Rattle.trim.proofs.Kit.{ap, _∙_, needs, classOf, change, another, tried}
 use Rattle.trim.proofs.changes.tried.Statement.{statement}
 use Rattle.trim.proofs.changes.tried.Tie as tie
 

@@ -1,12 +1,7 @@
 -- `trim::classes::class_of` meets its contract: a refusal of the readings is the last word. Assumes nothing.
-use Rattle.arithmetic.proofs.Kit.{_≡_, sym, ap, _∙_, needs}
-use Rattle.refusal.specs.Outcomes.{Outcome, accepted, _⟫_}
-use Rattle.record.specs.declared.entries.Readings.{Readings}
-use Rattle.refusal.specs.declared.judge.Figures.{Figures}
+use Rattle.trim.proofs.Kit.{_≡_, sym, ap, _∙_, needs, Outcome, accepted, _⟫_, Readings, Figures, judged, trimClass, classOf}
 use Rattle.refusal.specs.declared.judge.Answer.{Answer}
-use Rattle.mast.specs.Judge.{judged}
 use Rattle.refusal.specs.Judged.{outcome}
-use Rattle.trim.specs.Classes.{trimClass, classOf}
 use Rattle.trim.proofs.classes.class_of.Statement.{statement}
 use Rattle.trim.proofs.classes.class_of.Tie as tie
 

@@ -1,6 +1,5 @@
 -- `trim::classes::trim_class` meets its contract. The loop's invariant: the count so far and that of the densities left are the class. Assumes nothing.
-use Rattle.arithmetic.proofs.Kit.{_≡_, sym, ap, _∙_, Bool, true, false, cond, List, ⊎-elim, ℕ, _+_, _-_, _≤_, _<_, add-zero, zero-add, add-one, arith, Float, nan, le, length, getD, drop, drop-cons}
-use Rattle.trim.specs.Classes.{classDensities, countAtOrBelow, trimClass}
+use Rattle.trim.proofs.Kit.{_≡_, sym, ap, _∙_, Bool, true, false, cond, List, ⊎-elim, ℕ, _+_, _-_, _≤_, _<_, add-zero, zero-add, add-one, arith, Float, nan, le, length, getD, drop, drop-cons, classDensities, countAtOrBelow, trimClass}
 use Rattle.trim.proofs.classes.trim_class.Statement.{statement}
 use Rattle.trim.proofs.classes.trim_class.Tie as tie
 

@@ -1,6 +1,5 @@
 -- `trim::search::first_by` meets its contract: one change after the other. Assumes nothing.
-use Rattle.arithmetic.proofs.Kit.{_≡_, _∙_, needs, drop}
-use Rattle.trim.specs.InOrder.{changesOf, firstOf}
+use Rattle.trim.proofs.Kit.{_≡_, _∙_, needs, drop, changesOf, firstOf}
 use Rattle.trim.proofs.First.{turns-here, turns-later, only-one}
 use Rattle.trim.proofs.search.first_by.Statement.{statement}
 use Rattle.trim.proofs.search.first_by.Tie as tie

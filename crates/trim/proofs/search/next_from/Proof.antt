@@ -1,11 +1,6 @@
 -- `trim::search::next_from` meets its contract. The loop's invariant: of all the changes, those of the counts left have the first that gives another class.
 -- The measure is the number of counts left. Assumes nothing.
-use Rattle.arithmetic.proofs.Kit.{_≡_, refl, sym, ap, _∙_, ℕ, suc, _+_, _-_, _≤_, arith, needs}
-use Rattle.refusal.specs.Outcomes.{accepted}
-use Rattle.trim.specs.declared.changes.Found.{Found}
-use Rattle.trim.specs.declared.changes.Start.{Start}
-use Rattle.trim.specs.InOrder.{changesOf, changesFrom, changes, orElse, firstOf}
-use Rattle.trim.specs.Search.{nextFrom}
+use Rattle.trim.proofs.Kit.{_≡_, refl, sym, ap, _∙_, ℕ, suc, _+_, _-_, _≤_, arith, needs, accepted, Found, Start, changesOf, changesFrom, changes, orElse, firstOf, nextFrom}
 use Rattle.trim.proofs.First.{first-append}
 use Rattle.trim.proofs.search.next_from.Statement.{statement}
 use Rattle.trim.proofs.search.next_from.Tie as tie

@@ -1,12 +1,8 @@
 -- `trim::search::next_trim_class` meets its contract: a refusal of the reading is the last word. Assumes nothing.
-use Rattle.arithmetic.proofs.Kit.{_≡_, refl, sym, ap, _∙_, false, List, ℕ, needs}
+use Rattle.trim.proofs.Kit.{_≡_, refl, sym, ap, _∙_, false, List, ℕ, needs, Outcome, accepted, _⟫_, checked, Readings, readRecord, parts, readParts, nextOf, nextTrimClass}
 use Rattle.refusal.specs.declared.Check.{Check}
-use Rattle.refusal.specs.Outcomes.{Outcome, accepted, _⟫_, checked}
-use Rattle.record.specs.declared.entries.Readings.{Readings}
 use Rattle.record.specs.declared.readings.Read.{Read}
-use Rattle.record.specs.Readings.{readRecord, parts, readParts}
 use Rattle.record.proofs.Parts.{outcome-of-parts}
-use Rattle.trim.specs.Search.{nextOf, nextTrimClass}
 use Rattle.trim.proofs.search.next_trim_class.Statement.{statement}
 use Rattle.trim.proofs.search.next_trim_class.Tie as tie
 

@@ -1,10 +1,6 @@
 -- `trim::search::next_trim_class_of_readings` meets its contract: a refusal of the readings is the last word. Assumes nothing.
-use Rattle.arithmetic.proofs.Kit.{_≡_, sym, ap, _∙_, ℕ, needs}
-use Rattle.refusal.specs.Outcomes.{Outcome, _⟫_}
-use Rattle.record.specs.declared.entries.Readings.{Readings}
+use Rattle.trim.proofs.Kit.{_≡_, sym, ap, _∙_, ℕ, needs, Outcome, _⟫_, Readings, classified, classOf, nextWith, nextOf}
 use Rattle.trim.specs.declared.classes.Class.{Class}
-use Rattle.trim.specs.Classes.{classified, classOf}
-use Rattle.trim.specs.Search.{nextWith, nextOf}
 use Rattle.trim.proofs.search.next_trim_class_of_readings.Statement.{statement}
 use Rattle.trim.proofs.search.next_trim_class_of_readings.Tie as tie
 

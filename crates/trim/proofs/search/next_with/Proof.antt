@@ -1,11 +1,5 @@
 -- `trim::search::next_with` meets its contract, by the two entries. Assumes nothing.
-use Rattle.arithmetic.proofs.Kit.{_≡_, refl, sym, ap₂, _∙_, ℕ, needs}
-use Rattle.refusal.specs.Outcomes.{_⟫_}
-use Rattle.record.specs.declared.entries.Entry.{Entry}
-use Rattle.record.specs.declared.entries.Readings.{Readings}
-use Rattle.fields.specs.Fields.{temperature, measuredPressure}
-use Rattle.record.specs.Entries.{entryOf}
-use Rattle.trim.specs.Search.{nextFrom, startOf, nextWith}
+use Rattle.trim.proofs.Kit.{_≡_, refl, sym, ap₂, _∙_, ℕ, needs, _⟫_, Entry, Readings, temperature, measuredPressure, entryOf, nextFrom, startOf, nextWith}
 use Rattle.trim.proofs.search.next_with.Statement.{statement}
 use Rattle.trim.proofs.search.next_with.Tie as tie
 

@@ -1,9 +1,5 @@
 -- `vote::by_field::any_not_in_all` meets its contract. The loop's invariant: it has looked at the meanings below the next one. Assumes nothing.
-use Rattle.arithmetic.proofs.Kit.{_≡_, refl, ap, _∙_, _||_, ℕ, _+_, _-_, _≤_, add-one, arith, needs}
-use Rattle.record.specs.declared.entries.Readings.{Readings}
-use Rattle.fields.specs.Fields.{meanings}
-use Rattle.record.specs.Entries.{entryOf}
-use Rattle.vote.specs.Fields.{isNotInAll, notInAllOf}
+use Rattle.vote.proofs.Kit.{_≡_, refl, ap, _∙_, _||_, ℕ, _+_, _-_, _≤_, add-one, arith, needs, Readings, meanings, entryOf, isNotInAll, notInAllOf}
 use Rattle.vote.proofs.by_field.any_not_in_all.Statement.{statement}
 use Rattle.vote.proofs.by_field.any_not_in_all.Tie as tie
 

@@ -1,5 +1,5 @@
 -- `vote::by_field::is_not_in_all` meets its contract. Assumes nothing.
-use Rattle.arithmetic.proofs.Kit.{needs}
+use Rattle.vote.proofs.Kit.{needs}
 use Rattle.vote.proofs.by_field.is_not_in_all.Statement.{statement}
 use Rattle.vote.proofs.by_field.is_not_in_all.Tie as tie
 

@@ -1,9 +1,5 @@
 -- `vote::by_field::voted` meets its contract. The loop's invariant: the meanings below the next one are voted on. Assumes nothing.
-use Rattle.arithmetic.proofs.Kit.{_≡_, ap, _∙_, ℕ, _+_, _-_, _≤_, add-one, arith, needs}
-use Rattle.record.specs.declared.entries.Readings.{Readings}
-use Rattle.fields.specs.Fields.{meanings}
-use Rattle.record.specs.Entries.{entryOf}
-use Rattle.vote.specs.Fields.{withMiddle, votedOf}
+use Rattle.vote.proofs.Kit.{_≡_, ap, _∙_, ℕ, _+_, _-_, _≤_, add-one, arith, needs, Readings, meanings, entryOf, withMiddle, votedOf}
 use Rattle.vote.proofs.by_field.voted.Statement.{statement}
 use Rattle.vote.proofs.by_field.voted.Tie as tie
 

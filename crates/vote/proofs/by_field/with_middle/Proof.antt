@@ -1,11 +1,5 @@
 -- `vote::by_field::with_middle` meets its contract. Assumes nothing.
-use Rattle.arithmetic.proofs.Kit.{_≡_, ap, _∙_, ℕ, Float, needs}
-use Rattle.record.specs.declared.entries.Entry.{Entry}
-use Rattle.record.specs.declared.entries.Entry.the-variants.{Present}
-use Rattle.record.specs.declared.entries.Readings.{Readings}
-use Rattle.record.specs.Entries.{withEntry}
-use Rattle.arithmetic.specs.Middle.{middle}
-use Rattle.vote.specs.Fields.{withMiddle}
+use Rattle.vote.proofs.Kit.{_≡_, ap, _∙_, ℕ, Float, needs, Entry, Present, Readings, withEntry, middle, withMiddle}
 use Rattle.vote.proofs.by_field.with_middle.Statement.{statement}
 use Rattle.vote.proofs.by_field.with_middle.Tie as tie
 

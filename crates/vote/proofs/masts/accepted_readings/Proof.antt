@@ -1,16 +1,10 @@
 -- `vote::masts::accepted_readings` meets its contract: a refusal of the reading, or else of the judge, is the last word. Assumes nothing.
-use Rattle.arithmetic.proofs.Kit.{_≡_, refl, sym, ap, _∙_, false, List, ℕ, needs}
+use Rattle.vote.proofs.Kit.{_≡_, refl, sym, ap, _∙_, false, List, ℕ, needs, Outcome, accepted, _⟫_, checked, Readings, readRecord, parts, readParts, Figures, judged, acceptedReadings}
 use Rattle.refusal.specs.declared.Check.{Check}
-use Rattle.refusal.specs.Outcomes.{Outcome, accepted, _⟫_, checked}
-use Rattle.record.specs.declared.entries.Readings.{Readings}
 use Rattle.record.specs.declared.readings.Read.{Read}
-use Rattle.record.specs.Readings.{readRecord, parts, readParts}
 use Rattle.record.proofs.Parts.{outcome-of-parts}
-use Rattle.refusal.specs.declared.judge.Figures.{Figures}
 use Rattle.refusal.specs.declared.judge.Answer.{Answer}
-use Rattle.mast.specs.Judge.{judged}
 use Rattle.refusal.specs.Judged.{outcome}
-use Rattle.vote.specs.Vote.{acceptedReadings}
 use Rattle.vote.proofs.masts.accepted_readings.Statement.{statement}
 use Rattle.vote.proofs.masts.accepted_readings.Tie as tie
 

@@ -1,13 +1,9 @@
 -- `vote::masts::vote` meets its contract: mast by mast, a refusal is the last word. Assumes nothing.
-use Rattle.arithmetic.proofs.Kit.{_≡_, refl, sym, ap, _∙_, List, ℕ, needs}
+use Rattle.vote.proofs.Kit.{_≡_, refl, sym, ap, _∙_, List, ℕ, needs, Outcome, accepted, _⟫_, checked, Readings, readOutcome, VoteOutcome, byNoMast, acceptedReadings, afterMast, vote, votedOutcome}
 use Rattle.refusal.specs.declared.Check.{Check}
-use Rattle.refusal.specs.Outcomes.{Outcome, accepted, _⟫_, checked}
-use Rattle.record.specs.declared.entries.Readings.{Readings}
 use Rattle.record.specs.declared.readings.Read.{Read}
-use Rattle.record.specs.Readings.{readOutcome}
 use Rattle.refusal.specs.declared.judge.Answer.{Answer}
 use Rattle.refusal.specs.Judged.{outcome}
-use Rattle.vote.specs.Vote.{VoteOutcome, byNoMast, acceptedReadings, afterMast, vote, votedOutcome}
 use Rattle.vote.proofs.masts.vote.Statement.{statement}
 use Rattle.vote.proofs.masts.vote.Tie as tie
 

@@ -1,10 +1,5 @@
 -- `vote::masts::vote_readings` meets its contract. Assumes nothing.
-use Rattle.arithmetic.proofs.Kit.{_≡_, sym, ap, _∙_, Bool, cond, [], needs}
-use Rattle.refusal.specs.Outcomes.{refused}
-use Rattle.record.specs.declared.entries.Readings.{Readings}
-use Rattle.mast.specs.Judge.{judged}
-use Rattle.vote.specs.Fields.{anyNotInAll, voted}
-use Rattle.vote.specs.Vote.{votedOutcome}
+use Rattle.vote.proofs.Kit.{_≡_, sym, ap, _∙_, Bool, cond, [], needs, refused, Readings, judged, anyNotInAll, voted, votedOutcome}
 use Rattle.vote.proofs.masts.vote_readings.Statement.{statement}
 use Rattle.vote.proofs.masts.vote_readings.Tie as tie
 

@@ -1,13 +1,7 @@
 -- `writer::conversion::convert` meets its contract, check by check. Assumes nothing.
-use Rattle.arithmetic.proofs.Kit.{_≡_, sym, ap, _∙_, false, arith, needs, length}
+use Rattle.writer.proofs.Kit.{_≡_, sym, ap, _∙_, false, arith, needs, length, accepted, _⟫_, checked, NoneHolds, then-accepted, readRows, readRecord, readOutcome, written, recordIn, converted}
 use Rattle.refusal.specs.declared.Check.{Check}
-use Rattle.refusal.specs.Outcomes.{accepted, _⟫_, checked}
-use Rattle.refusal.specs.Causes.{NoneHolds}
-use Rattle.refusal.proofs.Rows.{then-accepted}
-use Rattle.record.specs.Readings.{readRows, readRecord, readOutcome}
 use Rattle.record.proofs.Parts.{outcome-of-parts}
-use Rattle.writer.specs.Written.{written}
-use Rattle.writer.specs.Conversion.{recordIn, converted}
 use Rattle.writer.proofs.Outcome.{reader-refuses, no-count, counted, refuses, has-no-room, has-room}
 use Rattle.writer.proofs.conversion.convert.Statement.{statement}
 use Rattle.writer.proofs.conversion.convert.Tie as tie

@@ -1,6 +1,6 @@
 -- `writer::conversion::copy` meets its contract. The loop's invariant: the bytes that are left, stored from their place on, make the buffer what all of them make it. Assumes
 -- nothing.
-use Rattle.arithmetic.proofs.Kit.{_≡_, refl, sym, ap, _∙_, List, ℕ, suc, _+_, _-_, _≤_, _<_, add-zero, add-one, arith, length, getD, set, drop, length-set, drop-of-length-le, sets, drop-cons}
+use Rattle.writer.proofs.Kit.{_≡_, refl, sym, ap, _∙_, List, ℕ, suc, _+_, _-_, _≤_, _<_, add-zero, add-one, arith, length, getD, set, drop, length-set, drop-of-length-le, sets, drop-cons}
 use Rattle.writer.proofs.conversion.copy.Statement.{statement}
 use Rattle.writer.proofs.conversion.copy.Tie as tie
 

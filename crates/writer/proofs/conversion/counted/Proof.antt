@@ -1,9 +1,6 @@
 -- `writer::conversion::counted` meets its contract. Assumes nothing.
-use Rattle.arithmetic.proofs.Kit.{sym, ap, _∙_, ℕ, needs, w32, SFits, toZ-ofZ}
+use Rattle.writer.proofs.Kit.{sym, ap, _∙_, ℕ, needs, w32, SFits, toZ-ofZ, Count, Other, countedField}
 use Rattle.thousandths.specs.Thousandths.{twosComplement}
-use Rattle.fields.specs.declared.fields.Value.the-variants.{Count}
-use Rattle.writer.specs.declared.conversion.Turned.the-variants.{Other}
-use Rattle.writer.specs.Conversion.{countedField}
 use Rattle.writer.proofs.conversion.counted.Statement.{statement}
 use Rattle.writer.proofs.conversion.counted.Tie as tie
 

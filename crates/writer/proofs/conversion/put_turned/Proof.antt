@@ -1,11 +1,6 @@
 -- `writer::conversion::put_turned` meets its contract. Assumes nothing.
-use Rattle.arithmetic.proofs.Kit.{_≡_, sym, ap, ap₂, subst, _∙_, List, [], _++_, append-nil, append-assoc, ℕ, _+_, _-_, _≤_, add-zero, arith, needs, le-ltb, length, take, drop, length-drop, drop-of-length-le, sets, take-all, drop-drop}
+use Rattle.writer.proofs.Kit.{_≡_, sym, ap, ap₂, subst, _∙_, List, [], _++_, append-nil, append-assoc, ℕ, _+_, _-_, _≤_, add-zero, arith, needs, le-ltb, length, take, drop, length-drop, drop-of-length-le, sets, take-all, drop-drop, sets-eq, fieldFor, overwritten, Turned, fieldAs}
 use borrow.Rule.Slice.PartMut.{putMid}
-use lib.Seq.{sets-eq}
-use Rattle.writer.specs.Records.{fieldFor}
-use Rattle.writer.specs.Written.{overwritten}
-use Rattle.writer.specs.declared.conversion.Turned.{Turned}
-use Rattle.writer.specs.Conversion.{fieldAs}
 use Rattle.writer.proofs.conversion.put_turned.Statement.{statement}
 use Rattle.writer.proofs.conversion.put_turned.Tie as tie
 

@@ -1,9 +1,5 @@
 -- `writer::conversion::turn` meets its contract, by the value's form and the one that is asked for. Assumes nothing.
-use Rattle.arithmetic.proofs.Kit.{sym, ap, ap₂, _∙_, Bool, needs, Float}
-use Rattle.fields.specs.declared.fields.Value.{Value}
-use Rattle.fields.specs.declared.fields.Value.the-variants.{Double}
-use Rattle.writer.specs.declared.conversion.Turned.the-variants.{Other}
-use Rattle.writer.specs.Conversion.{countedField, turned}
+use Rattle.writer.proofs.Kit.{sym, ap, ap₂, _∙_, Bool, needs, Float, Value, Double, Other, countedField, turned}
 use Rattle.writer.proofs.conversion.turn.Statement.{statement}
 use Rattle.writer.proofs.conversion.turn.Tie as tie
 

@@ -1,6 +1,5 @@
 -- `writer::conversion::turned_size` meets its contract. Assumes nothing.
-use Rattle.arithmetic.proofs.Kit.{sym, ap, _∙_, needs}
-use Rattle.writer.specs.Conversion.{sizeAs}
+use Rattle.writer.proofs.Kit.{sym, ap, _∙_, needs, sizeAs}
 use Rattle.writer.proofs.conversion.turned_size.Statement.{statement}
 use Rattle.writer.proofs.conversion.turned_size.Tie as tie
 
