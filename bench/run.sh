@@ -6,4 +6,5 @@ for program in station_air load; do
     [ -e "target/bin/$program" ] || rt check "$program"
 done
 oracle/driver.sh
-exec target/oracle/driver bench
+target/oracle/driver bench
+size target/staticlib/libstation_air.a

@@ -35,6 +35,7 @@ static double percent(void) { return between(0, 100); }
 
 /* what calls are lent, and what they answer: none of it is on the stack that is measured */
 static uint8_t records[3][STATION_AIR_RECORD_BYTES_AT_MOST], out[2048], forms[7];
+static uint8_t page[STATION_AIR_REPORT_BYTES_AT_MOST + 2 * STATION_AIR_RECORD_BYTES_AT_MOST];
 static size_t lengths[3], length;
 static double places[8], values[7];
 static int32_t counts[7], answer[4];
@@ -105,6 +106,8 @@ static void draw_measured(void) {
     F(load_record, CALLS, (void)0, status = station_air_load_record(word(), out, sizeof out, &length))                         \
     F(setting_sheet, 100, (void)0,                                                                                             \
       status = station_air_setting_sheet(altitude(), hectopascals(), percent(), out, sizeof out, places, 8))                   \
+    F(report, 300, draw_record(0), status = station_air_report(OF_RECORD(0), page, sizeof page, &length))                      \
+    F(refusal_words, CALLS, (void)0, status = station_air_refusal_words((uint32_t)(word() % 18), page, sizeof page, &length))  \
     F(for_density_altitude, CALLS, (void)0, status = station_air_for_density_altitude(altitude(), word() % 2, celsius(), places, 8)) \
     F(resolve_atmosphere_for_density_altitude, CALLS, (void)0,                                                                 \
       status = station_air_resolve_atmosphere_for_density_altitude(altitude(), word() % 2, celsius(), places, 8))              \

@@ -24,8 +24,10 @@ pub fn measure() {
     let random = &mut Random(0);
     whole_numbers(random);
     station(random);
+    record_head("nanoseconds a record");
     records(random);
-    head("a record's length");
+    slowest(random);
+    record_head("a record's length");
     lengths(random);
     println!("{:<42}{:>10}", "microseconds a call", "ours");
     pages_and_searches();
@@ -331,14 +333,46 @@ fn ruled_judged(record: &[u8]) -> Judged {
     }
 }
 
-fn record_row(name: &str, records: &[impl AsRef<[u8]>]) {
-    row(
-        name,
-        records,
-        |record| judged(record.as_ref()),
-        |record| ruled_judged(record.as_ref()),
-        |record| stock::record::read(record.as_ref()),
+fn record_head(of: &str) {
+    println!(
+        "{of:<42}{:>10}{:>11}{:>11}{:>11}{:>10}{:>10}",
+        "ours", "u128 Rust", "stock Rust", "no heap", "to stock", "to that"
     );
+}
+
+/// Of the stock source twice: with the oracle's reader, which has a map of the values, and with one that has no heap.
+fn record_row(name: &str, records: &[impl AsRef<[u8]>]) {
+    for record in records {
+        let record = record.as_ref();
+        let ruled = ruled_judged(record);
+        assert!(judged(record) == ruled, "{name}: the answers differ");
+        let heapless = ruled::heapless::read(record).map(|a| (0, a.figures, a.in_range));
+        assert!(heapless == (ruled.0 == 0).then_some(ruled), "{name}: the readers differ");
+    }
+    let mut times = [Vec::new(), Vec::new(), Vec::new(), Vec::new()];
+    for run in 0..RUNS {
+        times[0].push(nanoseconds(records, |record| judged(record.as_ref())));
+        if run % 10 == 0 {
+            times[1].push(nanoseconds(records, |record| ruled_judged(record.as_ref())));
+        }
+        times[2].push(nanoseconds(records, |record| stock::record::read(record.as_ref())));
+        times[3].push(nanoseconds(records, |record| stock::heapless::read(record.as_ref())));
+    }
+    let [ours, ruled, stock, heapless] = times.map(median);
+    println!(
+        "{name:<42}{ours:>10.1}{ruled:>11.1}{stock:>11.1}{heapless:>11.1}{:>10.2}{:>10.2}",
+        ours / stock,
+        ours / heapless
+    );
+}
+
+/// The slowest of many humid records, each timed by its quickest call: those whose powers the estimates leave open.
+fn slowest(random: &mut Random) {
+    let drawn = (0..80).flat_map(|_| all_fields(&readings(random), &[1, 2, 4, 5]));
+    let slowest = drawn
+        .map(|record| (0..9).map(|_| nanoseconds(&[&record], |r| judged(r))).fold(f64::INFINITY, f64::min))
+        .fold(0.0, f64::max);
+    println!("{:<42}{slowest:>10.1}", "01 02 04 05, the slowest of 20,000");
 }
 
 fn fields(r: &Readings, tags: &[u8]) -> Vec<u8> {
@@ -360,13 +394,24 @@ fn all_fields(readings: &[Readings], tags: &[u8]) -> Vec<Vec<u8>> {
 fn records(random: &mut Random) {
     let humid = readings(random);
     let dry = dry(&humid);
+    let high: Vec<Readings> = dry
+        .iter()
+        .map(|r| Readings { altitude: random.between(11_100.0, 20_000.0), ..*r })
+        .collect();
     for (name, readings, tags) in [
-        ("record 01 02 03 05, dry", &dry, &[1, 2, 3, 5][..]),
-        ("record 01 02 03 05, humid", &humid, &[1, 2, 3, 5]),
+        ("record 01 02 03 05, humid", &humid, &[1, 2, 3, 5][..]),
         ("record 01 02 04 05, humid", &humid, &[1, 2, 4, 5]),
+        ("record 01 02 05 07, humid", &humid, &[1, 2, 5, 7]),
         ("record 01 05, humid", &humid, &[1, 5]),
-        ("record 02 06", &humid, &[2, 6]),
         ("record 02 05 06, humid", &humid, &[2, 5, 6]),
+        ("record 01 02 03 05, dry", &dry, &[1, 2, 3, 5]),
+        ("record 01 02 04", &dry, &[1, 2, 4]),
+        ("record 01 04", &dry, &[1, 4]),
+        ("record 01", &dry, &[1]),
+        ("record 02 06", &dry, &[2, 6]),
+        ("record 06", &dry, &[6]),
+        ("record 01, above 11 km", &high, &[1]),
+        ("record 01 02 03, above 11 km", &high, &[1, 2, 3]),
     ] {
         record_row(name, &all_fields(readings, tags));
     }

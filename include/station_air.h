@@ -16,15 +16,16 @@
  * memcpy and memset, so several threads may call at once, each with lent arrays and numbers of its
  * own. Every call ends.
  *
- * Stack, at most, a quarter above what bench/stack.sh measures: 16 kB for station_air_vote; 15 kB for the
- * two judges, station_air_next_trim_class and station_air_setting_sheet; 2 kB for what reads, writes or
- * converts a record and for station_air_load_record; 256 bytes for station_air_trim_class,
+ * Stack, at most, a quarter above what bench/stack.sh measures: 18 kB for station_air_report; 17 kB for
+ * station_air_vote; 15 kB for the two judges, station_air_next_trim_class and station_air_setting_sheet; 3 kB
+ * for station_air_refusal_words; 2 kB for what reads, writes or converts a record and for
+ * station_air_load_record; 256 bytes for station_air_trim_class,
  * station_air_keeps_pressure, station_air_keeps_temperature, station_air_ln, station_air_log_word,
  * station_air_sqrt and station_air_version; 13 kB for all others.
  *
  * Time, on one core of a server: a judgement takes about a microsecond, a vote some four, a setting sheet
- * some fifty, station_air_next_trim_class up to a millisecond; every other call a microsecond or less. Of
- * a record that is longer than any can be, what comes after the first fault is not read.
+ * some fifty, station_air_next_trim_class and station_air_report up to a millisecond; every other call a
+ * microsecond or less. Of a record that is longer than any can be, what comes after the first fault is not read.
  *
  * Arrays. An array goes as a pointer and the number of its elements, and the pointer points to that
  * many elements; with the number 0 it may be NULL. A pointer without a number, `in_range`, `mast`,
@@ -71,7 +72,7 @@ uint32_t station_air_version(void);
 
 /* A function that hands out several numbers, or bytes, writes them to the first places of a lent
  * array, and returns a status. A status says what the first places hold; those that it does not name,
- * and all others, keep what they held. Test for 0: more refusals may come between 22 and 254. */
+ * and all others, keep what they held. Test for 0: more refusals may come between 22 and 253. */
 enum station_air_status {
     /* the figures */
     STATION_AIR_FIGURES = 0,
@@ -108,7 +109,7 @@ enum station_air_status {
     STATION_AIR_TOO_MUCH_VAPOR = 14,
     /* a figure is not finite, or pressure, density or speed of sound is not above 0 */
     STATION_AIR_NOT_AIR = 15,
-    /* the page has fewer than 1,530 bytes */
+    /* the page has fewer bytes than a setting sheet, or than the longest text that could be asked for */
     STATION_AIR_PAGE_TOO_SHORT = 16,
     /* a figure of the setting sheet is wider than its column */
     STATION_AIR_TOO_WIDE = 17,
@@ -122,6 +123,8 @@ enum station_air_status {
     STATION_AIR_FIELD_NOT_IN_ALL = 21,
     /* an accepted record has no temperature or no measured station pressure */
     STATION_AIR_NO_READING_TO_CHANGE = 22,
+    /* no refusal: a number has no words, and nothing is written */
+    STATION_AIR_NO_WORDS = 253,
     /* no refusal: a reading's form is unknown, and nothing is written */
     STATION_AIR_UNKNOWN_FORM = 254,
     /* no refusal: an array has fewer places than the function needs, whatever the other arguments;
@@ -206,10 +209,12 @@ enum station_air_places {
     STATION_AIR_SETTING_SHEET_PLACES = 1
 };
 
-/* How many bytes a setting sheet has, and how many a record that is written, and one of the load, has at
- * most. */
+/* How many bytes a setting sheet has; how many the words on a refusal have at most, and a report beside two
+ * for each byte of its record; and how many a record that is written, and one of the load, has at most. */
 enum station_air_bytes {
     STATION_AIR_SETTING_SHEET_BYTES = 1530,
+    STATION_AIR_REFUSAL_WORDS_BYTES_AT_MOST = 236,
+    STATION_AIR_REPORT_BYTES_AT_MOST = 2842,
     STATION_AIR_RECORD_BYTES_AT_MOST = 77,
     STATION_AIR_LOAD_RECORD_BYTES_AT_MOST = 28
 };
@@ -329,6 +334,25 @@ uint32_t station_air_load_record(uint64_t number, uint8_t *out, size_t out_lengt
  * it was, and 0 the bytes after the sheet. 255: no place. */
 uint32_t station_air_setting_sheet(double altitude_m, double pressure_hpa, double humidity_percent, uint8_t *page,
                                    size_t page_length, double *places, size_t places_length);
+
+/* Writes the report of a record to the start of `page`, in ASCII, lines that end with a newline and no 0 byte
+ * after them, in the form that `park` prints (docs/PARK.md). Of a record that station_air_judge
+ * accepts the figures, a line each, the trim class and the next one, whether CIPM-2007's range holds, and
+ * notes on readings that were replaced or cannot be; else the refusal's number, the reading that it is about,
+ * its cause and what to do. The last line is the record in hex. 0: `length` points to a number that is set to
+ * how many bytes the report has, a refused record's too. 16: the page has fewer than 2,842 bytes and two for
+ * each of the record's, which is enough for any record of that length; shorter pages are refused even where
+ * this report would fit. It leaves page and `length` as they were, and 0 the bytes after the report. The
+ * record is left as it was. */
+uint32_t station_air_report(const uint8_t *record, size_t record_length, uint8_t *page, size_t page_length,
+                            size_t *length);
+
+/* Writes what is said of a refusal to the start of `page`, in the words of a report, by its number: a line
+ * `cause: ..` and a line `what to do: ..`, in ASCII, each with a newline and no 0 byte after them. Words have
+ * 1 to 15 and 17, which a record or a setting sheet can be refused by. 0: `length` points to a number that is
+ * set to how many bytes they have. 16: the page has fewer than 236 bytes, whatever the number. 253: any other
+ * number. Every status but 0 leaves page and `length` as they were, and 0 the bytes after the words. */
+uint32_t station_air_refusal_words(uint32_t number, uint8_t *page, size_t page_length, size_t *length);
 
 /* The station whose air has a density altitude by the FAA's rule, with the temperature that is given
  * or, where `temperature_given` is false, the standard one; `temperature_c` then counts for nothing.

@@ -25,6 +25,9 @@ pub mod station;
 pub mod density_vapor;
 #[path = "../../oracle/src/record.rs"]
 pub mod record;
+#[cfg(library)]
+#[path = "../../bench/heapless.rs"]
+pub mod heapless;
 END
 }
 

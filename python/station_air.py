@@ -69,6 +69,8 @@ class Count(int):
 
 FIGURES = 8
 BYTES_AT_MOST = 77
+# beside two for each byte of the record
+REPORT_BYTES_AT_MOST = 2842
 VALUES = {1: 1, 2: 1, 3: 1, 4: 2, 11: 1, 12: 1, 13: 1}
 
 
@@ -105,6 +107,7 @@ _write = _function("station_air_write", *[_ADDRESS, _SIZE] * 4, _ADDRESS)
 _READ_ARGUMENTS = (ctypes.c_char_p, _SIZE, *[_ADDRESS, _SIZE] * 3)
 _read = _function("station_air_read", *_READ_ARGUMENTS)
 _read_strictly = _function("station_air_read_strictly", *_READ_ARGUMENTS)
+_report = _function("station_air_report", ctypes.c_char_p, _SIZE, _ADDRESS, _SIZE, _ADDRESS)
 _trim_class = _function("station_air_trim_class", ctypes.c_double)
 if _function("station_air_version")() != VERSION:
     raise ImportError(f"{_LIBRARY._name} is another version than {VERSION}")
@@ -163,6 +166,15 @@ def read(record):
 def read_strictly(record):
     """As read, of a record whose tags rise."""
     return _read_by(_read_strictly, record)
+
+
+def report(record):
+    """The report of a record, as `park` prints one: figures and notes, or why there are none and what to do."""
+    record = bytes(record)
+    room = REPORT_BYTES_AT_MOST + 2 * len(record)
+    page, length = (ctypes.c_char * room)(), ctypes.c_size_t()
+    _report(record, len(record), _at(page), room, _at(length))
+    return page[: length.value].decode("ascii")
 
 
 def trim_class(density_kg_m3):

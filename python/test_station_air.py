@@ -10,20 +10,23 @@ from array import array
 from pathlib import Path
 
 import station_air
-from station_air import Count, Refused, figures_of_columns, judge, judge_strictly, read, read_strictly, trim_class, write
+from station_air import Count, Refused, figures_of_columns, judge, judge_strictly, read, read_strictly, report, trim_class, write
 
+UNREADABLE = {f"refused {number}" for number in (5, 6, 7, 8)}
 FOLDER = Path(__file__).resolve().parent.parent / "crates" / "ask"
 
 
 def answers():
-    """Questions with their answers' lines, up to the reports, which come after all that the module answers."""
+    """Questions with their answers' lines, up to those of park, which come after all that the module answers."""
     questions, lines = ((FOLDER / name).read_text("latin-1").split("\n") for name in ("stdin", "stdout"))
     rest = iter(lines)
     for question in questions:
         name, _, argument = question.partition(" ")
-        if name == "report":
+        if name == "park":
             return
         answer = [next(rest)]
+        while name == "report" and not answer[-1].startswith("record") and answer[0] not in UNREADABLE:
+            answer.append(next(rest))
         more = 1 if answer[0].startswith("station") else 50 if name == "sheet" and not answer[0].startswith("refused") else 0
         yield name, argument, answer + [next(rest) for _ in range(more)]
 
@@ -107,6 +110,14 @@ class Lists(unittest.TestCase):
 
     def test_read_strictly(self):
         self.hold_reader(read_strictly, "strict", [5, 6, 7, 8, 19])
+
+    def test_report(self):
+        questions = list(asked("report"))
+        self.assertGreater(len(questions), 500)
+        for argument, answer in questions:
+            reported = report(record(argument)).split("\n")
+            # `ask` says of an unreadable record no more than that
+            self.assertEqual(reported[:1] if reported[0] in UNREADABLE else reported[:-1], answer, argument)
 
     def test_trim_class(self):
         accepted = [(argument, answer) for argument, answer in asked("class") if answer[0].startswith("class")]

@@ -144,7 +144,7 @@ def roots(asked):
 
 
 def reports(asked):
-    return report.of_records([record_of(record) for (record,) in asked])
+    return report.of_records([record_of(record) for (record,) in asked], lambda number, _: f"refused {number}\n")
 
 
 def printed(asked):

@@ -17,9 +17,9 @@ def main():
     figures = [answer[0] for answer in answers(record_of({**one, TEMPERATURE: celsius}) for one in air for celsius in SENT)]
     for altitude, before, inside in zip(ALTITUDES, figures[::2], figures[1::2]):
         jump = 100 * (inside[DENSITY] / before[DENSITY] - 1)
-        classes = f"{trim_class(before[DENSITY])} | {trim_class(inside[DENSITY])}"
-        densities = f"{decimal(before[DENSITY], 4)} | {decimal(inside[DENSITY], 4)}"
-        print(f"| {altitude:,} | {decimal(inside[1], 2)} | {densities} | {decimal(jump, 1)} | {classes} |")
+        densities = f"{decimal(before[DENSITY], 4):>13} {decimal(inside[DENSITY], 4):>13}"
+        classes = f"{trim_class(before[DENSITY])} to {trim_class(inside[DENSITY])}"
+        print(f"    {altitude:6,} m {densities} {decimal(jump, 1):>6} percent   {classes}")
 
 
 if __name__ == "__main__":

@@ -1,4 +1,4 @@
-"""Prints the sizes of docs/DIFFERENCES.md, table by table and row by row.
+"""Prints the sizes of docs/DIFFERENCES.md, table by table, and some that it leaves out.
 
 Our figures are the proved library's (library.py), or the source's formulas with the source's constants (formulas.py); the others
 are the same formulas with a document's constants, or a document's own formula, in real numbers.

@@ -9,7 +9,7 @@ from random import Random
 from sys import argv
 
 from ask import EVERY, LONGEST
-from words import pattern, save, word
+from words import in_both_cases, pattern, save, word
 
 # A record with both forms, of 38 bytes. Its digits have letters.
 GOOD = "010008404EA00000000000" + "020008403AABCDEF000000" + "15000400009CDF" + "1700040010ABCD"
@@ -42,10 +42,6 @@ WRONG_ITEMS = [
     *["00=0000000000000000", "08=0000000000000000", "10=00000000", "18=00000000", "21=00000000", "0A=0000000000000000", "0G=0000000000000000"],
     *["01 =404EA00000000000", "01= 404EA0000000000", "-", "none", "01=nan", "altitude=1"],
 ]
-
-
-def in_both_cases(digits):
-    return "".join(digit.lower() if i % 2 else digit for i, digit in enumerate(digits))
 
 
 def in_other_cases(question):

@@ -1,14 +1,18 @@
 """What `park` prints for words that are typed, and the list `words`; or holds a program to it.
 
 The words are understood as docs/PARK.md says, and a reading is computed from its typed decimal in fractions. The reports are those of
-report.py, the figures of a sheet the oracle's. Nothing of the proved code is called. Arguments: the folder to write the list's questions
-to; or `compare` and a program, which is run on the words of each case; or `print` and words.
+report.py, the figures of a sheet the oracle's, which also says why a record is not read. Nothing of the proved code is called. Arguments:
+the folder to write the list's questions to; or `compare` and a program, which is run on the words of each case, and on each record that it
+printed; or `print` and words.
 """
 
 from fractions import Fraction
+from itertools import permutations
+from math import inf, nextafter
 from os import fsencode
 from pathlib import Path
 from re import fullmatch, match
+from struct import pack
 from subprocess import run
 from sys import argv, stdout
 from typing import NamedTuple
@@ -16,7 +20,7 @@ from typing import NamedTuple
 import oracle
 import report
 from report import ALTITUDE, DENSITY, DENSITY_ALTITUDE, HUMIDITY, MEASURED, QNH, STATION, TEMPERATURE, Asked, decimal, text_of, words_on
-from words import question, save
+from words import in_both_cases, question, save
 
 DOCUMENT = Path(__file__).resolve().parent.parent / "docs/PARK.md"
 
@@ -31,6 +35,9 @@ MEANINGS = {
     "pressure": (MEASURED, "841.9"),
 }
 
+RECORD, RECORD_EXAMPLE = "record=", "11000400183350"
+EXAMPLES = {name: example for name, (_, example) in MEANINGS.items()} | {"record": RECORD_EXAMPLE}
+
 # the exact reading by its number; the first unit is SI's, and needs not be written
 LENGTHS = {"m": lambda x: x, "ft": lambda x: x * Fraction("0.3048")}
 DEGREES = {"C": lambda x: x, "F": lambda x: (x - 32) * Fraction(5, 9), "K": lambda x: x - Fraction("273.15")}
@@ -39,6 +46,9 @@ PERCENT = {"percent": lambda x: x, "%": lambda x: x}
 UNITS = {ALTITUDE: LENGTHS, TEMPERATURE: DEGREES, STATION: PRESSURES, QNH: PRESSURES, HUMIDITY: PERCENT, DENSITY_ALTITUDE: LENGTHS, MEASURED: PRESSURES}
 LEAST, GREATEST = -(2**31), 2**31 - 1
 
+NOT_ALONE = f"record= stands alone, as park record={RECORD_EXAMPLE}"
+NOT_A_RECORD = f"not a record, expected an even number of hex digits, as record={RECORD_EXAMPLE}"
+TOO_MANY_BYTES = "more than 256 bytes, and no record is as long"
 UNKNOWN = (
     "unknown word, expected altitude=, temperature=, pressure=, station-pressure=, qnh=, humidity= or density-altitude= and a number"
 )
@@ -57,7 +67,7 @@ SHEET_NEEDS = (
     "a sheet needs altitude= and one of pressure=, station-pressure= and qnh=, as park sheet altitude=1586 pressure=841.9 humidity=32\n"
 )
 HELP = "help", "--help", "-h"
-QUOTED, LONGEST = 64, 4096
+QUOTED, LONGEST, RECORD_BYTES = 64, 4096, 256
 
 # the minus sign U+2212, as the bytes of UTF-8
 MINUS = "\u2212".encode().decode("latin-1")
@@ -69,6 +79,12 @@ class Typed(NamedTuple):
     readings: dict
     lines: list
     point: bool
+
+
+class Kept(NamedTuple):
+    """The bytes of a record that was kept."""
+
+    record: bytes
 
 
 # ---- words: a character a byte
@@ -86,11 +102,13 @@ def either(names):
 
 
 def misspelled(word):
-    """What is wrong with a word before its number is looked at, and how it is typed; or nothing."""
+    """What is wrong with a word for a reading before its number is looked at, and how it is typed; or nothing."""
     name, mark, typed = word.partition("=")
     start = word[:QUOTED]
-    if not mark and word in MEANINGS:
-        return f"a name without =, type {word}={MEANINGS[word][1]}"
+    if word.startswith(RECORD):
+        return NOT_ALONE
+    if not mark and word in EXAMPLES:
+        return f"a name without =, type {word}={EXAMPLES[word]}"
     if not mark or name not in MEANINGS:
         return UNKNOWN
     if " " in typed:
@@ -144,6 +162,19 @@ def understood(words):
             lines.append(f"{word[:QUOTED]} is {decimal(float(exact), 3)} {next(iter(UNITS[tag]))}")
         of_thousands |= tag == ALTITUDE and point
     return Typed(readings, lines, of_thousands)
+
+
+# ---- a record that was kept
+def kept(word):
+    """The record of the only word, or the line on it."""
+    digits = word.removeprefix(RECORD)
+    if fullmatch(r"([0-9A-Fa-f]{2})+", digits) is None:
+        return problem_line(word, NOT_A_RECORD)
+    return Kept(bytes.fromhex(digits)) if len(digits) <= 2 * RECORD_BYTES else problem_line(word, TOO_MANY_BYTES)
+
+
+def not_read(number, record):
+    return text_of([f"refused {number}", *words_on(number, typed=False), report.record_line(record)])
 
 
 # ---- the sheet
@@ -263,9 +294,11 @@ def usage():
 
 
 def text_or_asked(words):
-    """What is printed for the words where no figure is needed; else what is typed, or a sheet's readings."""
+    """What is printed for the words where no figure is needed; else what is typed, a record, or a sheet's readings."""
     if not words or words[0] in HELP:
         return usage()
+    if len(words) == 1 and words[0].startswith(RECORD):
+        return kept(words[0])
     if words[0] != "sheet":
         return understood(words)
     said = understood(words[1:])
@@ -276,6 +309,7 @@ def printed(cases):
     """What is printed for the words of each case."""
     said = [text_or_asked(words) for words in cases]
     typed = report.reports(Asked(one.readings, True, one.point) for one in said if isinstance(one, Typed))
+    again = iter(report.of_records([one.record for one in said if isinstance(one, Kept)], not_read))
     ruled = sheets([one.readings for one in said if isinstance(one, Sheet)])
     for one in said:
         match one:
@@ -283,6 +317,8 @@ def printed(cases):
                 yield one
             case Typed():
                 yield text_of(one.lines) + next(typed)
+            case Kept():
+                yield next(again)
             case Sheet():
                 yield next(ruled)
 
@@ -499,6 +535,133 @@ def of_sheets():
         yield ["sheet", f"altitude={altitude}", "pressure=1013.25"]
 
 
+# ---- the cases of records that were kept
+AIR = {ALTITUDE: 60.0, TEMPERATURE: 17.6, HUMIDITY: 60.0, MEASURED: 1008.3}
+MAST = {ALTITUDE: 1586.0, TEMPERATURE: 24.0, HUMIDITY: 32.0}
+EVERY = {ALTITUDE: 100.0, TEMPERATURE: 20.0, STATION: 1000.0, QNH: 1000.0, HUMIDITY: 50.0, DENSITY_ALTITUDE: 100.0, MEASURED: 1000.0}
+A_RECORD = RECORD + RECORD_EXAMPLE
+
+
+def kept_word(record):
+    return RECORD + record.hex().upper()
+
+
+def typed_before():
+    """Words whose report prints a record, with what is understood of them: every mistake, and some of the units and of the turns."""
+    for words in [GOOD, PARK, *mistakes(), *[*with_units()][::11], *[*at_turns()][::9]]:
+        if isinstance(typed := understood(words), Typed):
+            yield words, typed
+
+
+def in_forms(readings):
+    """In doubles, in counts, and by turns in both, beginning with either."""
+    counts = report.counts(readings)
+    return [
+        readings,
+        counts,
+        {tag: (readings, counts)[i % 2][tag] for i, tag in enumerate(readings)},
+        {tag: (counts, readings)[i % 2][tag] for i, tag in enumerate(readings)},
+    ]
+
+
+def in_any_order():
+    """The four fields of a record in every order, by turns in each form."""
+    for i, order in enumerate(permutations(AIR)):
+        readings = in_forms(AIR)[i % 4]
+        yield b"".join(report.record_of({tag: readings[tag]}) for tag in order)
+
+
+def readings_of_masts():
+    """Next to the ends of the default bands, minus zeros, too wide; and for each number that readings are refused by, but for 1, 2 and 11."""
+    for celsius in [*report.about(14.9)[:2], *report.about(15.1)[1:], 15000]:
+        yield {**MAST, TEMPERATURE: celsius, MEASURED: 841897}
+    for hpa in [*report.about(1012.75)[1:], *report.about(1013.75)[:2], 1013250]:
+        yield {**MAST, STATION: hpa}
+    for altitude in [1.0, nextafter(1.0, inf)]:
+        yield {ALTITUDE: altitude, TEMPERATURE: 15.0, STATION: 1013.25}
+    yield from [{ALTITUDE: -0.0, TEMPERATURE: -0.0, HUMIDITY: -0.0, MEASURED: 1013.25}, {ALTITUDE: 1e17, TEMPERATURE: 1e5, MEASURED: 1e16}]
+    yield from [{ALTITUDE: 1586}, {DENSITY_ALTITUDE: 2100.0}, {DENSITY_ALTITUDE: 2100000, TEMPERATURE: 75.0, HUMIDITY: 0.32}]
+    # 3 and 4
+    yield from [{**MAST, TEMPERATURE: -273.15}, {**MAST, TEMPERATURE: -273150}, {DENSITY_ALTITUDE: 44284.0}, {DENSITY_ALTITUDE: 44284000}]
+    # 9 and 10
+    for tags in [(STATION, QNH), (ALTITUDE, QNH, MEASURED), (ALTITUDE, DENSITY_ALTITUDE), (DENSITY_ALTITUDE, MEASURED), tuple(EVERY)]:
+        yield {tag: EVERY[tag] for tag in tags}
+    yield from [report.counts(EVERY), {TEMPERATURE: 24000}, {HUMIDITY: -1.0, STATION: 0.0}]
+    # 12 and 13
+    for tag in PRESSURE_SOURCES:
+        yield from [{**MAST, tag: 0}, {**MAST, tag: -5e-324}]
+    yield from [{**MAST, HUMIDITY: 100001}, {**MAST, HUMIDITY: -5e-324}, {DENSITY_ALTITUDE: 2100.0, HUMIDITY: -1}]
+    # 14 and 15
+    yield from [{**MAST, TEMPERATURE: 297.15, MEASURED: 841.9}, {**MAST, TEMPERATURE: 95.0, MEASURED: 500.0, HUMIDITY: 100000}]
+    yield from [{**MAST, TEMPERATURE: 1e300}, {**MAST, MEASURED: 1e308}, {ALTITUDE: 45000000, QNH: 1013250}]
+
+
+def not_finite():
+    """Each reading as a NaN of another pattern than the writer's, and as an infinity: 1, 2 and 11."""
+    for tag in EVERY:
+        beside = {} if tag == DENSITY_ALTITUDE else MAST
+        others = report.record_of({other: x for other, x in beside.items() if other != tag})
+        for pattern in 0xFFF0000000000001, 0x7FF0000000000000 + tag % 2 * 2**63:
+            yield pack(">BHQ", tag, 8, pattern) + others
+
+
+def unread():
+    """Cut, with unknown tags, wrong lengths and readings twice: alone, behind good fields and before another fault; 5 to 8."""
+    good = report.record_of(in_forms(AIR)[2])
+    every = report.record_of(EVERY)
+    assert len(every) == 77
+    yield from [good[:1], good[:2], good[:3], good[:10], good[:-1], good + b"\x00", every[:-1]]
+    for tag in [0x00, 0x08, 0x10, 0x18, 0xFF]:
+        yield good + bytes([tag, 0, 8]) + bytes(8)
+    yield from [b"\x08\x00\x08", b"\x18\x00\x03\x01"]
+    for tag, length in [(0x01, 4), (0x11, 8), (0x11, 0), (0x04, 0x0800), (0x16, 0xFFFF)]:
+        yield good + pack(">BH", tag, length) + bytes(length % 16)
+    for twice in [good + good[:11], good + pack(">BHi", 0x11, 4, 5), pack(">BHi", 0x17, 4, 5) * 2, report.record_of({MEASURED: 5}) + every]:
+        yield from [twice, twice + b"\x08"]
+    # as long as a record may be
+    yield from [bytes(RECORD_BYTES), b"\xab" * RECORD_BYTES, (every * 4)[:RECORD_BYTES], (every + bytes(RECORD_BYTES))[:RECORD_BYTES]]
+    yield b"\xab" * (RECORD_BYTES - 1)
+
+
+def kept_records():
+    """Of masts, in digits of either case and of both."""
+    records = [*map(report.record_of, readings_of_masts()), *in_any_order(), *not_finite(), *unread()]
+    for i, record in enumerate(records):
+        digits = record.hex().upper()
+        yield [RECORD + (digits.lower(), in_both_cases(digits), digits)[i % 3]]
+
+
+def no_records():
+    """Words that are no record's or too long for one, with characters next to the digits, cut when they are shown, and of other names."""
+    yield from ([RECORD + digits] for digits in ["", "1", "110", RECORD_EXAMPLE + "0", "-", "=11", "11=00", "0x11", " 1100", "11,00", "+1", "none"])
+    yield from ([RECORD + RECORD_EXAMPLE[:-1] + character] for character in ["/", ":", "@", "G", "`", "g", " ", "\x7f", "\xff", MINUS])
+    for count in [511, 513, 514, 515, LONGEST - len("park ") - len(RECORD)]:
+        yield [RECORD + "0a" * (count // 2) + "F" * (count % 2)]
+    for digits in ["00" * 256 + "0G", "0" * 56 + "\xe9" * 4, "\xe9" * 300]:
+        yield [RECORD + digits]
+    for start in ["record:", "Record=", "RECORD=", "records=", "recor=", "record =", " record=", "-record=", "record", ""]:
+        yield [start + RECORD_EXAMPLE]
+    yield from [["record"], ["Record"]]
+
+
+def beside_a_record():
+    """A record beside other words, which may not be understood themselves and come first, and after `sheet` and `help`."""
+    for other in ["altitude=1586", "altitude=x", "", "sheet", "help", "record", RECORD, RECORD + "00" * 257]:
+        yield [A_RECORD, other]
+        yield [other, A_RECORD]
+    yield from [[A_RECORD, A_RECORD], [RECORD, "altitude=1586"], ["altitude=1586", RECORD + "zz"], [*GOOD, A_RECORD], [A_RECORD, *GOOD]]
+    yield from [["altitude=1586", "altitude=1586", A_RECORD], ["record", RECORD_EXAMPLE], ["altitude=1586", "record"]]
+    yield from [["sheet", RECORD], ["sheet", "record"], ["sheet", "temperature=24", A_RECORD], ["sheet", *PARK, A_RECORD], ["sheet", A_RECORD, *PARK]]
+    yield from [["sheet", "altitude=x", A_RECORD], ["sheet", A_RECORD, "altitude=x"]]
+
+
+def of_kept_records():
+    yield from ([word] for word in dict.fromkeys(kept_word(report.record_of(typed.readings)) for _, typed in typed_before()))
+    yield from kept_records()
+    yield from no_records()
+    yield from beside_a_record()
+
+
 def cases():
     yield []
     yield GOOD
@@ -539,6 +702,7 @@ def cases():
     yield from with_units()
     yield from at_turns()
     yield from of_sheets()
+    yield from of_kept_records()
 
 
 def arguments():
@@ -546,19 +710,40 @@ def arguments():
     for length in [LONGEST - 1, LONGEST, LONGEST + 1, 2 * LONGEST]:
         yield ["x" * (length - 1)]
         yield ["altitude=1586", "x" * (length - 15)]
+        yield [RECORD + "0" * (length - len(RECORD) - 1)]
     yield ["altitude=1"] * 400
+    for before, after in [("", "\n"), ("\n", ""), ("", "\n00"), ("", f"\n{A_RECORD}"), ("sheet\n", ""), ("altitude=1586\n", "")]:
+        yield [before + A_RECORD + after]
     yield ["altitude=1586\ntemperature=24", "qnh=1019.3"]
     yield ["altitude=1586\n"]
     yield ["\n"]
     yield ["help\nx"]
 
 
+# the note that needs the words as they were typed, and the line that has other words for them
+OF_THE_POINT, TO_DO = "note: the altitude was read as ", "what to do: "
+
+
+def hold_records(said):
+    """A report's record gives the report again, without what only typed words can tell; and each refusal and each line is said twice."""
+    for words, typed in typed_before():
+        first, again = said[tuple(words)].removeprefix(text_of(typed.lines)), said[kept_word(report.record_of(typed.readings)),]
+        lines = [line for line in first.splitlines() if not line.startswith((OF_THE_POINT, TO_DO))]
+        assert lines == [line for line in again.splitlines() if not line.startswith(TO_DO)], words
+    texts = [said[tuple(words)] for words in of_kept_records()]
+    refusals = [f"refused {number}\ncause: {cause}" for number, (cause, _) in report.REFUSALS.items() if number in report.NOT_READ]
+    refusals += [f"{TO_DO}{to_do}\n" for number, (_, to_do) in report.REFUSALS.items() if number != TOO_WIDE]
+    for phrase in [*refusals, NOT_ALONE, NOT_A_RECORD, TOO_MANY_BYTES, f"type {A_RECORD}\n"]:
+        assert sum(phrase in text for text in texts) >= 2, phrase
+
+
 def hold(answers):
-    """Each of TURNS is said for one of its two numbers."""
+    """Each of TURNS is said for one of its two numbers; and what is said of records that were kept."""
     said = dict(zip(map(tuple, cases()), answers))
     for phrase, form, *numbers in TURNS:
         low, high = (phrase in said[tuple(form.format(number).split(" "))] for number in numbers)
         assert low != high, (phrase, form)
+    hold_records(said)
 
 
 def questions():
@@ -566,9 +751,17 @@ def questions():
     return [" ".join(["park", *(word.replace(" ", "\t") for word in words)]) for words in cases()]
 
 
+def records_printed(texts):
+    """The words for each record that a report ends with."""
+    ends = [fullmatch(r"(?s).*\nrecord ([0-9A-F]+)\n", text) for text in texts]
+    return [[RECORD + digits] for digits in dict.fromkeys(end[1] for end in ends if end)]
+
+
 def compare(program):
-    """Each case by the program itself, whose arguments are the words."""
-    differ, all_cases = 0, [*cases(), *arguments()]
+    """Each case by the program itself, whose arguments are the words, and each record that is printed."""
+    first = [*cases(), *arguments()]
+    all_cases = first + records_printed(of_arguments(first))
+    differ = 0
     for words, said in zip(all_cases, of_arguments(all_cases)):
         got = run([program, *(word.encode("latin-1") for word in words)], capture_output=True, check=True).stdout.decode("latin-1")
         if got != said:

@@ -348,11 +348,11 @@ def reports(all_asked):
         yield text_of([*lines, record_line(record_of(asked.readings))])
 
 
-def of_records(records):
-    """The report of each record's readings, or what is said of a record that is not read."""
+def of_records(records, not_read):
+    """The report of each record's readings, or what `not_read` says of the refusal's number and the record where it is not read."""
     answered = list(answers(records))
     texts = reports(Asked(readings_of(record)) for record, answer in zip(records, answered) if answer not in NOT_READ)
-    return [f"refused {answer}\n" if answer in NOT_READ else next(texts) for answer in answered]
+    return [not_read(answer, record) if answer in NOT_READ else next(texts) for record, answer in zip(records, answered)]
 
 
 # ---- the readings of the list

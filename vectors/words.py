@@ -25,6 +25,10 @@ def record_of(text):
     return bytes.fromhex(text.strip("-"))
 
 
+def in_both_cases(digits):
+    return "".join(digit.lower() if i % 2 else digit for i, digit in enumerate(digits))
+
+
 def question(name, *doubles):
     return " ".join([name, *map(pattern, doubles)])
 

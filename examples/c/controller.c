@@ -5,26 +5,6 @@
 #include <inttypes.h>
 #include <stdio.h>
 
-/* the words of docs/RECORD.md */
-static const char *const words[] = {
-    [STATION_AIR_DENSITY_ALTITUDE_NOT_FINITE] = "density altitude not finite",
-    [STATION_AIR_TEMPERATURE_NOT_FINITE] = "temperature not finite",
-    [STATION_AIR_TEMPERATURE_TOO_LOW] = "temperature at or below -273.15 C",
-    [STATION_AIR_NO_AIR] = "no air has this density altitude",
-    [STATION_AIR_CUT] = "header or data cut",
-    [STATION_AIR_UNKNOWN_TAG] = "unknown tag",
-    [STATION_AIR_WRONG_LENGTH] = "length not 8 (double) or 4 (count)",
-    [STATION_AIR_REPEATED_TAG] = "tag repeated, or a reading in both forms",
-    [STATION_AIR_CLASH] = "two pressures, or a density altitude with an altitude or a pressure",
-    [STATION_AIR_NO_ALTITUDE] = "neither altitude nor density altitude",
-    [STATION_AIR_NOT_FINITE] = "altitude, a pressure or humidity not finite",
-    [STATION_AIR_PRESSURE_NOT_POSITIVE] = "a pressure not above 0 hPa",
-    [STATION_AIR_HUMIDITY_OUT_OF_RANGE] = "humidity below 0 or above 100 percent",
-    [STATION_AIR_TOO_MUCH_VAPOR] = "more water vapour than there is air",
-    [STATION_AIR_NOT_AIR] = "a figure not finite, or pressure, density or sound speed not above 0",
-    [STATION_AIR_FIELD_NOT_IN_ALL] = "a reading in one or two of the records",
-};
-
 struct mast {
     uint8_t record[STATION_AIR_RECORD_BYTES_AT_MOST];
     size_t length;
@@ -55,8 +35,10 @@ static void set_trim(const struct mast *a, const struct mast *b, const struct ma
     uint32_t status = station_air_vote(a->record, a->length, b->record, b->length, c->record, c->length, places,
                                        STATION_AIR_VOTE_PLACES, &in_range, &mast);
     if (status != STATION_AIR_FIGURES) {
-        const char *why = status < sizeof words / sizeof *words && words[status] ? words[status] : "a later refusal";
-        printf("class kept: mast %" PRIu32 " refused by %" PRIu32 ", %s\n", mast, status, why);
+        uint8_t words[STATION_AIR_REFUSAL_WORDS_BYTES_AT_MOST];
+        size_t length = 0; /* a number without words leaves it */
+        station_air_refusal_words(status, words, sizeof words, &length);
+        printf("class kept: mast %" PRIu32 " refused by %" PRIu32 "\n%.*s", mast, status, (int)length, (const char *)words);
         return;
     }
     double density = places[STATION_AIR_DENSITY_KG_M3];

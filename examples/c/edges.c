@@ -334,6 +334,69 @@ static void setting_sheet(void) {
            "its first and last row, and the byte after them");
 }
 
+/* whether a page has the text at its start, and bytes that are left after it */
+static bool stands(const uint8_t *page, size_t length, const char *text) {
+    return length == strlen(text) && memcmp(page, text, length) == 0 && page[length] == 0xAA;
+}
+
+static void report(void) {
+    enum { LONGEST = STATION_AIR_REPORT_BYTES_AT_MOST + 2 * 33 };
+    static uint8_t page[LONGEST + 1];
+    size_t length = 5;
+
+    memset(page, 0xAA, sizeof page);
+    expect(station_air_report(NULL, 0, NULL, 0, &length) == STATION_AIR_PAGE_TOO_SHORT, "report, both at NULL");
+    expect(station_air_report(measured, 33, page, LONGEST - 1, &length) == STATION_AIR_PAGE_TOO_SHORT,
+           "report, a byte too few");
+    expect(station_air_report(unknown_tag, 1, page, STATION_AIR_REPORT_BYTES_AT_MOST + 1, &length)
+               == STATION_AIR_PAGE_TOO_SHORT,
+           "report, a byte too few for a record of one");
+    expect(length == 5 && page[0] == 0xAA, "page and length are left as they were");
+    expect(station_air_report(NULL, 0, page, STATION_AIR_REPORT_BYTES_AT_MOST, &length) == STATION_AIR_FIGURES
+               && stands(page, length,
+                         "refused 10\ncause: neither altitude nor density altitude\n"
+                         "what to do: set the mast's altitude\nrecord \n"),
+           "the report of an empty record at NULL");
+    memset(page, 0xAA, sizeof page);
+    expect(station_air_report(unknown_tag, 3, page, sizeof page, &length) == STATION_AIR_FIGURES
+               && stands(page, length,
+                         "refused 6\ncause: unknown tag\n"
+                         "what to do: the sender speaks a newer form, or the bytes have slipped\nrecord 080008\n"),
+           "the report of an unreadable record");
+    memset(page, 0xAA, sizeof page);
+    expect(station_air_report(measured, 33, page, LONGEST, &length) == STATION_AIR_FIGURES
+               && memcmp(page, "altitude                             0.0 m\n", 43) == 0
+               && memcmp(page + length - 67, "010008", 6) == 0 && page[length - 1] == '\n' && page[length] == 0xAA,
+           "the report of an accepted record");
+}
+
+static void refusal_words(void) {
+    uint8_t page[STATION_AIR_REFUSAL_WORDS_BYTES_AT_MOST + 1];
+    size_t length = 5;
+
+    memset(page, 0xAA, sizeof page);
+    expect(station_air_refusal_words(1, NULL, 0, &length) == STATION_AIR_PAGE_TOO_SHORT, "words, no page at NULL");
+    expect(station_air_refusal_words(0, page, STATION_AIR_REFUSAL_WORDS_BYTES_AT_MOST - 1, &length)
+               == STATION_AIR_PAGE_TOO_SHORT,
+           "words, a byte too few, whatever the number");
+    const uint32_t without[] = {0, 16, 18, 19, 20, 21, 22, 23, 253, 254, 255, 257, 273, UINT32_MAX};
+    for (size_t i = 0; i < sizeof without / sizeof *without; i++) {
+        expect(station_air_refusal_words(without[i], page, sizeof page, &length) == STATION_AIR_NO_WORDS,
+               "a number without words");
+    }
+    expect(length == 5 && page[0] == 0xAA, "page and length are left as they were");
+    expect(station_air_refusal_words(STATION_AIR_NO_ALTITUDE, page, STATION_AIR_REFUSAL_WORDS_BYTES_AT_MOST, &length)
+                   == STATION_AIR_FIGURES
+               && stands(page, length, "cause: neither altitude nor density altitude\nwhat to do: set the mast's altitude\n"),
+           "the words of 10");
+    for (uint32_t n = 1; n <= 17; n++) {
+        memset(page, 0xAA, sizeof page);
+        expect(n == 16 || (station_air_refusal_words(n, page, sizeof page, &length) == STATION_AIR_FIGURES
+                           && memcmp(page, "cause: ", 7) == 0 && page[length - 1] == '\n' && page[length] == 0xAA),
+               "the words of 1 to 15 and 17");
+    }
+}
+
 static void others(void) {
     double places[ROOM];
 
@@ -386,6 +449,8 @@ int main(void) {
     vote();
     next_trim_class();
     setting_sheet();
+    report();
+    refusal_words();
     others();
     return failures == 0 ? 0 : 1;
 }

@@ -31,6 +31,7 @@ pub mod atmosphere;
 mod judge;
 mod record;
 mod refusal;
+mod report;
 pub mod rules;
 mod sheet;
 mod sys;
@@ -43,6 +44,7 @@ pub use record::{
     load_record, read, read_strictly, to_counts, to_doubles, write, Reading, Readings,
 };
 pub use refusal::Refusal;
+pub use report::report;
 pub use sheet::setting_sheet;
 
 /// The version of the library that is linked, `STATION_AIR_VERSION` of its header: the first number of this crate's.

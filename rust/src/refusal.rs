@@ -1,5 +1,6 @@
 //! Why there are no figures, or no record, sheet or class.
 
+use crate::report;
 use std::fmt;
 
 /// Why there is no answer: the cause, with the values that it hands out. The first check that fails decides, in the
@@ -122,6 +123,19 @@ impl Refusal {
             Self::NoReadingToChange => 22,
             Self::Other(number) => number,
         }
+    }
+
+    /// The cause and what to do, a line each, as [`report`](crate::report) has them; none of causes that a record or a
+    /// setting sheet cannot have.
+    ///
+    /// ```
+    /// assert_eq!(
+    ///     station_air::Refusal::NoAltitude.words().unwrap(),
+    ///     "cause: neither altitude nor density altitude\nwhat to do: set the mast's altitude\n"
+    /// );
+    /// ```
+    pub fn words(&self) -> Option<String> {
+        report::words(self.number())
     }
 
     /// The values that the cause hands out, at most two.

@@ -75,6 +75,19 @@ extern "C" {
         places: *mut f64,
         places_length: usize,
     ) -> u32;
+    pub fn station_air_report(
+        record: *const u8,
+        record_length: usize,
+        page: *mut u8,
+        page_length: usize,
+        length: *mut usize,
+    ) -> u32;
+    pub fn station_air_refusal_words(
+        number: u32,
+        page: *mut u8,
+        page_length: usize,
+        length: *mut usize,
+    ) -> u32;
     pub fn station_air_for_density_altitude(
         density_altitude_m: f64,
         temperature_given: bool,

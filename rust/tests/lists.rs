@@ -225,6 +225,16 @@ fn pair((a, b): (f64, f64)) -> String {
     values(&[a, b])
 }
 
+/// A report as `ask` answers it, which says of an unreadable record no more than that.
+fn reported(record: &[u8]) -> String {
+    let report = report(record);
+    let first = report.lines().next().unwrap();
+    match first {
+        "refused 5" | "refused 6" | "refused 7" | "refused 8" => first.into(),
+        _ => report.trim_end_matches('\n').into(),
+    }
+}
+
 /// What the crate answers to a question; none where it has no such function.
 fn answer(question: &str) -> Option<String> {
     let words: Vec<&str> = question.split(' ').collect();
@@ -243,6 +253,7 @@ fn answer(question: &str) -> Option<String> {
         "sheet" => setting_sheet(x(0), x(1), x(2))
             .map_or_else(refused, |page| page.trim_end_matches('\n').into()),
         "load" => hex(&load_record(words[0].parse().unwrap())),
+        "report" => reported(&bytes(words[0])),
         "power" => value(
             words[0]
                 .parse()
@@ -321,11 +332,11 @@ fn all_asked(asked: HashMap<String, usize>, names: &[&str]) {
     assert_eq!(asked.len(), names.len());
 }
 
-/// Reports come after all that the crate answers.
+/// The questions of `park` come after all that the crate answers.
 #[test]
 fn records() {
     all_asked(
-        held("ask", "report"),
+        held("ask", "park"),
         &[
             "judge",
             "judge-values",
@@ -338,6 +349,7 @@ fn records() {
             "doubles",
             "sheet",
             "load",
+            "report",
         ],
     );
 }

@@ -1,4 +1,5 @@
-//! Holds what a refusal displays to the table of docs/RECORD.md, and the crate's version to the header's and the library's.
+//! Holds what a refusal displays to the table of docs/RECORD.md and to the library's words, and the crate's version to the
+//! header's and the library's.
 
 use station_air::{judge, setting_sheet, to_counts, version, vote, Refusal};
 use std::collections::HashMap;
@@ -10,7 +11,8 @@ fn file(name: &str) -> String {
 
 #[test]
 fn causes() {
-    let table = file("docs/RECORD.md");
+    let page = file("docs/RECORD.md");
+    let (_, table) = page.split_once("## Refusals").unwrap();
     let rows = table.lines().filter_map(|line| {
         let cells: Vec<&str> = line.split('|').map(str::trim).collect();
         Some((cells.get(1)?.parse::<u32>().ok()?, *cells.get(2)?))
@@ -43,6 +45,14 @@ fn causes() {
     ];
     for refusal in all {
         assert_eq!(refusal.to_string(), causes[&refusal.number()]);
+        // the table says of some whose refusals they are
+        let cause = refusal.to_string().replace("setting sheet: ", "");
+        let words = refusal.words();
+        let line = words.as_ref().map(|words| words.lines().next().unwrap());
+        match refusal.number() {
+            1..=17 => assert_eq!(line, Some(&*format!("cause: {cause}"))),
+            _ => assert_eq!(line, None),
+        }
     }
     // 16 and 18 are about lent memory
     assert_eq!(causes.len(), all.len() + 2);

@@ -13,6 +13,7 @@ mod Nearly
 mod Entries
 mod Excluded
 pub mod Near
+pub mod Bracket
 pub mod NearestWhole
 pub mod RootDigits
 pub mod NearestRoot

@@ -5,7 +5,7 @@ use native.Mathlib.Numerals.{sub-one}
 use lib.Arith.{digits-mod}
 use Rattle.arithmetic.specs.declared.word.Word.{Word}
 use Rattle.arithmetic.specs.Whole.{asWord}
-use Rattle.antilog.specs.Log.{mantissaOf, logBits, wordOfUnits}
+use Rattle.antilog.specs.Log.{mantissaOf, wordWith}
 use Rattle.arithmetic.proofs.Pattern.{size-is}
 use Rattle.arithmetic.proofs.Size.{size-shifted}
 use Rattle.arithmetic.proofs.Differences.{minus-above, minus-below, minus-plus, minus-times}
@@ -71,17 +71,16 @@ module _ (q j k : ℕ) (low : 2 ^ j ≤ q) (high : q < 2 ^ suc j) where
       ∙ mul-div-cancel (q * 2 ^ (62 - j)) (pow-pos j)
 
   -- the word's digits, at 1 and above and below 1
-  module _ (p bits : ℕ) (bits-lt : bits < 2 ^ p) (bits-is : logBits p (mantissaOf (q * 2 ^ k)) ≡ bits) where
-    word-is : wordOfUnits p (q * 2 ^ k) ≡ minus (j + k) 1074 *ℤ pos (2 ^ p) +ℤ pos bits
-    unfolding wordOfUnits
-    word-is = ap₂ (λ (s b : ℕ). minus s 1074 *ℤ pos (2 ^ p) +ℤ pos b) highest bits-is
+  module _ (p bits : ℕ) (bits-lt : bits < 2 ^ p) where
+    word-is : wordWith p (q * 2 ^ k) bits ≡ minus (j + k) 1074 *ℤ pos (2 ^ p) +ℤ pos bits
+    word-is = ap (λ (s : ℕ). minus s 1074 *ℤ pos (2 ^ p) +ℤ pos bits) highest
 
-    pub units-above : 1074 ≤ j + k → _≡_ {A = Word} (record { negative = false; whole = j + k - 1074; part = bits }) (asWord p (wordOfUnits p (q * 2 ^ k)))
+    pub units-above : 1074 ≤ j + k → _≡_ {A = Word} (record { negative = false; whole = j + k - 1074; part = bits }) (asWord p (wordWith p (q * 2 ^ k) bits))
     units-above h =
         (λ i. record { negative = false; whole = sym (digits-div (j + k - 1074) bits-lt) i; part = sym (digits-mod (j + k - 1074) bits-lt) i })
         ∙ ap (asWord p) (sym (word-is ∙ word-above p (j + k) bits h))
 
-    pub units-below : j + k < 1074 → _≡_ {A = Word} (record { negative = true; whole = 1073 - (j + k); part = 2 ^ p - suc bits }) (asWord p (wordOfUnits p (q * 2 ^ k)))
+    pub units-below : j + k < 1074 → _≡_ {A = Word} (record { negative = true; whole = 1073 - (j + k); part = 2 ^ p - suc bits }) (asWord p (wordWith p (q * 2 ^ k) bits))
     units-below h =
         let rest-lt : 2 ^ p - suc bits < 2 ^ p = omega arith in
         (λ i. record { negative = true; whole = sym (digits-div (1073 - (j + k)) rest-lt) i; part = sym (digits-mod (1073 - (j + k)) rest-lt) i })

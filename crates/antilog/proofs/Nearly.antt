@@ -1,7 +1,6 @@
--- A number that is nearly 2^63 times 2 to the power x / 2 ^ p: it stays so when it is multiplied by what is nearly 2 to the power y / 2 ^ p, and errors add. Assumes
--- nothing.
-use Rattle.arithmetic.proofs.Kit.{_≡_, refl, sym, ap, _∙_, subst, ℕ, zero, suc, _+_, _*_, _/_, _^_, _≤_, _<_, le-trans, le-of-eq, lt-of-le-of-lt, lt-suc-self, zero-mul, suc-mul, add-mul, mul-add, mul-assoc, mul-comm, mul-le-mul-right, div-mul-le-self, div-lt-iff-lt-mul, arith, pow-pos, pow-lt}
-use Rattle.arithmetic.proofs.Powers.{pow-power, lt-of-powers}
+-- A number that is at most, or at least, 2 to the power x / 2 ^ p, in units of 2 ^ -s: products, more places, multiples and half the units. Assumes nothing.
+use Rattle.arithmetic.proofs.Kit.{_≡_, refl, sym, ap, _∙_, subst, ℕ, zero, suc, _+_, _*_, _^_, _≤_, _<_, le-trans, le-of-eq, lt-of-le-of-lt, lt-of-lt-of-le, zero-mul, suc-mul, add-mul, mul-add, mul-assoc, mul-comm, mul-le-mul-right, arith, lit<, pow-pos, pow-add, pow-lt}
+use Rattle.arithmetic.proofs.Powers.{pow-power, pow-scaled, lt-of-powers, two-each-le-next}
 use Rattle.arithmetic.proofs.Compared.{at-most, turned, product-compares, more-places}
 
 -- A / 2 ^ s is at most 2 to the power x / 2 ^ p
@@ -26,11 +25,11 @@ module _ (p : ℕ) where
   unfolding AtLeast
   one-at-least s e = le-of-eq (sym (one s e))
 
-  times-at-most : (s t x y A B C : ℕ) → 0 < B → C * 2 ^ t ≤ A * B → AtMost s p x A → AtMost t p y B → AtMost s p (x + y) C
+  pub times-at-most : (s t x y A B C : ℕ) → 0 < B → C * 2 ^ t ≤ A * B → AtMost s p x A → AtMost t p y B → AtMost s p (x + y) C
   unfolding AtMost
   times-at-most s t x y A B C positive made = product-compares at-most (2 ^ p) t (s * 2 ^ p + x) (t * 2 ^ p + y) (s * 2 ^ p + (x + y)) A B C (pow-pos p) positive (omega arith) made
 
-  times-at-least : (s t x y A B C : ℕ) → 0 < B → A * B ≤ C * 2 ^ t → AtLeast s p x A → AtLeast t p y B → AtLeast s p (x + y) C
+  pub times-at-least : (s t x y A B C : ℕ) → 0 < B → A * B ≤ C * 2 ^ t → AtLeast s p x A → AtLeast t p y B → AtLeast s p (x + y) C
   unfolding AtLeast
   times-at-least s t x y A B C positive made =
       product-compares (turned at-most) (2 ^ p) t (s * 2 ^ p + x) (t * 2 ^ p + y) (s * 2 ^ p + (x + y)) A B C (pow-pos p) positive (omega arith) made
@@ -67,14 +66,18 @@ module _ (s p X : ℕ) where
       subst (λ (k : ℕ). AtLeast s p k (U + suc r * E)) next
       (times-at-least p s s r 1 (U + r * E) (U + X) (U + suc r * E) (omega (arith, pow-pos s)) grown (multiples-at-least n d small once r (omega arith)) once)
 
--- ---- A is never too great, and at most e too small
+-- ---- with half the units
 
-pub record Within (e p x A : ℕ) : Type 0 where
-  pub low : AtMost 63 p x A
-  pub high : AtLeast 63 p x (A + e)
+module _ (p x A C : ℕ) where
+  pub half-at-most : C * 2 ^ 1 ≤ A * 1 → AtMost 64 p x A → AtMost 63 p x C
+  unfolding AtMost
+  half-at-most made h = product-compares at-most (2 ^ p) 1 (64 * 2 ^ p + x) (0 * 2 ^ p + 0) (63 * 2 ^ p + x) A 1 C (pow-pos p) (lit< tt) (omega arith) made h (le-of-eq (one p 0 refl))
 
-pub at-first : (p : ℕ) → Within 0 p 0 (2 ^ 63)
-at-first p = record { low = one-at-most p 63 refl; high = one-at-least p 63 refl }
+  pub half-at-least : A * 1 ≤ C * 2 ^ 1 → AtLeast 64 p x A → AtLeast 63 p x C
+  unfolding AtLeast
+  half-at-least made h = product-compares (turned at-most) (2 ^ p) 1 (64 * 2 ^ p + x) (0 * 2 ^ p + 0) (63 * 2 ^ p + x) A 1 C (pow-pos p) (lit< tt) (omega arith) made h (le-of-eq (sym (one p 0 refl)))
+
+-- ---- what a power below 2 comes to
 
 pub below-64 : (p x A : ℕ) → x < 2 ^ p → AtMost 63 p x A → A < 2 ^ 64
 unfolding AtMost
@@ -83,15 +86,18 @@ below-64 p x A few h =
     let less : 63 * k + x < 64 * k = omega arith in
     lt-of-powers A (2 ^ 64) k (lt-of-le-of-lt h (subst (λ (n : ℕ). 2 ^ (63 * k + x) < n) (sym (pow-power 2 64 k)) (pow-lt less)))
 
--- times B, which is at most d too small: of the units that it is then too small, one is what the division cuts off
-pub times : (s p x y A B d e u : ℕ) → 0 < B → A * d + e * (B + d) ≤ u * 2 ^ s → Within e p x A → AtMost s p y B → AtLeast s p y (B + d) → Within (suc u) p (x + y) (A * B / 2 ^ s)
-times s p x y A B d e u positive small within least most =
-    let W : ℕ = 2 ^ s in
-    let C : ℕ = A * B / W in
-    let cut : A * B < suc C * W = div-lt-iff-lt-mul (pow-pos s) .0 (lt-suc-self C) in
-    let all : (A + e) * (B + d) ≤ (C + suc u) * W =
-    rw (add-mul A e (B + d), mul-add A B d) (omega (arith, suc-mul C W, add-mul C (suc u) W, suc-mul u W)) in
-    record {
-      low = times-at-most p 63 s x y A B C positive (div-mul-le-self (A * B) W) (within .low) least;
-      high = times-at-least p 63 s x y (A + e) (B + d) (C + suc u) (omega arith) all (within .high) most;
-    }
+-- 2 to the power x / 2 ^ (i + j) is at most 1 + 2 ^ -i where x is at most 2 ^ j: in units of 2^-(64 + i) the excess fits a word
+pub excess-fits : (i j x X : ℕ) → x < 2 ^ j → AtMost (64 + i) (i + j) x (2 ^ (64 + i) + X) → X < 2 ^ 64
+unfolding AtMost
+excess-fits i j x X few h =
+    let k : ℕ = 2 ^ (i + j) in
+    let n : ℕ = 2 ^ i in
+    let D : ℕ = 2 ^ j in
+    let all : n * D ≡ k = sym (pow-add 2 i j) in
+    let two : n ^ k * 2 ^ D ≤ suc n ^ k = subst (λ (m : ℕ). n ^ m * 2 ^ D ≤ suc n ^ m) all (two-each-le-next n D (pow-pos i)) in
+    let split : 2 ^ ((64 + i) * k + D) ≡ n ^ k * 2 ^ D * 2 ^ (64 * k) =
+    ap (λ (m : ℕ). 2 ^ m) (omega (arith, add-mul 64 i k)) ∙ pow-add 2 (i * k + D) (64 * k) ∙ ap (λ (m : ℕ). m * 2 ^ (64 * k)) (pow-add 2 (i * k) D ∙ ap (λ (m : ℕ). m * 2 ^ D) (sym (pow-power 2 i k))) in
+    let less : 2 ^ ((64 + i) * k + x) < 2 ^ ((64 + i) * k + D) = pow-lt (omega arith) in
+    let most : 2 ^ ((64 + i) * k + D) ≤ (suc n * 2 ^ 64) ^ k = rw split (le-trans (mul-le-mul-right (2 ^ (64 * k)) two) (le-of-eq (sym (pow-scaled (suc n) 64 k)))) in
+    let word : 2 ^ (64 + i) + X < suc n * 2 ^ 64 = lt-of-powers (2 ^ (64 + i) + X) (suc n * 2 ^ 64) k (lt-of-le-of-lt h (lt-of-lt-of-le less most)) in
+    omega (arith, pow-add 2 64 i, mul-comm (2 ^ 64) n, suc-mul n (2 ^ 64))

@@ -1,6 +1,6 @@
 -- Where the estimate puts the antilog's root, and that a number between two that round to one double rounds to it too. Assumes nothing.
-use Rattle.arithmetic.proofs.Kit.{_≡_, refl, sym, ap, _∙_, subst, subst₂, Bool, true, false, cond, ℕ, _+_, _*_, _/_, _%_, _^_, _≤_, _<_, le-trans, le-of-eq, lt-of-le-of-lt, mul-le-mul-right, mul-lt-mul-of-pos-right, mod-eq-of-lt, mul-one, arith, ℤ, pos, negsuc, _-ℤ_, T, Float, pow-pos, pow-add, binary64, up, down, fits, le, round-fits}
-use Rattle.antilog.specs.Estimate.{estimate}
+use Rattle.arithmetic.proofs.Kit.{_≡_, refl, sym, ap, _∙_, subst, subst₂, Bool, true, false, cond, ℕ, _+_, _*_, _/_, _%_, _^_, _≤_, _<_, le-trans, le-of-eq, lt-of-le-of-lt, le-add-right, mul-le-mul-right, mul-lt-mul-of-pos-right, mod-eq-of-lt, mul-one, arith, ℤ, pos, negsuc, _-ℤ_, T, Float, pow-pos, pow-add, binary64, up, down, fits, le, round-fits}
+use Rattle.antilog.specs.Estimate.{estimate, moved}
 use Rattle.antilog.proofs.Near.{estimate-near, Estimates}
 use Rattle.arithmetic.proofs.Powers.{pow-scaled, lt-of-powers, le-of-powers}
 use Rattle.arithmetic.specs.Nearest.{nearestScaled}
@@ -10,6 +10,8 @@ use Rattle.arithmetic.proofs.Compared.{at-most, below, turned, more-places}
 use Rattle.arithmetic.proofs.Order.{unsigned, antisymmetric, le-trans-double}
 use Rattle.arithmetic.proofs.Rounding.{round-unsigned, scaled-mono}
 use Rattle.antilog.proofs.Distance.{antilogRoot-below, antilogRoot-above}
+use Rattle.antilog.proofs.Monotone.{antilogRoot-mono}
+use Rattle.antilog.proofs.Bracket.{moved-at-least}
 use Rattle.antilog.proofs.Nearly.{AtMost, AtLeast}
 
 -- ---- the root by the estimate
@@ -30,16 +32,16 @@ module _ (p f Y A : ℕ) where
       lt-of-powers A ((Y + 4) * 2 ^ 1) (2 ^ p)
       (lt-of-le-of-lt (le-trans low (le-of-eq (sym (one-scale-up p f)))) (subst (λ (n : ℕ). 2 ^ (62 * 2 ^ p + f) * 2 ^ (1 * 2 ^ p) < n) (sym (twice p (Y + 4))) (mul-lt-mul-of-pos-right near (pow-pos (1 * 2 ^ p)))))
 
-  not-far-below : Y ^ 2 ^ p ≤ 2 ^ (62 * 2 ^ p + f) → AtLeast 63 p f (A + 19) → Y * 2 ^ 1 ≤ A + 19
+  not-far-below : Y ^ 2 ^ p ≤ 2 ^ (62 * 2 ^ p + f) → AtLeast 63 p f A → Y * 2 ^ 1 ≤ A
   unfolding AtLeast
   not-far-below near high =
-      le-of-powers (Y * 2 ^ 1) (A + 19) (2 ^ p) (pow-pos p)
+      le-of-powers (Y * 2 ^ 1) A (2 ^ p) (pow-pos p)
       (le-trans (le-of-eq (twice p Y)) (le-trans (mul-le-mul-right (2 ^ (1 * 2 ^ p)) near) (le-trans (le-of-eq (one-scale-up p f)) high)))
 
--- half the estimate is at most 3 above the root, and at most 10 below it
+-- half the estimate is at most 3 above the root, and at most 2 below it
 pub record Window (half Y : ℕ) : Type 0 where
   pub low : half ≤ Y + 3
-  pub high : Y ≤ half + 10
+  pub high : Y ≤ half + 2
 
 -- of the estimate for f as a number of 60 places, of which it has p
 pub window : (p q f A : ℕ) → p + q ≡ 60 → f < 2 ^ p → A ≡ estimate (f * 2 ^ q % 2 ^ 60) → Window (A / 2) (antilogRoot p f)
@@ -53,12 +55,23 @@ window p q f A all short made =
     let under : Y ^ 2 ^ 60 ≤ 2 ^ (62 * 2 ^ 60 + g) =
     subst (λ (n : ℕ). Y ^ 2 ^ n ≤ 2 ^ (62 * 2 ^ n + g)) all (more-places at-most 62 p q f Y (antilogRoot-below p f short)) in
     let above : A < (Y + 4) * 2 ^ 1 = not-far-above 60 g Y A over (is .neverTooGreat) in
-    let not-above : Y * 2 ^ 1 ≤ A + 19 = not-far-below 60 g Y A under (is .atMostNineteenTooSmall) in
+    let not-above : Y * 2 ^ 1 ≤ A + 3 = not-far-below 60 g Y (A + 3) under (is .atMostThreeTooSmall) in
     record { low = omega arith; high = omega arith }
 
 -- of all places
 pub of-all : (f A : ℕ) → f < 2 ^ places → A ≡ estimate (f % 2 ^ 60) → Window (A / 2) (antilogRoot places f)
 of-all f A short made = window 60 0 f A refl short (made ∙ ap (λ (n : ℕ). estimate (n % 2 ^ 60)) (sym (mul-one f)))
+
+-- the roots for f to n more: half the estimate for f is at most 3 above them, and half of it moved by n at most 3 below them
+pub among : (f n i A : ℕ) → f + n < 2 ^ places → n < 2 ^ 28 → i ≤ n → A ≡ estimate (f % 2 ^ 60) → (A / 2 ≤ antilogRoot places (f + i) + 3) × (antilogRoot places (f + i) ≤ moved A n / 2 + 3)
+among f n i A short few some made =
+    let fits : f < 2 ^ 60 = omega arith in
+    let is : Estimates f A = subst (λ (m : ℕ). Estimates f m) (sym (made ∙ ap estimate (mod-eq-of-lt fits))) (estimate-near f fits) in
+    let first : antilogRoot places f ≤ antilogRoot places (f + i) = antilogRoot-mono places (le-add-right f i) in
+    let last : antilogRoot places (f + i) ≤ antilogRoot places (f + n) = antilogRoot-mono places (omega arith) in
+    let above : antilogRoot places (f + n) * 2 ^ 1 ≤ moved A n + 5 =
+    not-far-below 60 (f + n) (antilogRoot places (f + n)) (moved A n + 5) (antilogRoot-below 60 (f + n) short) (moved-at-least f n A few is fits) in
+    (omega (arith, of-all f A fits made .low), omega arith)
 
 -- ---- a number between two that round alike
 

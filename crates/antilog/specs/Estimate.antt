@@ -32,17 +32,27 @@ lastExcess = excessOf (rootOfTwo 60) 96 1
 
 -- ---- the estimate
 
--- a times 1 and an excess in units of 2^-(64 + k), cut to a whole number
-abbrev pub multiplied : (a excess k : ℕ) → ℕ
-multiplied a excess k = a * (2 ^ (64 + k) + excess) / 2 ^ (64 + k)
+-- the entry of digit j of f, which has fifteen of four bits, highest first
+abbrev pub entryOf : (j f : ℕ) → ℕ
+entryOf j f = getD excessTable (16 * j + f / 2 ^ (56 - 4 * j) % 16) 0
 
--- 2^63 times 2 to the power of the first j digits of f, which has fifteen of four bits: each multiplies it by its entry of the table
-unfoldable pub byDigits : ℕ → ℕ → ℕ
-unfolding excessTable
-byDigits zero f = 2 ^ 63
-byDigits (suc j) f = multiplied (byDigits j f) (getD excessTable (16 * j + f / 2 ^ (56 - 4 * j) % 16) 0) (4 * j)
+-- two excesses, x in units of 2^-(64 + k) and y in units a sixteenth of these, joined to that of the product, nearly
+abbrev pub joined : (x y k : ℕ) → ℕ
+joined x y k = x + y / 16 + x * y / 2 ^ (68 + k)
 
--- 2^63 times 2 to the power f / 2^60: eight digits, and the bits that are left
+-- what 2 to the power of f's last bits, from digit j on, exceeds 1 by, in units of 2^-(64 + 4 j): n digits, and the bits that are left. The last
+-- are joined first, so that what each join cuts off is cut by the next.
+unfoldable pub excessFrom : (n j f : ℕ) → ℕ
+unfolding excessTable lastExcess
+excessFrom zero j f = f % 2 ^ 28 * lastExcess
+excessFrom (suc n) j f = joined (entryOf j f) (excessFrom n (suc j) f) (4 * j)
+
+-- 2^63 times 2 to the power f / 2^60
 unfoldable pub estimate : ℕ → ℕ
-unfolding byDigits lastExcess
-estimate f = multiplied (byDigits 8 f) (f % 2 ^ 28 * lastExcess) 32
+unfolding excessFrom
+estimate f = 2 ^ 63 + excessFrom 8 0 f / 2
+
+-- a times 2 to the power n / 2^60, nearly, for an n of 28 bits
+unfoldable pub moved : (a n : ℕ) → ℕ
+unfolding lastExcess
+moved a n = a + a * (n * lastExcess) / 2 ^ 96

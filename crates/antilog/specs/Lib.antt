@@ -2,4 +2,5 @@
 pub mod Log
 pub mod Antilog
 pub mod Estimate
+pub mod Among
 pub mod Sqrt

@@ -34,10 +34,14 @@ exponentOf n = minus (size n - 1) 1074
 abbrev pub mantissaOf : ℕ → ℕ
 mantissaOf n = n * 2 ^ 62 / 2 ^ (size n - 1)
 
--- L = e * 2^places plus the bits
+-- e * 2^places plus bits
+abbrev pub wordWith : (places n bits : ℕ) → ℤ
+wordWith places n bits = exponentOf n *ℤ pos (2 ^ places) +ℤ pos bits
+
+-- L, with the bits of its mantissa
 unfoldable pub wordOfUnits : ℕ → ℕ → ℤ
 unfolding logBits size
-wordOfUnits places n = exponentOf n *ℤ pos (2 ^ places) +ℤ pos (logBits places (mantissaOf n))
+wordOfUnits places n = wordWith places n (logBits places (mantissaOf n))
 
 abbrev pub logWord : ℕ → Float → ℤ
 logWord places x = wordOfUnits places (unitsOf x)

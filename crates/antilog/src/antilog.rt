@@ -6,8 +6,10 @@ ghost use lib.IntN.{pos, negsuc, _-ℤ_};
 ghost use Rattle.arithmetic.specs.Whole.{wordValue};
 ghost use Rattle.arithmetic.specs.Nearest.{nearestScaled};
 ghost use Rattle.antilog.specs.Antilog.{antilogRoot, laterRoots, antilog};
+ghost use Rattle.antilog.specs.Among.{AntilogAmong, ScaledAmong};
 ghost use Rattle.arithmetic.specs.Places.{places};
 use crate::estimate::estimate;
+use crate::estimate::moved;
 use arithmetic::nearest::nearest_product;
 use arithmetic::nearest::nearest_quotient;
 use arithmetic::wide::Wide;
@@ -76,7 +78,7 @@ fn scaled_by_roots(f: u64, negative: bool, whole: u64) -> f64
     let early = estimate(f % 0x40_0000_0000_0000 * 64) / 2;
     let last = f / 0x40_0000_0000_0000;
     let least = later_roots(early - 3, 54, last, &roots, &reciprocals);
-    let most = later_roots(early + 10, 54, last, &roots, &reciprocals);
+    let most = later_roots(early + 2, 54, last, &roots, &reciprocals);
     let low = scaled(least, negative, whole);
     if scaled(most, negative, whole) <= low {
         return low;
@@ -85,7 +87,7 @@ fn scaled_by_roots(f: u64, negative: bool, whole: u64) -> f64
     scaled(y, negative, whole)
 }
 
-// The same of the root for f. Half its estimate is at most 3 above it and at most 10 below it, and of
+// The same of the root for f. Half its estimate is at most 3 above it and at most 2 below it, and of
 // these bits the double keeps all but ten: where both ends round alike, as they mostly do, so does the
 // root, and only else are roots taken.
 fn scaled_root(f: u64, negative: bool, whole: u64) -> f64
@@ -94,7 +96,7 @@ fn scaled_root(f: u64, negative: bool, whole: u64) -> f64
 {
     let half = estimate(f) / 2;
     let low = scaled(half - 3, negative, whole);
-    let high = scaled(half + 10, negative, whole);
+    let high = scaled(half + 2, negative, whole);
     if high <= low {
         return low;
     }
@@ -111,4 +113,49 @@ pub fn antilog(w: Word) -> f64
         return scaled_root(ONES - part, true, whole);
     }
     scaled_root(part, false, whole)
+}
+
+// The antilog of several words, where it is known to be one double.
+pub struct Among {
+    pub known: bool,
+    pub value: f64,
+}
+
+// Of the roots for f to n more, scaled likewise: the estimate for f and, moved by n, that for f + n
+// enclose them all.
+fn scaled_among(f: u64, n: u64, negative: bool, whole: u64) -> Among
+    requires { ⌜ (f < 2 ^ places) × (whole < 2 ^ 62) ⌝ }
+    ensures { λ r. ⌜ ScaledAmong f n (cond negative (negsuc whole) (pos whole) -ℤ pos 62) r ⌝ }
+{
+    if n >= 0x1000_0000 {
+        return Among {
+            known: false,
+            value: 0.0,
+        };
+    }
+    if f + n >= WHOLE {
+        return Among {
+            known: false,
+            value: 0.0,
+        };
+    }
+    let a = estimate(f);
+    let low = scaled(a / 2 - 3, negative, whole);
+    let high = scaled(moved(a, n) / 2 + 3, negative, whole);
+    Among {
+        known: high <= low,
+        value: low,
+    }
+}
+
+// 2 to the power w, and of each word to n more.
+pub fn antilog_among(w: Word, n: u64) -> Among
+    ensures { λ r. ⌜ AntilogAmong (wordValue places w) n r ⌝ }
+{
+    let whole = w.whole as u64 + w.part / WHOLE;
+    let part = w.part % WHOLE;
+    if w.negative {
+        return scaled_among(ONES - part, n, true, whole);
+    }
+    scaled_among(part, n, false, whole)
 }

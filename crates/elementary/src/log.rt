@@ -3,7 +3,7 @@
 ghost use mathlib.Core.Path.{_≡_};
 ghost use Prim.Native.Nat.{_+_, _*_, _/_, _^_, _≤_, _<_};
 ghost use Rattle.arithmetic.specs.Whole.{asWord};
-ghost use Rattle.antilog.specs.Log.{logBits, wordOfUnits, logarithm};
+ghost use Rattle.antilog.specs.Log.{logBits, wordWith, wordOfUnits, logarithm};
 ghost use Rattle.arithmetic.specs.Parts.{Digits};
 ghost use Rattle.arithmetic.specs.Places.{places};
 use arithmetic::double::Parts;
@@ -43,14 +43,12 @@ fn log_bits(m: u64) -> u64
     bits
 }
 
-// The log word of q * 2^k units of 2^-1074.
-pub(crate) fn log_of_digits(q: u64, k: u32) -> Word
-    requires { ⌜ Digits q k ⌝ }
-    ensures { λ r. ⌜ (r ≡ asWord places (wordOfUnits places (q * 2 ^ k))) × (r .whole < 2 ^ 11) ⌝ }
+// The word of a number of q * 2^k units of 2^-1074 with these bits for those of its logarithm.
+pub(crate) fn word_with(q: u64, k: u32, bits: u64) -> Word
+    requires { ⌜ Digits q k × (bits < 2 ^ places) ⌝ }
+    ensures { λ r. ⌜ (r ≡ asWord places (wordWith places (q * 2 ^ k) bits)) × (r .whole < 2 ^ 11) ⌝ }
 {
-    let zeros = u64::leading_zeros(q);
-    let bits = log_bits(q << (zeros - 1));
-    let highest = 63 - zeros + k;
+    let highest = 63 - u64::leading_zeros(q) + k;
     if 1074 <= highest {
         Word {
             negative: false,
@@ -64,6 +62,14 @@ pub(crate) fn log_of_digits(q: u64, k: u32) -> Word
             part: ONES - bits,
         }
     }
+}
+
+// The log word of q * 2^k units of 2^-1074.
+pub(crate) fn log_of_digits(q: u64, k: u32) -> Word
+    requires { ⌜ Digits q k ⌝ }
+    ensures { λ r. ⌜ (r ≡ asWord places (wordOfUnits places (q * 2 ^ k))) × (r .whole < 2 ^ 11) ⌝ }
+{
+    word_with(q, k, log_bits(q << (u64::leading_zeros(q) - 1)))
 }
 
 // The log word of x, or that it has none: x is not positive and finite.

@@ -1,22 +1,28 @@
 // A double to the power of one of the source's exponents, which are picked by their numbers.
 ghost use mathlib.Core.Path.{_≡_};
-ghost use mathlib.Core.Bool.{false};
+ghost use mathlib.Core.Bool.{true, false};
 ghost use mathlib.Core.List.{[], _∷_};
-ghost use Prim.Native.Nat.{_<_};
+ghost use Prim.Native.Nat.{_*_, _^_, _<_};
 ghost use lib.IntN.{pos};
 ghost use lib.Ieee.{inf, fin, odd};
 ghost use Rattle.arithmetic.specs.Parts.{Digits};
-ghost use Rattle.elementary.specs.Base.{Logged, IsBase};
+ghost use Rattle.antilog.specs.Log.{mantissaOf};
+ghost use Rattle.antilog.specs.Among.{WithinTwo};
+ghost use Rattle.elementary.specs.Base.{Neared, IsBase};
 ghost use Rattle.elementary.specs.Exponents.{exponentAt};
 ghost use Rattle.elementary.specs.Power.{infinityOrZero, positivePower, power, powerAt};
 ghost use Rattle.arithmetic.specs.Places.{places};
+use super::guess::Near;
+use super::guess::near_bits;
 use super::log::log_of_digits;
+use super::log::word_with;
 use super::multiples::opposite;
 use super::multiples::times;
+use antilog::antilog::Among;
 use antilog::antilog::antilog;
+use antilog::antilog::antilog_among;
 use arithmetic::double::Parts;
 use arithmetic::nearest::take_apart;
-use arithmetic::word::Word;
 
 // The exponents' magnitudes times 2^58, and which exponents are negative, by their numbers in
 // specs/Exponents.
@@ -110,19 +116,51 @@ fn is_negative(number: usize) -> bool
     NEGATIVE[number]
 }
 
-// A positive finite base, q * 2^k units of 2^-1074, with its log word: the antilog of
-// floor(L * exponent).
-fn positive_power(q: u64, k: u32, log: Word, number: usize) -> f64
-    requires { ⌜ Logged q k log ⌝ }
+// A positive finite base, q * 2^k units of 2^-1074: the antilog of floor(L * exponent), L being its log
+// word.
+fn squared_power(q: u64, k: u32, number: usize) -> f64
+    requires { ⌜ Digits q k ⌝ }
     requires { ⌜ number < 27 ⌝ }
     ensures { λ r. ⌜ r ≡ positivePower places (exponentAt number) (odd 53 false q k 1074) ⌝ }
 {
+    let log = log_of_digits(q, k);
     let word = if is_negative(number) {
         opposite(log)
     } else {
         log
     };
     antilog(times(word, magnitude(number), 58))
+}
+
+// The same from the log word's bits but for two units: two units of L move floor(L * exponent) by twice
+// the exponent and one at most.
+fn near_power(q: u64, k: u32, bits: u64, number: usize) -> Among
+    requires { ⌜ Digits q k × WithinTwo (mantissaOf (q * 2 ^ k)) bits ⌝ }
+    requires { ⌜ number < 27 ⌝ }
+    ensures { λ r. ⌜ (r .known ≡ true → r .value ≡ positivePower places (exponentAt number) (odd 53 false q k 1074)) ⌝ }
+{
+    let least = if is_negative(number) {
+        opposite(word_with(q, k, bits + 2))
+    } else {
+        word_with(q, k, bits)
+    };
+    let factor = magnitude(number);
+    antilog_among(times(least, factor, 58), (factor >> 57) + 1)
+}
+
+// The same: sixty squarings are taken only where the bits, guessed and checked, leave the power open.
+fn positive_power(q: u64, k: u32, near: Near, number: usize) -> f64
+    requires { ⌜ Digits q k × Neared q k near ⌝ }
+    requires { ⌜ number < 27 ⌝ }
+    ensures { λ r. ⌜ r ≡ positivePower places (exponentAt number) (odd 53 false q k 1074) ⌝ }
+{
+    if near.known {
+        let quick = near_power(q, k, near.bits, number);
+        if quick.known {
+            return quick.value;
+        }
+    }
+    squared_power(q, k, number)
 }
 
 // An infinite base.
@@ -154,33 +192,32 @@ fn zero_power(negative: bool, number: usize) -> f64
 }
 
 // A finite base that is not zero, q * 2^k units of 2^-1074 in size.
-fn finite_power(negative: bool, q: u64, k: u32, log: Word, number: usize) -> f64
-    requires { ⌜ Digits q k × Logged q k log ⌝ }
+fn finite_power(negative: bool, q: u64, k: u32, near: Near, number: usize) -> f64
+    requires { ⌜ Digits q k × Neared q k near ⌝ }
     requires { ⌜ number < 27 ⌝ }
     ensures { λ r. ⌜ r ≡ power places (exponentAt number) (odd 53 negative q k 1074) ⌝ }
 {
     if negative {
         if number == THREE {
-            return -positive_power(q, k, log, number);
+            return -positive_power(q, k, near, number);
         }
         if number == FOUR {
-            return positive_power(q, k, log, number);
+            return positive_power(q, k, near, number);
         }
         return 0.0 / 0.0;
     }
-    positive_power(q, k, log, number)
+    positive_power(q, k, near, number)
 }
 
-// A double taken apart, with the log word of its size where it is finite and not zero.
+// A double taken apart, with the bits near those of its size's logarithm where it is finite and not zero.
 struct Base {
     parts: Parts,
-    log: Word,
+    near: Near,
 }
 
-const ZERO: Word = Word {
-    negative: false,
-    whole: 0,
-    part: 0,
+const UNKNOWN: Near = Near {
+    known: false,
+    bits: 0,
 };
 
 fn base_of(x: f64) -> Base
@@ -188,13 +225,22 @@ fn base_of(x: f64) -> Base
 {
     let parts = take_apart(x);
     match parts {
-        Parts::Finite(_, q, k) => Base {
+        Parts::Finite(_, q, _) => Base {
             parts,
-            log: log_of_digits(q, k),
+            near: near_bits(q),
         },
-        Parts::NotANumber => Base { parts, log: ZERO },
-        Parts::Infinite(_) => Base { parts, log: ZERO },
-        Parts::Zero(_) => Base { parts, log: ZERO },
+        Parts::NotANumber => Base {
+            parts,
+            near: UNKNOWN,
+        },
+        Parts::Infinite(_) => Base {
+            parts,
+            near: UNKNOWN,
+        },
+        Parts::Zero(_) => Base {
+            parts,
+            near: UNKNOWN,
+        },
     }
 }
 
@@ -207,12 +253,12 @@ fn base_power(x: f64, base: Base, number: usize) -> f64
         return 0.0 / 0.0;
     }
     let parts = base.parts;
-    let log = base.log;
+    let near = base.near;
     match parts {
         Parts::NotANumber => x,
         Parts::Infinite(negative) => infinite_power(negative, number),
         Parts::Zero(negative) => zero_power(negative, number),
-        Parts::Finite(negative, q, k) => finite_power(negative, q, k, log, number),
+        Parts::Finite(negative, q, k) => finite_power(negative, q, k, near, number),
     }
 }
 
@@ -223,7 +269,7 @@ pub fn power(x: f64, number: usize) -> f64
     base_power(x, base_of(x), number)
 }
 
-// Five powers of x, by the numbers of their exponents, with one log word.
+// Five powers of x, by the numbers of their exponents, with one guess.
 pub fn five_powers(x: f64, a: usize, b: usize, c: usize, d: usize, e: usize) -> [f64; 5]
     ensures { λ r. ⌜ r ≡ powerAt places a x ∷ powerAt places b x ∷ powerAt places c x ∷ powerAt places d x ∷ powerAt places e x ∷ [] ⌝ }
 {

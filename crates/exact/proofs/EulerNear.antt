@@ -1,7 +1,8 @@
 -- e by its decimals, and the constants `log2e` and `ln2`: for a number b between the two decimals, 2^62 times the logarithm of b to the base 2 lies between
 -- `log2e` and `log2e` + 1, and 2^62 times that of 2 to the base b between `ln2` and `ln2` + 1. Both are read off the log bits of b ^ 128. Assumes nothing.
-use Rattle.exact.proofs.Kit.{_≡_, refl, sym, ap, _∙_, ℕ, _+_, _*_, _^_, _≤_, _<_, le-trans, le-of-eq, le-of-lt, mul-le-mul-left, mul-le-mul-right, mul-comm, mul-right-comm, mul-pos, add-assoc, le-of-mul-le-mul-right, one-le-pow, pow-le-pow-left, arith, lit<, lit≤, pow-pos, pow-mono, pow-add, logBits, log2e, ln2, Fraction, _isAtMost_, eBelow, eAbove, pow-product, pow-power, pow-scaled, le-of-powers, logBits-below, logBits-above}
+use Rattle.exact.proofs.Kit.{_≡_, refl, sym, ap, _∙_, ℕ, _+_, _*_, _^_, _≤_, _<_, le-trans, le-of-eq, le-of-lt, mul-le-mul-left, mul-le-mul-right, mul-pos, add-assoc, le-of-mul-le-mul-right, one-le-pow, pow-le-pow-left, arith, lit<, lit≤, pow-pos, pow-mono, pow-add, logBits, log2e, ln2, Fraction, _isAtMost_, _toThe_, eBelow, eAbove, pow-product, pow-power, pow-scaled, le-of-powers, logBits-below, logBits-above}
 use Rattle.antilog.proofs.Range.{Mantissa}
+use Rattle.exact.proofs.Fractions.{transitive, raise}
 use Rattle.exact.proofs.RootsNear.{power-swap}
 
 -- ---- from a mantissa M of u ^ k / v ^ k, with i for the bits of its logarithm, to u / v itself, whose logarithm compares with C / B
@@ -65,29 +66,16 @@ module _ (p : ℕ) (sixty : p ≡ 60) where
       word-above (2 ^ p) 128 184 i (eAbove .over) (eAbove .under) 0x6579531775085dfe (pow-pos p) (lit< tt) B C (lit≤ tt)
       (le-trans (le-of-lt (logBits-above p (omega arith) (mantissa .1))) (le-of-eq (ap (λ (x : ℕ). 2 ^ x) (add-assoc (62 * 2 ^ p) (logBits p 0x6579531775085dfe) 2)))) (rw (is, places) enough)
 
--- ---- and every number between them
-word-at-least : (u v n d B t : ℕ) → 0 < v → v ^ B * t ≤ u ^ B → u * d ≤ n * v → d ^ B * t ≤ n ^ B
-word-at-least u v n d B t some word order =
-    le-of-mul-le-mul-right {k = v ^ B}
-    (le-trans (le-of-eq (mul-right-comm (d ^ B) t (v ^ B) ∙ ap (λ (x : ℕ). x * t) (mul-comm (d ^ B) (v ^ B)) ∙ mul-right-comm (v ^ B) (d ^ B) t))
-    (le-trans (mul-le-mul-right (d ^ B) word) (le-trans (le-of-eq (sym (pow-product u d B))) (le-trans (pow-le-pow-left order B) (le-of-eq (pow-product n v B))))))
-    (one-le-pow B v some)
-
-word-at-most : (u v n d B t : ℕ) → 0 < v → u ^ B ≤ v ^ B * t → n * v ≤ u * d → n ^ B ≤ d ^ B * t
-word-at-most u v n d B t some word order =
-    le-of-mul-le-mul-right {k = v ^ B}
-    (le-trans (le-of-eq (sym (pow-product n v B)))
-    (le-trans (pow-le-pow-left order B)
-    (le-trans (le-of-eq (pow-product u d B)) (le-trans (mul-le-mul-right (d ^ B) word) (le-of-eq (mul-right-comm (v ^ B) t (d ^ B) ∙ ap (λ (x : ℕ). x * t) (mul-comm (v ^ B) (d ^ B)) ∙ mul-right-comm (d ^ B) (v ^ B) t))))))
-    (one-le-pow B v some)
-
--- `log2e`, and `ln2`
+-- ---- and every number between them: `log2e`, and `ln2`
 module _ (B C D : ℕ) (power : B ≡ 2 ^ 62) (log-constant : C ≡ log2e) (ln-constant : D ≡ ln2) (b : Fraction) (least : eBelow isAtMost b) (most : b isAtMost eAbove) where
+  abbrev two : ℕ → Fraction
+  two f = record { over = 2 ^ f; under = 1 }
+
   reaches : (e f : ℕ) → f * (128 * 2 ^ 60) ≤ (184 * 2 ^ 60 + 0xaa3b295c17f0bbb) * e → b .under ^ e * 2 ^ f ≤ b .over ^ e
-  reaches e f enough = word-at-least (eBelow .over) (eBelow .under) (b .over) (b .under) e (2 ^ f) (lit< tt) (eBelow-word 60 refl e f enough) least
+  reaches e f enough = omega (arith, transitive (two f) (eBelow toThe e) (b toThe e) (one-le-pow e (eBelow .under) (lit< tt)) (omega (arith, eBelow-word 60 refl e f enough)) (raise eBelow b e least))
 
   keeps : (e f : ℕ) → (184 * 2 ^ 60 + 0xaa3b295c17f0bbd) * e ≤ f * (128 * 2 ^ 60) → b .over ^ e ≤ b .under ^ e * 2 ^ f
-  keeps e f enough = word-at-most (eAbove .over) (eAbove .under) (b .over) (b .under) e (2 ^ f) (lit< tt) (eAbove-word 60 refl e f enough) most
+  keeps e f enough = omega (arith, transitive (b toThe e) (eAbove toThe e) (two f) (one-le-pow e (eAbove .under) (lit< tt)) (raise b eAbove e most) (omega (arith, eAbove-word 60 refl e f enough)))
 
   pub log2e-word : (b .under ^ B * 2 ^ C ≤ b .over ^ B) × (b .over ^ B ≤ b .under ^ B * 2 ^ (C + 1))
   log2e-word = (reaches B C (rw (power, log-constant) (lit≤ tt)), keeps B (C + 1) (rw (power, log-constant) (lit≤ tt)))

@@ -6,5 +6,6 @@ pub mod Reads
 pub mod Votes
 pub mod Trims
 pub mod Sheets
+pub mod Texts
 pub mod Lent
 pub mod Laws

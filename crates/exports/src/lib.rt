@@ -8,5 +8,6 @@ pub mod records;
 pub mod rules;
 pub mod sheets;
 pub mod stations;
+pub mod texts;
 pub mod trims;
 pub mod votes;

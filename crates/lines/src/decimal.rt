@@ -1,37 +1,26 @@
 // The decimal text of a double.
-ghost use Prim.Native.Nat.{_-_, _≤_, min};
+ghost use Prim.Native.Nat.{min};
 ghost use mathlib.Core.Path.{_≡_};
-ghost use lib.ListN.{take, drop};
 ghost use Rattle.pages.specs.Pages.{Appended};
 ghost use Rattle.decimals.specs.Decimal.{decimalText};
 ghost use Rattle.questions.specs.Words.{lineParts};
 ghost use Rattle.lines.specs.Decimal.{shownLine, decimalAnswer};
+use decimals::figures::put_last;
 use decimals::shown::decimal_text;
 use pages::put;
 use questions::arguments::double_at;
 use questions::arguments::number_at;
-
-fn put_part(page: &mut [u8], at: usize, places: &[u8; 16], start: usize) -> usize
-    requires { ⌜ start ≤ 16 ⌝ }
-    ensures { λ r. ⌜ Appended (now (page .entry)) at (take (16 - start) (drop start (now (places .entry)))) (now (page .exit)) r ⌝ }
-{
-    let all = &places[..];
-    put(page, at, &all[start..16])
-}
 
 fn put_shown(page: &mut [u8], at: usize, x: f64, decimals: u32) -> usize
     ensures { λ r. ⌜ Appended (now (page .entry)) at (shownLine (decimalText decimals x)) (now (page .exit)) r ⌝ }
 {
     let text = decimal_text(x, decimals);
     let len = text.len;
-    if len == 0 {
-        return put(page, at, b"none\n");
-    }
-    if len > 16 {
+    if (len == 0) | (len > 16) {
         return put(page, at, b"none\n");
     }
     let places = text.bytes;
-    let shown = put_part(page, at, &places, 16 - len);
+    let shown = put_last(page, at, &places, len);
     put(page, shown, b"\n")
 }
 

@@ -1,15 +1,15 @@
 -- How long the notes of a report are at most. Assumes nothing.
-use Rattle.arithmetic.proofs.Kit.{_≡_, refl, Bool, true, false, List, [], _∷_, _++_, ℕ, _+_, _≤_, arith, ltb-false, ltb, lit≤, Float, length, length-append}
-use Rattle.decimals.specs.Decimal.{decimalText}
+use Rattle.arithmetic.proofs.Kit.{_≡_, Bool, true, false, List, [], _∷_, _++_, ℕ, _+_, _≤_, arith, length, length-append}
 use Rattle.refusal.specs.Outcomes.{Outcome, accepted, refused}
 use Rattle.refusal.specs.declared.judge.Figures.{Figures}
 use Rattle.record.specs.declared.entries.Readings.{Readings}
 use Rattle.mast.specs.Judge.{airOutcome}
 use Rattle.trim.specs.Classes.{trimClass}
 use Rattle.pages.proofs.Short.{Within, number-short}
+use Rattle.decimals.proofs.Places.{shown-short}
 use Rattle.notes.specs.declared.given.Given.{Given}
 use Rattle.notes.specs.Given.{givenBy, pressureGiven}
-use Rattle.notes.specs.Words.{Note, when, printed, shown}
+use Rattle.notes.specs.Words.{Note, when, printed}
 use Rattle.notes.specs.Used.{asGiven, airText, temperatureDefault, pressureDefault, absentNotes, usedNotes}
 use Rattle.notes.specs.Pressures.{beside, meantNotes, unitNotes, notesBeside, pressureNotes}
 use Rattle.atmosphere.specs.declared.plausibility.StationPressurePlausibility.{StationPressurePlausibility}
@@ -37,14 +37,6 @@ total-append [] ms = omega arith
 total-append (n ∷ ns) ms = omega (arith, total-append ns ms)
 
 -- ---- words
-shown-short : (k : ℕ) (x : Float) → length (shown k x) ≤ 16
-unfolding shown
-shown-short k x = go (ltb 16 (length (decimalText k x))) refl
-  where
-    go : (b : Bool) → ltb 16 (length (decimalText k x)) ≡ b → length (shown k x) ≤ 16
-    go true e = simp e (lit≤ tt)
-    go false e = simp e (ltb-false 16 (length (decimalText k x)) e)
-
 air-short : (air : Outcome Figures) → length (airText air) ≤ 45
 air-short (accepted f) = simp length-append (omega (arith, shown-short 4 (f .«density_kg_m3»), number-short (trimClass (f .«density_kg_m3»)) .bound))
 air-short (refused number values) = simp length-append (omega (arith, number-short number .bound))

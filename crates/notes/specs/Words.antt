@@ -3,11 +3,9 @@ use Prim.Native.Nat.{ℕ}
 use Prim.Native.String.{String}
 use mathlib.Core.Bool.{Bool, cond}
 use mathlib.Core.List.{List, [], _∷_, _++_}
-use lib.Dec.{ltb}
 use lib.Ieee.{Float}
-use lib.ListN.{length}
 use Rattle.arithmetic.specs.Ascii.{ascii}
-use Rattle.decimals.specs.Decimal.{decimalText}
+use Rattle.decimals.specs.Shown.{shown}
 
 -- ---- notes
 pub record Note : Type 0 where
@@ -27,10 +25,6 @@ printed [] = []
 printed (n ∷ rest) = when (n .holds) (n .line) ++ printed rest
 
 -- ---- words
--- x with k decimals, without blanks before it; a text of more than sixteen bytes is not shown
-unfoldable pub shown : ℕ → Float → List ℕ
-shown k x = let t = decimalText k x in cond (ltb 16 (length t)) (ascii "too wide") t
-
--- between words
+-- a figure between words
 abbrev pub figured : String → ℕ → Float → String → List ℕ
 figured before k x after = ascii before ++ shown k x ++ ascii after

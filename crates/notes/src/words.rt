@@ -1,36 +1,14 @@
 // The pieces of a note's line: a figure without blanks before it, with the words around it.
-ghost use Prim.Native.Nat.{_-_, _≤_};
 ghost use mathlib.Core.Path.{_≡_};
 ghost use mathlib.Core.List.{_++_};
-ghost use lib.ListN.{take, drop};
 ghost use Rattle.pages.specs.Pages.{Appended};
-ghost use Rattle.notes.specs.Words.{when, shown};
-use decimals::shown::decimal_text;
+ghost use Rattle.decimals.specs.Shown.{shown};
+ghost use Rattle.notes.specs.Words.{when};
+use decimals::figures::put_shown;
 use pages::put;
 
 // Each puts a piece on the page from `at` on, and answers the position after it; the words are left as they
-// were. First the places from `start` on.
-fn put_part(page: &mut [u8], at: usize, places: &[u8; 16], start: usize) -> usize
-    requires { ⌜ start ≤ 16 ⌝ }
-    ensures { λ r. ⌜ Appended (now (page .entry)) at (take (16 - start) (drop start (now (places .entry)))) (now (page .exit)) r ⌝ }
-{
-    let all = &places[..];
-    put(page, at, &all[start..16])
-}
-
-// A figure with so many decimals.
-fn put_shown(page: &mut [u8], at: usize, x: f64, decimals: u32) -> usize
-    ensures { λ r. ⌜ Appended (now (page .entry)) at (shown decimals x) (now (page .exit)) r ⌝ }
-{
-    let text = decimal_text(x, decimals);
-    let len = text.len;
-    if len > 16 {
-        return put(page, at, b"too wide");
-    }
-    let places = text.bytes;
-    put_part(page, at, &places, 16 - len)
-}
-
+// were.
 pub(crate) fn put_figured(
     page: &mut [u8],
     at: usize,

@@ -1,4 +1,4 @@
--- A text that grows piece by piece, how long its pieces are, a figure's column, a buffer that is filled, and words that are compared.
+-- A text that grows piece by piece, how long its pieces are, a buffer that is filled, and words that are compared.
 pub mod Growing
 pub mod Short
 pub mod Filled

@@ -6,7 +6,6 @@ pub mod Numerators
 pub mod OneWord
 pub mod Split
 pub mod Numbers
-pub mod Places
 pub mod Kept
 pub mod Noted
 pub mod Seven

@@ -1,18 +1,18 @@
 -- How long the lines are at most. Assumes nothing.
-use Rattle.arithmetic.proofs.Kit.{_≡_, refl, Bool, true, false, cond, _||_, List, [], _∷_, _++_, ℕ, zero, suc, _+_, _-_, _*_, _≤_, zero-le, arith, ltb-false, ltb, eqb, lit≤, Float, length, getD, take, drop, length-append, length-take, length-drop, length-replicate, replicate}
+use Rattle.arithmetic.proofs.Kit.{_||_, List, [], _∷_, _++_, ℕ, zero, suc, _+_, _*_, _≤_, zero-le, arith, ltb, eqb, lit≤, Float, length, getD, take, drop, length-append, length-take, length-drop}
 use Rattle.bytes.specs.Bytes.{indexOf}
-use Rattle.decimals.specs.Decimal.{decimalText}
+use Rattle.decimals.proofs.Places.{shown-short}
 use Rattle.arithmetic.specs.Ascii.{ascii}
 use Rattle.fields.specs.Fields.{temperature, humidity}
 use Rattle.pages.specs.Characters.{hex}
 use Rattle.pages.proofs.Short.{Within, whole, both, either}
 use Rattle.park_text.specs.declared.typed_word.Problem.{Problem}
-use Rattle.park_text.specs.declared.typed_word.Problem.the-variants.{NameAlone, UnknownWord, Blank, Comma, MinusSign, NotANumber, UnknownUnit, TooManyDecimals, OutOfRange, RepeatedWord}
+use Rattle.park_text.specs.declared.typed_word.Problem.the-variants.{RecordBeside, NotARecord, RecordTooLong, NameAlone, UnknownWord, Blank, Comma, MinusSign, NotANumber, UnknownUnit, TooManyDecimals, OutOfRange, RepeatedWord}
 use Rattle.park_text.specs.declared.typed_word.Word.{Word}
 use Rattle.park_text.specs.declared.typed_word.Word.the-variants.{Reading, Wrong}
 use Rattle.park_text.specs.Units.{isLength, byQuantity}
 use Rattle.park_text.specs.Word.{nameIn}
-use Rattle.park_text.specs.ParkLines.{byteWith, typedWith, asTyped, quoted, examples, exampleOf, aloneMessage, unitMessage, blankMessage, commaMessage, minusMessage, messageOf, problemLine, shown, readingLine, unitLine}
+use Rattle.park_text.specs.ParkLines.{byteWith, typedWith, quoted, examples, exampleOf, aloneMessage, unitMessage, blankMessage, commaMessage, minusMessage, messageOf, problemLine, readingLine, unitLine}
 
 -- ---- a word on a page has four bytes for each of its own at most
 byte-short : (old : ℕ) (new : List ℕ) (b : ℕ) → length new ≤ 4 → length (byteWith old new b) ≤ 4
@@ -48,7 +48,8 @@ example-short m = record { bound = go m }
     go (suc (suc (suc (suc zero)))) = lit≤ tt
     go (suc (suc (suc (suc (suc zero))))) = lit≤ tt
     go (suc (suc (suc (suc (suc (suc zero)))))) = lit≤ tt
-    go (suc (suc (suc (suc (suc (suc (suc m))))))) = zero-le
+    go (suc (suc (suc (suc (suc (suc (suc zero))))))) = lit≤ tt
+    go (suc (suc (suc (suc (suc (suc (suc (suc m)))))))) = zero-le
 
 module _ (w : List ℕ) (few : length w ≤ 64) where
   comma-short : Within (commaMessage w) 560
@@ -80,6 +81,9 @@ module _ (w : List ℕ) (few : length w ≤ 64) where
 
   message-short : (p : Problem) → length (messageOf w p) ≤ 560
   unfolding messageOf aloneMessage unitMessage
+  message-short RecordBeside = lit≤ tt
+  message-short NotARecord = lit≤ tt
+  message-short RecordTooLong = lit≤ tt
   message-short (NameAlone m) = omega (arith, both (whole (ascii ": a name without =, type ")) (example-short m) .bound)
   message-short UnknownWord = lit≤ tt
   message-short Blank = blank-short .bound
@@ -99,20 +103,12 @@ unfolding problemLine
 problem-short w p = both (quoted-short w) record { bound = message-short (take 64 w) (omega (arith, length-take 64 w)) p }
 
 -- ---- the reading of a word whose unit was written
-shown-short : (x : Float) → Within (shown x) 16
-unfolding shown
-shown-short x = record { bound = go (ltb 16 (length (decimalText 3 x))) refl }
-  where
-    go : (b : Bool) → ltb 16 (length (decimalText 3 x)) ≡ b → length (cond b (ascii "too wide") (decimalText 3 x)) ≤ 16
-    go true e = lit≤ tt
-    go false e = ltb-false 16 (length (decimalText 3 x)) e
-
 reading-line-short : (w : List ℕ) (m : ℕ) (x : Float) → Within (readingLine w m x) 93
 unfolding readingLine
 reading-line-short w m x =
     let quoted-part : Within (take 64 w) 64 = record { bound = omega (arith, length-take 64 w) } in
     let unit = by-quantity-short 9 m (ascii " m\n") (ascii " C\n") (ascii " percent\n") (ascii " hPa\n") (lit≤ tt) (lit≤ tt) (lit≤ tt) (lit≤ tt) in
-    both (both (both quoted-part (whole (ascii " is "))) (shown-short x)) record { bound = unit }
+    both (both (both quoted-part (whole (ascii " is "))) record { bound = shown-short 3 x }) record { bound = unit }
 
 pub unit-line-short : (w : List ℕ) (o : Word) → length (unitLine w o) ≤ 93
 unit-line-short w (Reading m x written point) = either written (readingLine w m x) [] (reading-line-short w m x .bound) zero-le

@@ -2,6 +2,7 @@
 -- Assumes nothing.
 use Rattle.arithmetic.proofs.Kit.{_≡_, refl, sym, ap, ap₂, _∙_, Bool, true, false, cond, List, [], _∷_, _++_, ℕ, zero, suc, _+_, _≤_, _<_, add-one, arith, ltb-true, lt-ltb, le-ltb, eqb-true, ltb, eqb, ℤ, Float, length, getD, take, drop, length-append, take-append-drop, length-take-le}
 use lib.Seq.{split-at, take-append-seam, drop-append-add, drop-at}
+use Rattle.arithmetic.specs.Ascii.{ascii}
 use Rattle.bytes.specs.Bytes.{indexOf, indexAfter}
 use Rattle.pages.specs.Characters.{same}
 use Rattle.pages.proofs.Same.{is-same}
@@ -11,14 +12,14 @@ use Rattle.decimals.specs.Typed.{typed}
 use Rattle.fields.specs.Fields.{meanings}
 use Rattle.questions.specs.Words.{placeIn}
 use Rattle.park_text.specs.declared.typed_word.Problem.{Problem}
-use Rattle.park_text.specs.declared.typed_word.Problem.the-variants.{NameAlone, UnknownWord, Blank, Comma, MinusSign}
+use Rattle.park_text.specs.declared.typed_word.Problem.the-variants.{RecordBeside, NameAlone, UnknownWord, Blank, Comma, MinusSign}
 use Rattle.park_text.specs.declared.typed_word.Word.{Word}
 use Rattle.park_text.specs.declared.typed_word.Word.the-variants.{Reading, Wrong}
 use Rattle.park_text.specs.declared.units.Unit.{Unit}
 use Rattle.park_text.specs.declared.units.Named.{Named}
 use Rattle.park_text.specs.declared.units.Named.the-variants.{Known, Unknown}
 use Rattle.park_text.specs.Units.{unitNamed, placesOf, readingIn}
-use Rattle.park_text.specs.Word.{readingNames, meaningNamed, numberLength, threeDecimals, valueFor, noUnit, inUnit, readNumber, has, isMinusSign, readValue, nameIn, valueIn, named, alone, readWord, Says}
+use Rattle.park_text.specs.Word.{readingNames, meaningNamed, numberLength, threeDecimals, valueFor, noUnit, inUnit, readNumber, has, isMinusSign, readValue, nameIn, valueIn, named, alone, readNamed, isRecord, readWord, Says}
 use Rattle.park_text.proofs.Numbers.{number-within}
 
 -- ---- what is looked for stands where it is found
@@ -43,20 +44,20 @@ place-found (n ∷ ns) w h = go (same w n) refl h (place-found ns w)
 
 -- ---- a word by its parts: where its first `=` stands, and the meaning of the name before it
 module _ (w : List ℕ) (at : ℕ) (is : at ≡ indexOf 61 w) where
-  pub no-mark : length w ≤ at → alone (meaningNamed w) ≡ readWord w
-  unfolding readWord
+  pub no-mark : length w ≤ at → alone (meaningNamed w) ≡ readNamed w
+  unfolding readNamed
   no-mark h = rw (le-ltb (indexOf 61 w) (length w) (omega arith))
 
   module _ (m : ℕ) (named-so : m ≡ meaningNamed (take at w)) (some : at < length w) where
     meant : m ≡ meaningNamed (nameIn w)
     meant = named-so ∙ ap (λ (k : ℕ). meaningNamed (take k w)) is
 
-    pub no-name : meanings ≤ m → Wrong UnknownWord ≡ readWord w
-    unfolding readWord
+    pub no-name : meanings ≤ m → Wrong UnknownWord ≡ readNamed w
+    unfolding readNamed
     no-name h = rw (lt-ltb (indexOf 61 w) (length w) (omega arith), le-ltb (meaningNamed (nameIn w)) meanings (omega (arith, meant)))
 
-    pub known : m < meanings → readValue m (drop (at + 1) w) ≡ readWord w
-    unfolding readWord
+    pub known : m < meanings → readValue m (drop (at + 1) w) ≡ readNamed w
+    unfolding readNamed
     known h =
         rw (lt-ltb (indexOf 61 w) (length w) (omega arith), lt-ltb (meaningNamed (nameIn w)) meanings (omega (arith, meant)))
         (λ i. readValue (meant i) (drop (is i + 1) w))
@@ -153,9 +154,9 @@ module _ {k : ℕ} {x : Float} {written point : Bool} where
   past-name true p h = (refl, h)
   past-name false p h = let z : _≡_ {A = ℕ} 0 1 = cc in absurd (omega arith)
 
-pub spoken : (w : List ℕ) {m : ℕ} {x : Float} {written point : Bool} → readWord w ≡ Reading m x written point → Spoken w m x
-unfolding readWord readValue meaningNamed
-spoken w {m} {x} {written} {point} is = go (has 61 w) refl is
+spoken-named : (w : List ℕ) {m : ℕ} {x : Float} {written point : Bool} → readNamed w ≡ Reading m x written point → Spoken w m x
+unfolding readNamed readValue meaningNamed
+spoken-named w {m} {x} {written} {point} is = go (has 61 w) refl is
   where
     go : (b : Bool) → has 61 w ≡ b → cond b (named (meaningNamed (nameIn w)) (valueIn w)) (alone (meaningNamed w)) ≡ Reading m x written point → Spoken w m x
     go true h e =
@@ -187,3 +188,7 @@ spoken w {m} {x} {written} {point} is = go (has 61 w) refl is
     go false h e =
         let none = past-test (ltb (meaningNamed w) meanings) (NameAlone (meaningNamed w)) e in
         let z : _≡_ {A = ℕ} 0 1 = cc in absurd (omega arith)
+
+pub spoken : (w : List ℕ) {m : ℕ} {x : Float} {written point : Bool} → readWord w ≡ Reading m x written point → Spoken w m x
+unfolding readWord
+spoken w is = spoken-named w (past-test (same w (ascii "record")) (NameAlone meanings) (past-test (isRecord w) RecordBeside is))

@@ -11,7 +11,7 @@ use Rattle.pages.proofs.Same.{Compared, compared}
 use Rattle.park_text.proofs.Split.{some-word}
 use Rattle.park_text.proofs.Told.{told-given, told-wrong}
 use Rattle.park_text.specs.ParkLines.{problemLine}
-use Rattle.park_text.specs.ParkText.{usageText, isHelp, said, sheetWords, readingsWords, typedText, parkText}
+use Rattle.park_text.specs.ParkText.{usageText, isHelp, said, sheetWords, readingsWords, wordsText, typedText, parkText}
 
 -- ---- words that are understood or not, where `text` is printed of their readings
 module _ (text : Readings → List ℕ) (ws : List (List ℕ)) (a : TypedReadings) (read : a ≡ answerFor (understand ws)) where
@@ -40,6 +40,6 @@ module _ (s : List ℕ) (some : 0 < length s) where
   unfolding parkText
   by-help h = ap (λ (b : Bool). cond b usageText (typedText (getD (arguments s) 0 []) (drop 1 (arguments s)))) (sym h) ∙ ap parkText (sym parted)
 
-pub by-first : (w : List ℕ) (ws : List (List ℕ)) {r : Bool} → Compared w (ascii "sheet") r → cond r (sheetWords ws) (readingsWords (w ∷ ws)) ≡ typedText w ws
-unfolding typedText
+pub by-first : (w : List ℕ) (ws : List (List ℕ)) {r : Bool} → Compared w (ascii "sheet") r → cond r (sheetWords ws) (readingsWords (w ∷ ws)) ≡ wordsText w ws
+unfolding wordsText
 by-first w ws {r} h = ap (λ (b : Bool). cond b (sheetWords ws) (readingsWords (w ∷ ws))) (sym (compared w (ascii "sheet") r h))

@@ -5,13 +5,13 @@ use mathlib.Core.Bool.{_||_, cond}
 use mathlib.Core.List.{List, [], _∷_, _++_}
 use lib.Dec.{eqb, ltb}
 use lib.Ieee.{Float}
-use lib.ListN.{length, getD, take, drop}
+use lib.ListN.{getD, take, drop}
 use Rattle.bytes.specs.Bytes.{indexOf}
-use Rattle.decimals.specs.Decimal.{decimalText}
+use Rattle.decimals.specs.Shown.{shown}
 use Rattle.arithmetic.specs.Ascii.{ascii}
 use Rattle.pages.specs.Characters.{hex}
 use Rattle.park_text.specs.declared.typed_word.Problem.{Problem}
-use Rattle.park_text.specs.declared.typed_word.Problem.the-variants.{NameAlone, UnknownWord, Blank, Comma, MinusSign, NotANumber, UnknownUnit, TooManyDecimals, OutOfRange, RepeatedWord}
+use Rattle.park_text.specs.declared.typed_word.Problem.the-variants.{RecordBeside, NotARecord, RecordTooLong, NameAlone, UnknownWord, Blank, Comma, MinusSign, NotANumber, UnknownUnit, TooManyDecimals, OutOfRange, RepeatedWord}
 use Rattle.park_text.specs.declared.typed_word.Word.{Word}
 use Rattle.park_text.specs.declared.typed_word.Word.the-variants.{Reading, Wrong}
 use Rattle.park_text.specs.Word.{nameIn}
@@ -43,7 +43,8 @@ examples =
     ascii "qnh=1019.3\n" ∷
     ascii "humidity=32\n" ∷
     ascii "density-altitude=2100\n" ∷
-    ascii "pressure=841.9\n" ∷ []
+    ascii "pressure=841.9\n" ∷
+    ascii "record=11000400183350\n" ∷ []
 
 unfoldable pub exampleOf : ℕ → List ℕ
 exampleOf m = getD examples m []
@@ -77,6 +78,9 @@ minusMessage w =
     ascii ": a minus sign that is no hyphen, type " ++ asTyped (nameIn w) ++ ascii "=-" ++ asTyped (drop (indexOf 61 w + 4) w) ++ ascii "\n"
 
 unfoldable pub messageOf : List ℕ → Problem → List ℕ
+messageOf w RecordBeside = ascii ": record= stands alone, as park record=11000400183350\n"
+messageOf w NotARecord = ascii ": not a record, expected an even number of hex digits, as record=11000400183350\n"
+messageOf w RecordTooLong = ascii ": more than 256 bytes, and no record is as long\n"
 messageOf w (NameAlone m) = aloneMessage m
 messageOf w UnknownWord =
     ascii
@@ -94,12 +98,8 @@ unfoldable pub problemLine : List ℕ → Problem → List ℕ
 problemLine w p = quoted w ++ messageOf (take 64 w) p
 
 -- ---- the reading of a word whose unit was written
--- x with three decimals
-unfoldable pub shown : Float → List ℕ
-shown x = let t = decimalText 3 x in cond (ltb 16 (length t)) (ascii "too wide") t
-
 unfoldable pub readingLine : List ℕ → ℕ → Float → List ℕ
-readingLine w m x = take 64 w ++ ascii " is " ++ shown x ++ byQuantity m (ascii " m\n") (ascii " C\n") (ascii " percent\n") (ascii " hPa\n")
+readingLine w m x = take 64 w ++ ascii " is " ++ shown 3 x ++ byQuantity m (ascii " m\n") (ascii " C\n") (ascii " percent\n") (ascii " hPa\n")
 
 abbrev pub unitLine : List ℕ → Word → List ℕ
 unitLine w (Reading m x written point) = cond written (readingLine w m x) []

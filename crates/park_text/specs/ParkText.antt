@@ -1,18 +1,21 @@
--- What the program `park` prints for its words: the report of the readings; or the sheet to pin up, where the first word is
--- `sheet`; or one line on the first word that is not understood; or how it is used, where there is no word or help is asked for. Definitions only.
-use Prim.Native.Nat.{ℕ}
-use mathlib.Core.Bool.{Bool, false, _||_, cond}
+-- What the program `park` prints for its words: the report of the readings, or of the record that is the only word; or the sheet to pin up, where the first
+-- word is `sheet`; or one line on the first word that is not understood; or how it is used, where there is no word or help is asked for. Definitions only.
+use Prim.Native.Nat.{ℕ, _%_}
+use mathlib.Core.Bool.{Bool, false, _&&_, _||_, cond}
 use mathlib.Core.List.{List, [], _∷_, _++_}
-use lib.ListN.{getD}
+use lib.Dec.{eqb, ltb}
+use lib.ListN.{length, getD, drop}
 use Rattle.record.specs.declared.entries.Readings.{Readings}
 use Rattle.pages.specs.Characters.{same}
 use Rattle.arithmetic.specs.Ascii.{ascii}
 use Rattle.report.specs.declared.Origin.the-variants.{Words}
-use Rattle.report.specs.Report.{reportText}
+use Rattle.report.specs.Report.{reportText, recordText}
 use Rattle.sheet_text.specs.SheetText.{sheetOf}
+use Rattle.questions.specs.Digits.{areHex, bytesIn}
+use Rattle.park_text.specs.declared.typed_word.Problem.the-variants.{NotARecord, RecordTooLong}
 use Rattle.park_text.specs.declared.typed_word.Word.{Word}
 use Rattle.park_text.specs.declared.typed_word.Word.the-variants.{Reading, Wrong}
-use Rattle.park_text.specs.Word.{readWord}
+use Rattle.park_text.specs.Word.{isRecord, readWord}
 use Rattle.park_text.specs.ParkLines.{problemLine, unitLine}
 use Rattle.park_text.specs.Understood.{Understood, given, problem, understand}
 
@@ -21,6 +24,7 @@ unfoldable pub usageText : List ℕ
 usageText =
     ascii "usage: park altitude=1586 temperature=24 qnh=1019.3 humidity=32\n" ++
     ascii "       park sheet altitude=1586 pressure=841.9 humidity=32\n" ++
+    ascii "       park record=11000400183350\n" ++
     ascii "words in any order, each a number with up to three decimals and, if you like,\n" ++
     ascii "its unit, the first of these where none is written:\n" ++
     ascii "  altitude=          m, ft\n" ++
@@ -32,7 +36,8 @@ usageText =
     ascii "  humidity=          percent, %; dry air where it is absent\n" ++
     ascii "  density-altitude=  m, ft; in place of altitude and pressure\n" ++
     ascii "a temperature from 14.9 to 15.1 C counts as the standard one; a note says so\n" ++
-    ascii "sheet prints a page of densities to pin up, for one of the three pressures\n"
+    ascii "sheet prints a page of densities to pin up, for one of the three pressures\n" ++
+    ascii "record= prints the report of a record that was kept, in hex digits\n"
 
 -- ---- a command line that is not read
 abbrev pub tooLongText : List ℕ
@@ -69,8 +74,23 @@ reportOf ws r = unitLines ws ++ reportText (Words (anyPoint ws)) r
 unfoldable pub readingsWords : List (List ℕ) → List ℕ
 readingsWords ws = said (reportOf ws) ws (understand ws)
 
+unfoldable pub wordsText : List ℕ → List (List ℕ) → List ℕ
+wordsText w ws = cond (same w (ascii "sheet")) (sheetWords ws) (readingsWords (w ∷ ws))
+
+-- ---- a record that is the only word: the report of its bytes, two hex digits each
+abbrev pub areBytes : List ℕ → Bool
+areBytes d = ltb 0 (length d) && eqb (length d % 2) 0 && areHex d
+
+unfoldable pub recordWord : List ℕ → List ℕ
+recordWord w =
+    let d = drop 7 w in
+    cond (areBytes d) (cond (ltb 512 (length d)) (problemLine w RecordTooLong) (recordText (bytesIn 256 d))) (problemLine w NotARecord)
+
+abbrev pub isRecordAlone : List ℕ → List (List ℕ) → Bool
+isRecordAlone w ws = isRecord w && eqb (length ws) 0
+
 unfoldable pub typedText : List ℕ → List (List ℕ) → List ℕ
-typedText w ws = cond (same w (ascii "sheet")) (sheetWords ws) (readingsWords (w ∷ ws))
+typedText w ws = cond (isRecordAlone w ws) (recordWord w) (wordsText w ws)
 
 unfoldable pub parkText : List (List ℕ) → List ℕ
 parkText [] = usageText

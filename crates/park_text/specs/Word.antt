@@ -14,7 +14,7 @@ use Rattle.decimals.specs.declared.typed.Typed.the-variants as decimal
 use Rattle.decimals.specs.Typed.{typed}
 use Rattle.fields.specs.Fields.{meanings, altitude}
 use Rattle.questions.specs.Words.{placeIn}
-use Rattle.park_text.specs.declared.typed_word.Problem.the-variants.{NameAlone, UnknownWord, Blank, Comma, MinusSign, NotANumber, UnknownUnit, TooManyDecimals, OutOfRange}
+use Rattle.park_text.specs.declared.typed_word.Problem.the-variants.{RecordBeside, NameAlone, UnknownWord, Blank, Comma, MinusSign, NotANumber, UnknownUnit, TooManyDecimals, OutOfRange}
 use Rattle.park_text.specs.declared.typed_word.Word.{Word}
 use Rattle.park_text.specs.declared.typed_word.Word.the-variants.{Reading, Wrong}
 use Rattle.park_text.specs.declared.units.Unit.{Unit}
@@ -102,8 +102,15 @@ named m s = cond (ltb m meanings) (readValue m s) (Wrong UnknownWord)
 abbrev pub alone : ℕ → Word
 alone m = cond (ltb m meanings) (Wrong (NameAlone m)) (Wrong UnknownWord)
 
+unfoldable pub readNamed : List ℕ → Word
+readNamed w = cond (has 61 w) (named (meaningNamed (nameIn w)) (valueIn w)) (alone (meaningNamed w))
+
+-- ---- among other words a record has no place; `record` is the name after those of readings
+abbrev pub isRecord : List ℕ → Bool
+isRecord w = same (take 7 w) (ascii "record=")
+
 unfoldable pub readWord : List ℕ → Word
-readWord w = cond (has 61 w) (named (meaningNamed (nameIn w)) (valueIn w)) (alone (meaningNamed w))
+readWord w = cond (isRecord w) (Wrong RecordBeside) (cond (same w (ascii "record")) (Wrong (NameAlone meanings)) (readNamed w))
 
 -- the word w says the number d in the unit u of the meaning m: its name, `=`, the number, and the unit's name behind it
 pub record Says (w : List ℕ) (m : ℕ) (u : Unit) (d : List ℕ) : Type 0 where

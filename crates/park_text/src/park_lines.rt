@@ -1,18 +1,18 @@
 // Lines that the program `park` prints: what is wrong with a word, and a reading in its unit.
 ghost use mathlib.Core.Path.{_≡_};
-ghost use Prim.Native.Nat.{_-_, _≤_};
 ghost use lib.ListN.{take, drop};
 ghost use Rattle.pages.specs.Pages.{Appended};
 ghost use Rattle.park_text.specs.Units.{byQuantity};
-ghost use Rattle.park_text.specs.ParkLines.{byteWith, typedWith, asTyped, quoted, exampleOf, aloneMessage, unitMessage, decimalsMessage, rangeMessage, blankMessage, commaMessage, minusMessage, messageOf, problemLine, shown, readingLine, unitLine};
+ghost use Rattle.park_text.specs.ParkLines.{byteWith, typedWith, asTyped, quoted, exampleOf, aloneMessage, unitMessage, decimalsMessage, rangeMessage, blankMessage, commaMessage, minusMessage, messageOf, problemLine, readingLine, unitLine};
 use crate::typed_word::Problem;
 use crate::typed_word::Word;
 use crate::units::is_length;
 use bytes::scan::find;
-use decimals::shown::decimal_text;
+use decimals::figures::put_shown;
 use fields::fields::ALTITUDE;
 use fields::fields::DENSITY_ALTITUDE;
 use fields::fields::HUMIDITY;
+use fields::fields::MEANINGS;
 use fields::fields::MEASURED_PRESSURE;
 use fields::fields::QNH;
 use fields::fields::STATION_PRESSURE;
@@ -31,7 +31,7 @@ pub(crate) fn first_bytes(word: &[u8], n: usize) -> &[u8]
 }
 
 // And those after them.
-fn later_bytes(word: &[u8], n: usize) -> &[u8]
+pub(crate) fn later_bytes(word: &[u8], n: usize) -> &[u8]
     ensures { λ r. ⌜ now r ≡ drop n (now (word .entry)) ⌝ }
 {
     let end = word.len();
@@ -104,7 +104,7 @@ fn put_for(
     put(page, at, pressure)
 }
 
-// A word with a number, for each meaning.
+// A word with a number, for each meaning, and one with a record.
 fn put_example(page: &mut [u8], at: usize, meaning: usize) -> usize
     ensures { λ r. ⌜ Appended (now (page .entry)) at (exampleOf meaning) (now (page .exit)) r ⌝ }
 {
@@ -128,6 +128,9 @@ fn put_example(page: &mut [u8], at: usize, meaning: usize) -> usize
     }
     if meaning == MEASURED_PRESSURE {
         return put(page, at, b"pressure=841.9\n");
+    }
+    if meaning == MEANINGS {
+        return put(page, at, b"record=11000400183350\n");
     }
     at
 }
@@ -218,6 +221,21 @@ fn put_message(page: &mut [u8], at: usize, word: &[u8], problem: Problem) -> usi
     ensures { λ r. ⌜ Appended (now (page .entry)) at (messageOf (now (word .entry)) problem) (now (page .exit)) r ⌝ }
 {
     match problem {
+        Problem::RecordBeside => put(
+            page,
+            at,
+            b": record= stands alone, as park record=11000400183350\n",
+        ),
+        Problem::NotARecord => put(
+            page,
+            at,
+            b": not a record, expected an even number of hex digits, as record=11000400183350\n",
+        ),
+        Problem::RecordTooLong => put(
+            page,
+            at,
+            b": more than 256 bytes, and no record is as long\n",
+        ),
         Problem::NameAlone(meaning) => put_alone(page, at, meaning),
         Problem::UnknownWord => put(
             page,
@@ -257,35 +275,13 @@ pub(crate) fn put_problem(page: &mut [u8], at: usize, word: &[u8], problem: Prob
     put_message(page, told, first_bytes(word, 64), problem)
 }
 
-// The last of sixteen places, from `start` on.
-fn put_part(page: &mut [u8], at: usize, places: &[u8; 16], start: usize) -> usize
-    requires { ⌜ start ≤ 16 ⌝ }
-    ensures { λ r. ⌜ Appended (now (page .entry)) at (take (16 - start) (drop start (now (places .entry)))) (now (page .exit)) r ⌝ }
-{
-    let all = &places[..];
-    put(page, at, &all[start..16])
-}
-
-// A number with three decimals.
-fn put_shown(page: &mut [u8], at: usize, x: f64) -> usize
-    ensures { λ r. ⌜ Appended (now (page .entry)) at (shown x) (now (page .exit)) r ⌝ }
-{
-    let text = decimal_text(x, 3);
-    let len = text.len;
-    if len > 16 {
-        return put(page, at, b"too wide");
-    }
-    let places = text.bytes;
-    put_part(page, at, &places, 16 - len)
-}
-
 // The reading of a word whose unit was written.
 fn put_reading_of(page: &mut [u8], at: usize, word: &[u8], meaning: usize, x: f64) -> usize
     ensures { λ r. ⌜ Appended (now (page .entry)) at (readingLine (now (word .entry)) meaning x) (now (page .exit)) r ⌝ }
 {
     let typed = put(page, at, first_bytes(word, 64));
     let is = put(page, typed, b" is ");
-    let read = put_shown(page, is, x);
+    let read = put_shown(page, is, x, 3);
     put_for(
         page,
         read,

@@ -1,7 +1,7 @@
 // One word of a command line, as `altitude=1586` or `altitude=5203ft`: a meaning and its reading, or what
 // is wrong.
 ghost use mathlib.Core.Path.{_≡_};
-ghost use Rattle.park_text.specs.Word.{meaningNamed, isNumberByte, numberLength, threeDecimals, isSmall, isPoint, valueFor, noUnit, readNumber, isMinusSign, has, readValue, named, alone, readWord};
+ghost use Rattle.park_text.specs.Word.{meaningNamed, isNumberByte, numberLength, threeDecimals, isSmall, isPoint, valueFor, noUnit, readNumber, isMinusSign, has, readValue, named, alone, readNamed, isRecord, readWord};
 use crate::park_lines::first_bytes;
 use crate::units::Named;
 use crate::units::Unit;
@@ -22,7 +22,12 @@ use fields::fields::TEMPERATURE;
 
 // What is wrong with a word, in the order of the checks of one word.
 pub enum Problem {
-    // a name without `=`, with its meaning
+    // `record=` among other words
+    RecordBeside,
+    // `record=` without an even number of hex digits behind it
+    NotARecord,
+    RecordTooLong,
+    // a name without `=`, with its meaning, or MEANINGS for `record`
     NameAlone(usize),
     // a name before the `=` that is none, or no `=`
     UnknownWord,
@@ -206,10 +211,9 @@ fn alone(meaning: usize) -> Word
     Word::Wrong(Problem::NameAlone(meaning))
 }
 
-// One word: a name, `=`, a number and, where it is not the reading's own, its unit. The word is left as it
-// was.
-pub fn read_word(word: &[u8]) -> Word
-    ensures { λ r. ⌜ r ≡ readWord (now (word .entry)) ⌝ }
+// A name, `=`, a number and, where it is not the reading's own, its unit. The word is left as it was.
+fn read_named(word: &[u8]) -> Word
+    ensures { λ r. ⌜ r ≡ readNamed (now (word .entry)) ⌝ }
     ensures kept { λ _. ⌜ now (word .exit) ≡ now (word .entry) ⌝ }
 {
     let at = find(word, 0, word.len(), b'=');
@@ -222,4 +226,26 @@ pub fn read_word(word: &[u8]) -> Word
     }
     let after = at + 1;
     read_value(meaning, &word[after..])
+}
+
+// Whether a word begins with `record=`. It is left as it was.
+pub(crate) fn is_record(word: &[u8]) -> bool
+    ensures answered { λ r. ⌜ r ≡ isRecord (now (word .entry)) ⌝ }
+    ensures kept { λ _. ⌜ now (word .exit) ≡ now (word .entry) ⌝ }
+{
+    check::same(first_bytes(word, 7), b"record=")
+}
+
+// One word among others, or the only one that is no record. It is left as it was.
+pub fn read_word(word: &[u8]) -> Word
+    ensures { λ r. ⌜ r ≡ readWord (now (word .entry)) ⌝ }
+    ensures kept { λ _. ⌜ now (word .exit) ≡ now (word .entry) ⌝ }
+{
+    if is_record(word) {
+        return Word::Wrong(Problem::RecordBeside);
+    }
+    if check::same(word, b"record") {
+        return Word::Wrong(Problem::NameAlone(MEANINGS));
+    }
+    read_named(word)
 }

@@ -53,6 +53,7 @@ use Rattle.roots.proofs.Entry as entry
 use Rattle.antilog.proofs.HowNear as near
 use Rattle.exact.proofs.FunctionsNear as functions
 use Rattle.park_text.proofs.Tied as tied
+use Rattle.park_text.proofs.Kept as kept
 use Rattle.antilog.proofs.NearestRoot as root
 use Rattle.text.proofs.Samples as text
 use Rattle.decimals.proofs.Samples as rounded
@@ -385,6 +386,7 @@ at-the-park = record {
   word-is-reading = λ ws r e. tied.typed-is-judged ws r e .isReading;
   no-other = λ ws r e. tied.typed-is-judged ws r e .wasTyped;
   record-judged = λ ws r e. tied.typed-is-judged ws r e .isJudged;
+  typed-count-kept = kept.count-kept;
   notes-are-lines = λ point r f. unfold noteLines in exactly.exactly (notes point r f) .text;
   note-has-its-row = λ point r f. exactly.exactly (notes point r f) .because;
   row-has-its-note = λ point r f. exactly.exactly (notes point r f) .wherever;

@@ -97,9 +97,12 @@ use Rattle.report.specs.Report.{reportText}
 use Rattle.decimals.specs.Typed.{typed}
 use Rattle.decimals.specs.declared.typed.Typed.the-variants as typed-as
 use Rattle.arithmetic.specs.Decimals.{decimal, nought, hundred, fraction}
-use Rattle.park_text.specs.Understood.{given, understand}
+use Rattle.park_text.specs.Understood.{given, understand, valueOf}
+use Rattle.park_text.specs.Units.{readingIn}
 use Rattle.park_text.specs.Laws.{Nearest, Typed}
 use Rattle.park_text.specs.declared.units.Unit.{Unit as TypedUnit}
+use Rattle.park_text.specs.declared.units.Unit.the-variants.{Plain}
+use Rattle.fields.specs.declared.fields.Value.the-variants as value-as
 use Rattle.park_text.specs.Word.{Says}
 use Rattle.arithmetic.specs.Operators.{_⊖_, _⊘_}
 use Rattle.humid_air.specs.MoistAir.{icePoint, capped, airDensityAt}
@@ -535,6 +538,8 @@ pub record AtThePark : Type 0 where
   pub word-is-reading : (ws : List (List ℕ)) (r : Readings) → understand ws ≡ given r → (w : List ℕ) (m : ℕ) (u : TypedUnit) (d : List ℕ) → List·Memᴰ w ws → Says w m u d → Nearest r m u d
   pub no-other : (ws : List (List ℕ)) (r : Readings) → understand ws ≡ given r → (m : ℕ) (x : Float) → entryOf r m ≡ Present x → Typed ws m
   pub record-judged : (ws : List (List ℕ)) (r : Readings) → understand ws ≡ given r → judge (recordOf r) ≡ judged r
+  -- a number in a reading's own unit is kept as its count, so that the record has the digits that were typed
+  pub typed-count-kept : (d : List ℕ) (n : ℤ) → typed 3 d ≡ typed-as.Count n → valueOf (readingIn Plain n) ≡ value-as.Count (twosComplement n)
   -- what a report notes is the lines of the rows that hold: a line is printed exactly if a row with it holds
   pub notes-are-lines : (point : Bool) (r : Readings) (f : Figures) → noteLines point r f ≡ noted.joined (noted.lines (notes point r f))
   pub note-has-its-row : (point : Bool) (r : Readings) (f : Figures) (l : List ℕ) → List·Memᴰ l (noted.lines (notes point r f)) → noted.Holds (notes point r f) l

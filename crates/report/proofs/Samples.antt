@@ -24,7 +24,7 @@ use Rattle.trim.specs.InOrder.{changesFrom, changes, firstOf}
 use Rattle.trim.specs.Search.{nextFrom, nextWith, nextOf}
 use Rattle.pages.specs.Characters.{refusalLine, hex}
 use Rattle.atmosphere.specs.Plausibility.{plausibility}
-use Rattle.notes.specs.Words.{shown}
+use Rattle.decimals.specs.Shown.{shown}
 use Rattle.notes.specs.Given.{givenBy, pressureGiven}
 use Rattle.notes.specs.Used.{isTemperatureDefault, isPressureDefault, temperatureDefault, pressureDefault, absentNotes, usedNotes}
 use Rattle.notes.specs.Pressures.{isPlausible, reducedGiven, meantNotes, resolvedAs, unitNotes, notesBeside}

@@ -21,28 +21,16 @@ use refusal::number;
 fn put_reading(page: &mut [u8], at: usize, meaning: usize) -> usize
     ensures { λ r. ⌜ Appended (now (page .entry)) at (readingLine meaning) (now (page .exit)) r ⌝ }
 {
-    if meaning == ALTITUDE {
-        return put(page, at, b"reading: altitude\n");
+    match meaning {
+        ALTITUDE => put(page, at, b"reading: altitude\n"),
+        TEMPERATURE => put(page, at, b"reading: temperature\n"),
+        STATION_PRESSURE => put(page, at, b"reading: station pressure\n"),
+        QNH => put(page, at, b"reading: QNH\n"),
+        HUMIDITY => put(page, at, b"reading: humidity\n"),
+        DENSITY_ALTITUDE => put(page, at, b"reading: density altitude\n"),
+        MEASURED_PRESSURE => put(page, at, b"reading: measured pressure\n"),
+        _ => at,
     }
-    if meaning == TEMPERATURE {
-        return put(page, at, b"reading: temperature\n");
-    }
-    if meaning == STATION_PRESSURE {
-        return put(page, at, b"reading: station pressure\n");
-    }
-    if meaning == QNH {
-        return put(page, at, b"reading: QNH\n");
-    }
-    if meaning == HUMIDITY {
-        return put(page, at, b"reading: humidity\n");
-    }
-    if meaning == DENSITY_ALTITUDE {
-        return put(page, at, b"reading: density altitude\n");
-    }
-    if meaning == MEASURED_PRESSURE {
-        return put(page, at, b"reading: measured pressure\n");
-    }
-    at
 }
 
 fn put_cause_of(page: &mut [u8], at: usize, number: u8) -> usize

@@ -1,5 +1,5 @@
 -- How long the sheet of any readings is at most. Assumes nothing.
-use Rattle.arithmetic.proofs.Kit.{_≡_, refl, Bool, true, false, cond, List, [], _++_, ℕ, zero, suc, _+_, _-_, _*_, _≤_, arith, ltb-false, ltb, lit≤, Float, ofBits, length, take, drop, length-take, length-drop}
+use Rattle.arithmetic.proofs.Kit.{false, List, [], ℕ, zero, suc, _+_, _*_, _≤_, arith, ltb, lit≤, Float, ofBits, length, take, drop, length-take, length-drop}
 use Rattle.refusal.specs.Outcomes.{Outcome, accepted, refused}
 use Rattle.record.specs.declared.entries.Readings.{Readings}
 use Rattle.fields.specs.Fields.{stationPressure, qnh, measuredPressure}
@@ -19,25 +19,21 @@ use Rattle.mast.specs.Checks.{has}
 use Rattle.trim.specs.Classes.{classDensities, trimClass}
 use Rattle.sheet.specs.Sheet.{celsiusOfRow, settingSheet}
 use Rattle.arithmetic.specs.Ascii.{ascii}
+use Rattle.decimals.specs.Shown.{shown}
+use Rattle.decimals.proofs.Places.{sixteen, shown-short}
 use Rattle.pages.proofs.Short.{Within, whole, both, either, number-short, refusal-short}
 use Rattle.report.specs.declared.Origin.the-variants.{Words}
 use Rattle.report.proofs.AdviceShort.{cause-short}
-use Rattle.sheet_text.proofs.Places.{sixteen}
 use Rattle.sheet_text.specs.Rows.{rowDensity, refusedRow, firstBelow}
-use Rattle.sheet_text.specs.Lines.{readingPlaces, headingLine, shown, mastLine, sourceLine, doubtLine, pressureWords, heading, rowLine, rowLines, degreePlaces, limitWords, limitPart, limitOf, limitLine, limitLines}
+use Rattle.sheet_text.specs.Lines.{readingPlaces, headingLine, mastLine, sourceLine, doubtLine, pressureWords, heading, rowLine, rowLines, degreePlaces, limitWords, limitPart, limitOf, limitLine, limitLines}
 use Rattle.sheet_text.specs.SheetText.{rowOf, refusedSheet, pinned, sheetPage, pressureFor, sheetAt, takesOther, isWanting, sheetOnly, sheetNeeds, sheetOf}
 
 -- ---- a decimal text
 sixteen-short : (t : List ℕ) → Within (inSixteen t .bytes) 16
 sixteen-short t = record { bound = omega (arith, sixteen t) }
 
-shown-short : (k : ℕ) (x : Float) → Within (shown k x) 16
-unfolding shown
-shown-short k x = record { bound = go (ltb 16 (length (decimalText k x))) refl }
-  where
-    go : (b : Bool) → ltb 16 (length (decimalText k x)) ≡ b → length (cond b (ascii "too wide") (decimalText k x)) ≤ 16
-    go true e = lit≤ tt
-    go false e = ltb-false 16 (length (decimalText k x)) e
+shown-within : (k : ℕ) (x : Float) → Within (shown k x) 16
+shown-within k x = record { bound = shown-short k x }
 
 -- ---- the heading
 reading-short : (name : List ℕ) (x : Float) (unit : List ℕ) → Within (headingLine name x unit) (length name + 16 + length unit)
@@ -51,7 +47,7 @@ mast-short FromLayer = lit≤ tt
 source-short : (r : Readings) (x : Reading) → Within (sourceLine r x) 58
 unfolding sourceLine
 source-short r x =
-    let from = both (both (whole (ascii ", from the QNH ")) (shown-short 3 (valueOrZero (entryOf r qnh)))) (whole (ascii " hPa")) in
+    let from = both (both (whole (ascii ", from the QNH ")) (shown-within 3 (valueOrZero (entryOf r qnh)))) (whole (ascii " hPa")) in
     record { bound = either (has r measuredPressure) _ _ (lit≤ tt) (either (has r stationPressure) _ _ (mast-short x) (omega (arith, from .bound))) }
 
 doubt-short : (h p : Float) → Within (doubtLine h p) 31
@@ -114,7 +110,7 @@ limits-short h p u = both (line-short h p u 5 4 3 (lit≤ tt) (lit≤ tt) (lit�
 refused-short : (h p u : Float) (n : ℕ) → Within (refusedSheet h p u n) 271
 unfolding refusedSheet rowOf
 refused-short h p u n =
-    let named = both (both (whole (ascii "row: ")) (shown-short 1 (celsiusOfRow (refusedRow h p u)))) (whole (ascii " C\n")) in
+    let named = both (both (whole (ascii "row: ")) (shown-within 1 (celsiusOfRow (refusedRow h p u)))) (whole (ascii " C\n")) in
     let row : Within (rowOf h p u n) 24 = record { bound = either (ltb 13 n) _ [] (named .bound) (lit≤ tt) } in
     both (both (refusal-short n) row) (cause-short (Words false) n)
 

@@ -5,7 +5,7 @@ use mathlib.Core.Bool.{cond}
 use mathlib.Core.List.{List, [], _++_}
 use lib.Dec.{ltb}
 use lib.Ieee.{Float}
-use lib.ListN.{length, getD, take, drop}
+use lib.ListN.{getD, take, drop}
 use Rattle.arithmetic.specs.Ascii.{ascii}
 use Rattle.arithmetic.specs.Decimals.{nought, hundred}
 use Rattle.arithmetic.specs.Operators.{_⊗_}
@@ -22,6 +22,7 @@ use Rattle.mast.specs.Checks.{has}
 use Rattle.trim.specs.Classes.{classDensities, trimClass}
 use Rattle.sheet.specs.Sheet.{celsiusOfRow}
 use Rattle.pages.specs.Characters.{numberText}
+use Rattle.decimals.specs.Shown.{shown}
 use Rattle.sheet_text.specs.Rows.{rowDensity, firstBelow}
 
 -- ---- the heading
@@ -31,10 +32,6 @@ readingPlaces x = inSixteen (decimalText 3 x) .bytes
 
 unfoldable pub headingLine : List ℕ → Float → List ℕ → List ℕ
 headingLine name x unit = name ++ readingPlaces x ++ unit
-
--- with k decimals, without blanks before it
-unfoldable pub shown : ℕ → Float → List ℕ
-shown k x = cond (ltb 16 (length (decimalText k x))) (ascii "too wide") (decimalText k x)
 
 -- where the pressure comes from; that of a mast by what it resolves to
 abbrev pub mastLine : Reading → List ℕ

@@ -20,10 +20,11 @@ use Rattle.mast.specs.Checks.{has}
 use Rattle.sheet.specs.Sheet.{celsiusOfRow, settingSheet}
 use Rattle.arithmetic.specs.Ascii.{ascii}
 use Rattle.pages.specs.Characters.{refusalLine}
+use Rattle.decimals.specs.Shown.{shown}
 use Rattle.report.specs.declared.Origin.the-variants.{Words}
 use Rattle.report.specs.Advice.{causeLines}
 use Rattle.sheet_text.specs.Rows.{refusedRow}
-use Rattle.sheet_text.specs.Lines.{shown, heading, rowLines, limitLines}
+use Rattle.sheet_text.specs.Lines.{heading, rowLines, limitLines}
 
 -- ---- a sheet that is refused: by its inputs, 11 to 13, or by a row
 unfoldable pub rowOf : Float → Float → Float → ℕ → List ℕ

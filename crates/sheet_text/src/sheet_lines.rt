@@ -1,14 +1,16 @@
 // The lines of a sheet to pin up: the heading, the rows with their trim class, and the limits.
 ghost use mathlib.Core.Path.{_≡_};
-ghost use Prim.Native.Nat.{_-_, _≤_};
-ghost use lib.ListN.{length, take, drop};
+ghost use Prim.Native.Nat.{_≤_};
+ghost use lib.ListN.{length};
 ghost use Rattle.pages.specs.Pages.{Appended};
-ghost use Rattle.sheet_text.specs.Lines.{readingPlaces, headingLine, shown, mastLine, sourceLine, doubtLine, pressureWords, heading, rowLine, rowLines, degreePlaces, limitPart, limitLine, limitLines};
+ghost use Rattle.sheet_text.specs.Lines.{readingPlaces, headingLine, mastLine, sourceLine, doubtLine, pressureWords, heading, rowLine, rowLines, degreePlaces, limitPart, limitLine, limitLines};
 use crate::rows::celsius;
 use crate::rows::first_below;
 use crate::rows::row_density;
 use atmosphere::given::Reading;
 use atmosphere::plausibility::station_pressure_plausibility;
+use decimals::figures::put_last;
+use decimals::figures::put_shown;
 use decimals::shown::decimal_text;
 use fields::fields::MEASURED_PRESSURE;
 use fields::fields::QNH;
@@ -36,26 +38,6 @@ fn put_reading(page: &mut [u8], at: usize, name: &[u8], x: f64, unit: &[u8]) -> 
     let named = put(page, at, name);
     let read = put_places(page, named, x);
     put(page, read, unit)
-}
-
-fn put_part(page: &mut [u8], at: usize, places: &[u8; 16], start: usize) -> usize
-    requires { ⌜ start ≤ 16 ⌝ }
-    ensures { λ r. ⌜ Appended (now (page .entry)) at (take (16 - start) (drop start (now (places .entry)))) (now (page .exit)) r ⌝ }
-{
-    let all = &places[..];
-    put(page, at, &all[start..16])
-}
-
-pub(crate) fn put_shown(page: &mut [u8], at: usize, x: f64, decimals: u32) -> usize
-    ensures { λ r. ⌜ Appended (now (page .entry)) at (shown decimals x) (now (page .exit)) r ⌝ }
-{
-    let text = decimal_text(x, decimals);
-    let len = text.len;
-    if len > 16 {
-        return put(page, at, b"too wide");
-    }
-    let places = text.bytes;
-    put_part(page, at, &places, 16 - len)
 }
 
 fn put_mast(page: &mut [u8], at: usize, resolved: Reading) -> usize
@@ -179,7 +161,7 @@ fn put_degrees(page: &mut [u8], at: usize, n: u32) -> usize
     }
     let text = decimal_text(celsius(n), 0);
     let places = text.bytes;
-    put_part(page, at, &places, 11)
+    put_last(page, at, &places, 5)
 }
 
 fn put_limit(

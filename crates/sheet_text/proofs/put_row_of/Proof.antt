@@ -2,7 +2,7 @@
 use Rattle.arithmetic.proofs.Kit.{ap, _∙_, arith, ltb, le-ltb, lt-ltb, needs}
 use Rattle.pages.proofs.Growing.{no-more, and-then, same-more}
 use Rattle.sheet.specs.Sheet.{celsiusOfRow}
-use Rattle.sheet_text.specs.Lines.{shown}
+use Rattle.decimals.specs.Shown.{shown}
 use Rattle.sheet_text.specs.SheetText.{rowOf}
 use Rattle.sheet_text.proofs.put_row_of.Statement.{statement}
 use Rattle.sheet_text.proofs.put_row_of.Tie as tie

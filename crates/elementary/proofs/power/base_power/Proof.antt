@@ -1,7 +1,7 @@
 -- `elementary::power::base_power` meets its contract, kind by kind of a double. Assumes nothing.
 use Rattle.arithmetic.proofs.Kit.{_≡_, refl, sym, ap, _∙_, subst, Bool, cond, ℕ, _≤_, _<_, needs, ltb, le→nltb, Float, nan, ofBits, div, is-false}
 use Rattle.arithmetic.specs.declared.double.Parts.{Parts}
-use Rattle.elementary.specs.Base.{LoggedParts}
+use Rattle.elementary.specs.Base.{NearedParts}
 use Rattle.elementary.specs.Exponents.{exponentAt}
 use Rattle.arithmetic.specs.Parts.{fromParts, TakenApart}
 use Rattle.elementary.specs.Power.{power, powerAt}
@@ -53,7 +53,7 @@ finite-power-requires c κs =
     let known = c .before in
     let start = known .before .before .before .before in
     let e = known .parts3 .given .1 in
-    ((told (start .pre .apart) e .within, subst (LoggedParts (start .args .base .log)) e (start .pre .logged)), known .before .before .before .if1 .left)
+    ((told (start .pre .apart) e .within, subst (NearedParts (start .args .base .near)) e (start .pre .neared)), known .before .before .before .if1 .left)
 
 pub base-power-spec : {M : Type 1} → statement M
 base-power-spec =

@@ -1,66 +1,62 @@
--- `lines::decimal::put_shown` meets its contract: a text stands at the right of its sixteen places. Assumes nothing.
-use Rattle.arithmetic.proofs.Kit.{_≡_, refl, sym, ap, _∙_, Bool, true, false, cond, _||_, List, _++_, ℕ, _-_, _≤_, _<_, arith, ltb-true, ltb-false, eq-eqb, ne-eqb, ltb, eqb, length, take, drop, replicate, length-replicate, take-length, needs}
-use lib.Seq.{drop-at}
+-- `lines::decimal::put_shown` meets its contract. Assumes nothing.
+use Rattle.arithmetic.proofs.Kit.{_≡_, refl, sym, ap, _∙_, Bool, true, false, true≢false, _||_, List, _++_, ℕ, _≤_, arith, ltb-true, ltb-false, ne-eqb, ltb, eqb, length, needs}
 use Rattle.arithmetic.specs.Ascii.{ascii}
 use Rattle.pages.proofs.Growing.{and-then, same-more}
+use Rattle.decimals.proofs.Places.{too-long, its-length, its-text}
 use Rattle.decimals.specs.declared.shown.DecimalText.{DecimalText}
 use Rattle.decimals.specs.Decimal.{decimalText}
-use Rattle.decimals.specs.Places.{tooLong, standing, inSixteen}
+use Rattle.decimals.specs.Places.{inSixteen}
 use Rattle.lines.specs.Decimal.{shownLine}
 use Rattle.lines.proofs.decimal.put_shown.Statement.{statement}
 use Rattle.lines.proofs.decimal.put_shown.Tie as tie
 
--- by whether the text is too long
-module _ (r : DecimalText) (t : List ℕ) (is : r ≡ inSixteen t) where
-  by-length : (b : Bool) → ltb 16 (length t) ≡ b → r ≡ cond b tooLong (standing t)
-  unfolding inSixteen
-  by-length b e = is ∙ ap (λ (x : Bool). cond x tooLong (standing t)) e
+-- no text, or one of more than sixteen bytes
+abbrev none : ℕ → Bool
+none n = eqb n 0 || ltb 16 n
 
-  none-shown : r .len ≡ 0 → ascii "none\n" ≡ shownLine t
-  unfolding shownLine
-  none-shown h = go (ltb 16 (length t)) refl
-    where
-      go : (b : Bool) → ltb 16 (length t) ≡ b → ascii "none\n" ≡ cond (eqb (length t) 0 || ltb 16 (length t)) (ascii "none\n") (t ++ ascii "\n")
-      go true e = let seventeen : r .len ≡ 17 = ap (λ (x : DecimalText). x .len) (by-length true e) in absurd (omega arith)
-      go false e = let none : length t ≡ 0 = sym (ap (λ (x : DecimalText). x .len) (by-length false e)) ∙ h in rw (eq-eqb (length t) 0 none)
+long : (n : ℕ) → ltb 16 n ≡ true → none n ≡ true
+long n e = rw (ne-eqb n 0 (λ z. omega (arith, ltb-true 16 n e)), e)
 
-  too-wide : 16 < r .len → ascii "none\n" ≡ shownLine t
-  unfolding shownLine
-  too-wide h = go (ltb 16 (length t)) refl
-    where
-      go : (b : Bool) → ltb 16 (length t) ≡ b → ascii "none\n" ≡ cond (eqb (length t) 0 || ltb 16 (length t)) (ascii "none\n") (t ++ ascii "\n")
-      go true e = rw (ne-eqb (length t) 0 (λ z. omega (arith, ltb-true 16 (length t) e)), e)
-      go false e = let same : r .len ≡ length t = ap (λ (x : DecimalText). x .len) (by-length false e) in absurd (omega (arith, ltb-false 16 (length t) e))
+few : (n : ℕ) → none n ≡ false → n ≤ 16
+few n e = go (ltb 16 n) refl
+  where
+    go : (b : Bool) → ltb 16 n ≡ b → n ≤ 16
+    go false t = ltb-false 16 n t
+    go true t = absurd (true≢false (sym (long n t) ∙ e))
 
-  shown : (r .len ≡ 0 → ⊥) → r .len ≤ 16 → take (16 - (16 - r .len)) (drop (16 - r .len) (r .bytes)) ++ ascii "\n" ≡ shownLine t
-  unfolding shownLine
-  shown some few = go (ltb 16 (length t)) refl
+module _ (t : List ℕ) {r : DecimalText} (is : r ≡ inSixteen t) where
+  tested : none (r .len) ≡ none (length t)
+  tested = go (ltb 16 (r .len)) refl
     where
-      go : (b : Bool) → ltb 16 (length t) ≡ b
-          → take (16 - (16 - r .len)) (drop (16 - r .len) (r .bytes)) ++ ascii "\n" ≡ cond (eqb (length t) 0 || ltb 16 (length t)) (ascii "none\n") (t ++ ascii "\n")
-      go true e = let seventeen : r .len ≡ 17 = ap (λ (x : DecimalText). x .len) (by-length true e) in absurd (omega arith)
-      go false e =
-          let stands = by-length false e in
-          let same : r .len ≡ length t = ap (λ (x : DecimalText). x .len) stands in
-          let within : length t ≤ 16 = ltb-false 16 (length t) e in
-          let size : 16 - (16 - length t) ≡ length t = omega arith in
-          let text : take (16 - (16 - length t)) (drop (16 - length t) (replicate (16 - length t) 32 ++ t)) ≡ t =
-          rw (drop-at (replicate (16 - length t) 32) t (16 - length t) (length-replicate (16 - length t) 32), size) (take-length t) in
-          rw (ne-eqb (length t) 0 (λ z. some (same ∙ z)), e)
-          (ap (λ (x : DecimalText). take (16 - (16 - x .len)) (drop (16 - x .len) (x .bytes)) ++ ascii "\n") stands ∙ ap (λ (l : List ℕ). l ++ ascii "\n") text)
+      go : (b : Bool) → ltb 16 (r .len) ≡ b → none (r .len) ≡ none (length t)
+      go true e = long (r .len) e ∙ sym (long (length t) (too-long t is (ltb-true 16 (r .len) e)))
+      go false e = ap none (its-length t is (ltb-false 16 (r .len) e))
+
+  none-shown : none (r .len) ≡ true → ascii "none\n" ≡ shownLine t
+  unfolding shownLine
+  none-shown e = rw (sym tested ∙ e)
+
+  shown : none (r .len) ≡ false → t ++ ascii "\n" ≡ shownLine t
+  unfolding shownLine
+  shown e = rw (sym tested ∙ e)
 
 returns : tie.Need-returns
-returns c = same-more (none-shown (c .before .before .before .before .before .before .decimal-text .result) (decimalText (c .before .before .before .before .before .before .before .before .args .decimals) (c .before .before .before .before .before .before .before .before .args .x)) (c .before .before .before .before .before .before .decimal-text .ensures) (c .before .before .before .before .before .if1 .taken)) (c .before .before .put .ensures .0)
+returns c =
+    let test = c .before .before .before .before .before in
+    let a = test .before .before .before .args in
+    same-more (none-shown (decimalText (a .decimals) (a .x)) (test .before .decimal-text .ensures) (test .if1 .taken)) (c .before .before .put .ensures .0)
 
 returns-2 : tie.Need-returns-2
-returns-2 c = same-more (too-wide (c .before .before .before .before .before .before .before .decimal-text .result) (decimalText (c .before .before .before .before .before .before .before .before .before .args .decimals) (c .before .before .before .before .before .before .before .before .before .args .x)) (c .before .before .before .before .before .before .before .decimal-text .ensures) (c .before .before .before .before .before .if2 .taken)) (c .before .before .put2 .ensures .0)
-
-returns-3 : tie.Need-returns-3
-returns-3 c =
-    same-more (shown (c .before .before .before .before .before .before .before .before .before .before .before .before .before .decimal-text .result) (decimalText (c .before .before .before .before .before .before .before .before .before .before .before .before .before .before .before .args .decimals) (c .before .before .before .before .before .before .before .before .before .before .before .before .before .before .before .args .x)) (c .before .before .before .before .before .before .before .before .before .before .before .before .before .decimal-text .ensures) (c .before .before .before .before .before .before .before .before .before .before .before .before .if1 .left) (c .before .before .before .before .before .before .before .before .before .before .before .if2 .left))
-    (and-then (c .before .before .before .before .before .before .before .put-part .ensures) (c .before .before .put3 .ensures .0))
+returns-2 c =
+    let last = c .before .before .before .before .before .before .before in
+    let test = last .before .before .before .before in
+    let a = test .before .before .before .args in
+    let t = decimalText (a .decimals) (a .x) in
+    let is = test .before .decimal-text .ensures in
+    same-more (shown t is (test .if1 .left))
+    (and-then (same-more (its-text t is (few _ (test .if1 .left))) (last .put-last .ensures)) (c .before .before .put2 .ensures .0))
 
 pub put-shown-spec : {M : Type 1} → statement M
 put-shown-spec =
-    tie.close (tie.spec (λ c κs. search needs) (λ c. search needs) (λ c κs. search needs) (λ c. search needs) returns (λ c. search needs) (λ c κs. search needs)
-    (λ c. search needs) returns-2 (λ c κs. search needs) (λ c. search needs) (λ c κs. search needs) (λ c. search needs) returns-3)
+    tie.close (tie.spec (λ c κs. search needs) (λ c. search needs) (λ c κs. search needs) (λ c. search needs) returns (λ c κs. search needs) (λ c. search needs)
+    (λ c κs. search needs) (λ c. search needs) returns-2)

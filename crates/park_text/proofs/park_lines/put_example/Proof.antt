@@ -9,8 +9,8 @@ use Rattle.park_text.proofs.park_lines.put_example.Tie as tie
 next : {k m : ℕ} → k ≤ m → (m ≡ k → ⊥) → suc k ≤ m
 next h other = omega arith
 
-past : (m : ℕ) → 7 ≤ m → getD examples m [] ≡ []
-past m h = ap (λ (k : ℕ). getD examples k []) {x = m} {y = suc (suc (suc (suc (suc (suc (suc (m - 7)))))))} (omega arith)
+past : (m : ℕ) → 8 ≤ m → getD examples m [] ≡ []
+past m h = ap (λ (k : ℕ). getD examples k []) {x = m} {y = suc (suc (suc (suc (suc (suc (suc (suc (m - 8))))))))} (omega arith)
 
 returns : tie.Need-returns
 unfolding exampleOf
@@ -50,12 +50,27 @@ returns-7 c =
 returns-8 : tie.Need-returns-8
 unfolding exampleOf
 returns-8 c =
-    let m : ℕ = c .before .before .before .before .before .before .before .before .args .meaning in
-    same-more (sym (past m (next (next (next (next (next (next (next zero-le (c .before .before .before .before .before .before .if1 .left)) (c .before .before .before .before .before .if2 .left)) (c .before .before .before .before .if3 .left)) (c .before .before .before .if4 .left)) (c .before .before .if5 .left)) (c .before .if6 .left)) (c .if7 .left)))) (no-more (c .before .before .before .before .before .before .before .before .args .page .now) (c .before .before .before .before .before .before .before .before .args .at))
+    same-more (ap (λ (m : ℕ). getD examples m []) (sym (c .before .before .before .before .before .if8 .taken))) (c .before .before .put8 .ensures .0)
+
+returns-9 : tie.Need-returns-9
+unfolding exampleOf
+returns-9 c =
+    let t7 = c .before in
+    let t6 = t7 .before in
+    let t5 = t6 .before in
+    let t4 = t5 .before in
+    let t3 = t4 .before in
+    let t2 = t3 .before in
+    let t1 = t2 .before in
+    let a = t1 .before .before .args in
+    let first = next (next (next (next zero-le (t1 .if1 .left)) (t2 .if2 .left)) (t3 .if3 .left)) (t4 .if4 .left) in
+    let all = next (next (next (next first (t5 .if5 .left)) (t6 .if6 .left)) (t7 .if7 .left)) (c .if8 .left) in
+    same-more (sym (past (a .meaning) all)) (no-more (a .page .now) (a .at))
 
 pub put-example-spec : {M : Type 1} → statement M
 put-example-spec =
     tie.close (tie.spec (λ c. search needs) (λ c κs. search needs) (λ c. search needs) returns (λ c. search needs) (λ c κs. search needs)
     (λ c. search needs) returns-2 (λ c. search needs) (λ c κs. search needs) (λ c. search needs) returns-3 (λ c. search needs) (λ c κs. search needs)
     (λ c. search needs) returns-4 (λ c. search needs) (λ c κs. search needs) (λ c. search needs) returns-5 (λ c. search needs) (λ c κs. search needs)
-    (λ c. search needs) returns-6 (λ c. search needs) (λ c κs. search needs) (λ c. search needs) returns-7 returns-8)
+    (λ c. search needs) returns-6 (λ c. search needs) (λ c κs. search needs) (λ c. search needs) returns-7 (λ c. search needs) (λ c κs. search needs)
+    (λ c. search needs) returns-8 returns-9)

@@ -1,12 +1,10 @@
 -- `sheet_text::sheet_lines::put_degrees` meets its contract. Assumes nothing.
-use Rattle.arithmetic.proofs.Kit.{_≡_, ap, _∙_, ℕ, _-_, _<_, _≤_, arith, le-ltb, lt-ltb, ltb, List, take, drop, take-all, length, length-drop, Float, needs}
+use Rattle.arithmetic.proofs.Kit.{ap, _∙_, arith, le-ltb, lt-ltb, drop, Float, needs}
 use Rattle.decimals.specs.declared.shown.DecimalText.{DecimalText}
 use Rattle.decimals.specs.Decimal.{decimalText}
 use Rattle.decimals.specs.Places.{inSixteen}
-use Rattle.sheet.specs.Sheet.{celsiusOfRow}
 use Rattle.pages.proofs.Growing.{same-more}
 use Rattle.sheet_text.specs.Lines.{degreePlaces}
-use Rattle.sheet_text.proofs.Places.{sixteen}
 use Rattle.sheet_text.proofs.sheet_lines.put_degrees.Statement.{statement}
 use Rattle.sheet_text.proofs.sheet_lines.put_degrees.Tie as tie
 
@@ -24,13 +22,9 @@ returns-2 c =
     let text = put .before .before .before .before in
     let test = text .before .before in
     let n = test .before .before .args .n in
-    let places = inSixteen (decimalText 0 (celsiusOfRow n)) .bytes in
     let same = text .decimal-text .ensures ∙ ap (λ (x : Float). inSixteen (decimalText 0 x)) (text .before .celsius .ensures) in
     rw (lt-ltb n 51 (omega (arith, test .if1 .left)))
-    (same-more
-    (ap (λ (t : DecimalText). take 5 (drop 11 (t .bytes))) same
-    ∙ take-all 5 (drop 11 places) (omega (arith, length-drop 11 places, sixteen (decimalText 0 (celsiusOfRow n)))))
-    (put .put-part .ensures))
+    (same-more (ap (λ (t : DecimalText). drop 11 (t .bytes)) same) (put .put-last .ensures))
 
 pub put-degrees-spec : {M : Type 1} → statement M
 put-degrees-spec =

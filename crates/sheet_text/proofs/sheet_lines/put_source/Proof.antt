@@ -3,7 +3,8 @@ use Rattle.arithmetic.proofs.Kit.{_≡_, sym, ap, _∙_, true, false, needs}
 use Rattle.record.specs.declared.entries.Entry.{Entry}
 use Rattle.record.specs.Entries.{isPresent, valueOrZero}
 use Rattle.pages.proofs.Growing.{and-then, same-more}
-use Rattle.sheet_text.specs.Lines.{shown, sourceLine}
+use Rattle.decimals.specs.Shown.{shown}
+use Rattle.sheet_text.specs.Lines.{sourceLine}
 use Rattle.sheet_text.proofs.sheet_lines.put_source.Statement.{statement}
 use Rattle.sheet_text.proofs.sheet_lines.put_source.Tie as tie
 
