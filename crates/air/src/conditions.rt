@@ -9,7 +9,7 @@ use atmosphere::given::Reading;
 use atmosphere::layers::{calculate_icao_standard_atmosphere, standard_temperature_k};
 
 // A temperature and a pressure, as the formulas take them and as they are shown.
-#[derive(Drop)]
+#[derive(Clone, Copy)]
 pub struct Conditions {
     pub temp_k: f64,
     pub pressure_pa: f64,
@@ -18,7 +18,7 @@ pub struct Conditions {
 }
 
 // Moist air, with the mole fraction of vapour that its density uses.
-#[derive(Drop)]
+#[derive(Clone, Copy)]
 pub struct Air {
     pub density_kg_m3: f64,
     pub speed_of_sound_mps: f64,

@@ -13,7 +13,7 @@ use atmosphere::given::Reading;
 // The temperature, degrees Celsius, and the pressure, hPa, that are shown of a station's readings, the air
 // of the readings, and of what is shown the mole fraction of vapour, uncapped, and the density-matched
 // altitude.
-#[derive(Drop)]
+#[derive(Clone, Copy)]
 pub struct AirFigures {
     pub shown_c: f64,
     pub shown_hpa: f64,

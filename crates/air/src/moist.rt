@@ -15,14 +15,14 @@ use humid_air::mixture::{
 };
 
 // A temperature, K, and the saturation pressure, hPa, that air of some humidity asks for there.
-#[derive(Drop)]
+#[derive(Clone, Copy)]
 pub struct Saturation {
     pub temp_k: f64,
     pub pressure_hpa: f64,
 }
 
 // A density, kg/m3, and the mole fraction of vapour that it uses.
-#[derive(Drop)]
+#[derive(Clone, Copy)]
 pub struct MoistDensity {
     pub density_kg_m3: f64,
     pub vapor_mole_fraction: f64,

@@ -1,5 +1,5 @@
 -- An estimate moved, and the log bits of a mantissa between bits whose powers of 2 are known to lie below and above it. Assumes nothing.
-use Rattle.arithmetic.proofs.Kit.{◌≡◌, refl, sym, ap, ap₂, ◌∙◌, subst, subst₂, ℕ, suc, ◌+◌, ◌-◌, ◌*◌, ◌/◌, ◌%◌, ◌^◌, ◌≤◌, ◌<◌, le_trans, le_of_eq, le_of_lt, lt_of_lt_of_le, lt_of_le_of_lt, ne_of_gt, add-mul, mul-add, mul_comm, mul-le-mul, mul-le-mul_right, mul-lt-mul_of_pos_right, div-add-mod', div-mul-le_self, mod-lt, pow-le-pow_left, pow-lt-pow_left, arith, lit<, lit≤, pow_pos, pow-add}
+use Rattle.arithmetic.proofs.Kit.{◌≡◌, refl, sym, ap, ap₂, ◌∙◌, subst₂, ℕ, ◌+◌, ◌*◌, ◌/◌, ◌^◌, ◌≤◌, ◌<◌, le_trans, le_of_lt, lt_of_lt_of_le, lt_of_le_of_lt, ne_of_gt, add-mul, mul-add, mul-le-mul, mul-le-mul_right, mul-lt-mul_of_pos_right, div-add-mod', div-mul-le_self, mod-lt, pow-le-pow_left, pow-lt-pow_left, arith, lit<, lit≤, pow_pos, pow-add}
 use Rattle.antilog.specs.Log.{log_bits}
 use Rattle.antilog.specs.Estimate.{moved}
 use Rattle.antilog.specs.Among.{WithinTwo}

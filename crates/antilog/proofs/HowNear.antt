@@ -10,21 +10,7 @@ use Rattle.arithmetic.proofs.Powers.{pow-product, pow-scaled}
 use Rattle.arithmetic.proofs.Order.{units-exact}
 use Rattle.arithmetic.proofs.Differences.{minus_plus}
 use Rattle.antilog.proofs.Distance.{antilog_root-below, antilog_root-above, NearLog, near_log}
-
--- "2 to the L is at most x to the 2^60, and that is less than 2 to the (L + 2)"
-pub record LogNear (places : ℕ) (x : Float) (L : ℤ) : Type 0 where
-  pub never_too_great : two_to_the L isAtMost exact_value x toThe (2 ^ places)
-  pub less_than_two_too_small : exact_value x toThe (2 ^ places) isBelow two_to_the (L +ℤ pos 2)
-
--- "Y to the 2^60 is at most 2 to the (62 × 2^60 + f), and that is less than (Y + 4) to the 2^60"
-pub record AntilogNear (places f Y : ℕ) : Type 0 where
-  pub never_too_great : Y ^ 2 ^ places ≤ 2 ^ (62 * 2 ^ places + f)
-  pub less_than_four_too_small : 2 ^ (62 * 2 ^ places + f) < (Y + 4) ^ 2 ^ places
-
--- of a positive finite x and its word, and of an antilog's fraction f and its Y
-pub record HowNear (places : ℕ) : Type 0 where
-  pub logarithm : (x : Float) → T (fits binary64 x) → T (positive x) → LogNear places x (log_word places x)
-  pub antilogarithm : (f : ℕ) → f < 2 ^ places → AntilogNear places f (antilog_root places f)
+pub use Rattle.antilog.proofs.HowNearStated.{LogNear, AntilogNear, HowNear}
 
 -- The numbers n / d = X / 2 ^ t and 2 ^ (u - w): the one to the power k compares with the other as X ^ k does with 2 ^ (u + t * k - w).
 module _ (n d X t k u w : ℕ) (some : 0 < d) (exact : n * 2 ^ t ≡ X * d) where
@@ -60,20 +46,20 @@ module _ (n d X t k u w : ℕ) (some : 0 < d) (exact : n * 2 ^ t ≡ X * d) wher
 
 -- of X units, which x is, whose word is L
 module _ (p X : ℕ) (x : Float) (exact : (exact_value x).over * 2 ^ 1074 ≡ X * (exact_value x).under) (some : 0 < (exact_value x).under) (L : ℤ) (near : NearLog p X L) where
-  word_below : two_to_the L isAtMost exact_value x toThe (2 ^ p)
+  word_below : two_to_the L is_at_most exact_value x to_the (2 ^ p)
   word_below =
       let k : ℕ = 2 ^ p in
       let w : ℕ = 1074 * k in
-      subst (λ (z : ℤ). two_to_the z isAtMost (exact_value x toThe k)) (sym near.word)
+      subst (λ (z : ℤ). two_to_the z is_at_most (exact_value x to_the k)) (sym near.word)
       (two-at_most (exact_value x).over (exact_value x).under X 1074 k near.biased w some exact (rw (pow-add 2 near.biased w) (mul-le-mul_right (2 ^ w) near.below)))
 
-  word-above : (units : ℕ) → 2 ≤ units → exact_value x toThe (2 ^ p) isBelow two_to_the (L +ℤ pos units)
+  word-above : (units : ℕ) → 2 ≤ units → exact_value x to_the (2 ^ p) is_below two_to_the (L +ℤ pos units)
   word-above units two =
       let k : ℕ = 2 ^ p in
       let w : ℕ = 1074 * k in
       let b : ℕ = near.biased in
       let less : X ^ k < 2 ^ (b + units) = lt_of_lt_of_le near.above (pow_mono {j = b + units} (omega arith)) in
-      subst (λ (z : ℤ). (exact_value x toThe k) isBelow two_to_the z) (sym (ap (λ (z : ℤ). z +ℤ pos units) near.word ∙ minus_plus b w units))
+      subst (λ (z : ℤ). (exact_value x to_the k) is_below two_to_the z) (sym (ap (λ (z : ℤ). z +ℤ pos units) near.word ∙ minus_plus b w units))
       (below_two (exact_value x).over (exact_value x).under X 1074 k (b + units) w some exact (rw (pow-add 2 (b + units) w) (mul-lt-mul_of_pos_right less (pow_pos w))))
 
 near_of-units : (p X : ℕ) (x : Float) → (exact_value x).over * 2 ^ 1074 ≡ X * (exact_value x).under → 0 < (exact_value x).under → (L : ℤ) → NearLog p X L → LogNear p x L
@@ -100,7 +86,7 @@ how_near p least most =
 -- ---- fewer units would be too few
 -- x = 3614860327554031 * 2 is the one case at 12 places, up to a power of two, and there is none at fewer. Of whole numbers the least is 15443 at 52 places and
 -- 43 at 60.
-pub log_needs_two : let x : Float = fin false 3614860327554031 (pos 1) in (exact_value x toThe (2 ^ 12) isBelow two_to_the (log_word 12 x +ℤ pos 1)) → ⊥
+pub log_needs_two : let x : Float = fin false 3614860327554031 (pos 1) in (exact_value x to_the (2 ^ 12) is_below two_to_the (log_word 12 x +ℤ pos 1)) → ⊥
 unfolding word_of_units fits
 log_needs_two h = not-le_of_lt h (lit≤ tt)
 

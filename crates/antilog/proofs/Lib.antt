@@ -2,6 +2,7 @@
 pub mod Range
 pub mod Monotone
 pub mod Distance
+pub mod HowNearStated
 pub mod HowNear
 pub mod LogDigits
 pub mod Ordered
@@ -11,6 +12,7 @@ mod Window
 mod Tested
 mod Nearly
 mod Entries
+mod Excluded
 pub mod Near
 pub mod Bracket
 pub mod NearestWhole

@@ -5,7 +5,7 @@ use lib.Pow.{field, mod-mod-pow}
 use Rattle.antilog.specs.Estimate.{entry_of, joined, excess_from, estimate}
 use Rattle.antilog.proofs.Tested.{Excess}
 use Rattle.antilog.proofs.Entries.{table_excesses, last, last-is, last_excess_lem}
-use Rattle.antilog.proofs.Nearly.{AtMost, AtLeast, times-at_most, times-at_least, more_at-most, more_at-least, multiples_at_most, multiples_at_least, half_at_most, half-at_least, below_64, excess-fits}
+use Rattle.antilog.proofs.Nearly.{AtMost, AtLeast, times-at_most, times-at_least, more-at_most, more-at_least, multiples_at_most, multiples_at_least, half_at_most, half-at_least, below_64, excess-fits}
 
 -- X is what 2 to the power x / 2^60 exceeds 1 by, in units of 2 ^ -s, and at most e too small
 record Within (s e x X : ℕ) : Type 0 where
@@ -114,8 +114,8 @@ module _ (f j : ℕ) (few : j < 8) where
       let places : 4 * j + 4 + q ≡ 60 = omega arith in
       let entry : Excess s (4 * j + 4) digit X = subst₂ (λ (i k : ℕ). Excess (64 + 4 * i) (4 * i + 4) k X) row column (table_excesses.entry (16 * j + digit) in_table) in
       record {
-        low = subst (λ (n : ℕ). AtMost s n (digit * 2 ^ q) (2 ^ s + X)) places (more_at-most s (4 * j + 4) q digit (2 ^ s + X) entry.not_above);
-        high = subst (λ (n : ℕ). AtLeast s n (digit * 2 ^ q) (2 ^ s + X + 1)) places (more_at-least s (4 * j + 4) q digit (2 ^ s + X + 1) entry.next_not_below);
+        low = subst (λ (n : ℕ). AtMost s n (digit * 2 ^ q) (2 ^ s + X)) places (more-at_most s (4 * j + 4) q digit (2 ^ s + X) entry.not_above);
+        high = subst (λ (n : ℕ). AtLeast s n (digit * 2 ^ q) (2 ^ s + X + 1)) places (more-at_least s (4 * j + 4) q digit (2 ^ s + X + 1) entry.next_not_below);
       }
 
 -- r times the excess of the last bit

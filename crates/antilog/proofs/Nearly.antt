@@ -34,13 +34,13 @@ module _ (p : ℕ) where
   times-at_least s t x y A B C positive made =
       product_compares (turned at_most_lem) (2 ^ p) t (s * 2 ^ p + x) (t * 2 ^ p + y) (s * 2 ^ p + (x + y)) A B C (pow_pos p) positive (omega arith) made
 
-pub more_at-most : (s p q x A : ℕ) → AtMost s p x A → AtMost s (p + q) (x * 2 ^ q) A
+pub more-at_most : (s p q x A : ℕ) → AtMost s p x A → AtMost s (p + q) (x * 2 ^ q) A
 unfolding AtMost
-more_at-most s p q x A = more-places at_most_lem s p q x A
+more-at_most s p q x A = more-places at_most_lem s p q x A
 
-pub more_at-least : (s p q x A : ℕ) → AtLeast s p x A → AtLeast s (p + q) (x * 2 ^ q) A
+pub more-at_least : (s p q x A : ℕ) → AtLeast s p x A → AtLeast s (p + q) (x * 2 ^ q) A
 unfolding AtLeast
-more_at-least s p q x A = more-places (turned at_most_lem) s p q x A
+more-at_least s p q x A = more-places (turned at_most_lem) s p q x A
 
 -- ---- r times the smallest power: B is 2 ^ s and its excess X, and so is B ^ r, nearly, 2 ^ s and r times its excess
 

@@ -11,10 +11,18 @@ use arithmetic::nearest::{nearest_product, nearest_quotient};
 use arithmetic::wide::Wide;
 use arithmetic::word::{ONES, PLACES, WHOLE, Word};
 use roots::quick::quick_root;
+use roots::reciprocal_table::reciprocal_table;
+use roots::root_table::root_table;
 
 // What the roots from a place on make of y, one for each bit that is left, lowest first. The radicand,
 // y * 2^62 or y * 2^63, has its upper word from y's upper bits, and from 125 to 126 bits.
-fn later_roots(start: u64, first: u32, bits: u64) -> u64
+fn later_roots(
+    start: u64,
+    first: u32,
+    bits: u64,
+    roots: &[u64; 768],
+    reciprocals: &[u32; 768],
+) -> u64
     requires { (first ≤ places) × (bits < 2 ^ (places - first)) }
     ensures { result ≡ later_roots (places - first) start bits }
 {
@@ -23,10 +31,14 @@ fn later_roots(start: u64, first: u32, bits: u64) -> u64
     let mut place = first;
     while place < PLACES {
         let bit = rest % 2;
-        y = quick_root(Wide {
-            hi: y >> (2 - bit),
-            lo: y << (62 + bit),
-        });
+        y = quick_root(
+            Wide {
+                hi: y >> (2 - bit),
+                lo: y << (62 + bit),
+            },
+            roots,
+            reciprocals,
+        );
         rest = rest / 2;
         place += 1;
     }
@@ -54,15 +66,17 @@ fn scaled_by_roots(f: u64, negative: bool, whole: u64) -> f64
     requires { (f < 2 ^ places) × (whole < 2 ^ 62) }
     ensures { result ≡ nearest_scaled (antilog_root places f) (cond negative (negsuc whole) (pos whole) -ℤ pos 62) }
 {
+    let roots = root_table();
+    let reciprocals = reciprocal_table();
     let early = estimate(f % 0x40_0000_0000_0000 * 64) / 2;
     let last = f / 0x40_0000_0000_0000;
-    let least = later_roots(early - 3, 54, last);
-    let most = later_roots(early + 2, 54, last);
+    let least = later_roots(early - 3, 54, last, &roots, &reciprocals);
+    let most = later_roots(early + 2, 54, last, &roots, &reciprocals);
     let low = scaled(least, negative, whole);
     if scaled(most, negative, whole) <= low {
         return low;
     }
-    let y = later_roots(0x4000_0000_0000_0000, 0, f);
+    let y = later_roots(0x4000_0000_0000_0000, 0, f, &roots, &reciprocals);
     scaled(y, negative, whole)
 }
 
@@ -95,7 +109,7 @@ pub fn antilog(w: Word) -> f64
 }
 
 // The antilog of several words, where it is known to be one double.
-#[derive(Drop)]
+#[derive(Clone, Copy)]
 pub struct Among {
     pub known: bool,
     pub value: f64,

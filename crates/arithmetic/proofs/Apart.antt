@@ -19,7 +19,7 @@ apart-lt x y some a = lt-of-sides x y a.lower a.higher (omega (arith, some, a.ga
 
 pub apart_weaker : {g h B C : ℕ} (x y : Float) → h ≤ g → B ≤ C → Apart g B x y → Apart h C x y
 apart_weaker {B = B} {C = C} x y i j a =
-    let wider : (z : Float) → Small B z → Small C z = λ z s. record { is_finite_lem = s.is_finite_lem; double = s.double; size = omega (arith, s.size, j) } in
+    let wider : (z : Float) → Small B z → Small C z = λ z s. record { is_finite = s.is_finite; double = s.double; size = omega (arith, s.size, j) } in
     record { lower = wider x a.lower; higher = wider y a.higher; gap = omega (arith, i, a.gap) }
 
 -- ---- the opposites are in the other order
@@ -39,9 +39,9 @@ opposite-under (fin true m e) = refl
 
 opposite-small : {B : ℕ} (z : Float) → Small B z → Small B (neg z)
 unfolding neg
-opposite-small nan h = absurd h.is_finite_lem
-opposite-small (inf s) h = absurd h.is_finite_lem
-opposite-small (fin s m e) h = record { is_finite_lem = tt; double = neg-fits binary64 (fin s m e) h.double; size = h.size }
+opposite-small nan h = absurd h.is_finite
+opposite-small (inf s) h = absurd h.is_finite
+opposite-small (fin s m e) h = record { is_finite = tt; double = neg-fits binary64 (fin s m e) h.double; size = h.size }
 
 opposite-apart : {g B : ℕ} (x y : Float) → Apart g B x y → Apart g B (neg y) (neg x)
 opposite-apart x y a = record {
@@ -70,7 +70,7 @@ module _ (U k l p q B D : ℕ) (f : Float → Float) (L : 0 < l) (near : (x : Fl
         higher = linear-small y a.higher;
         gap =
             le_of_mul-le-mul_right
-            (rw (add-mul (over (f x) + under (f y)) h l, add-mul (over (f x)) (under (f y)) l, add-mul (over (f y)) (under (f x)) l) (omega (arith, r.not_above_lem, t.not_below, far, before, add-mul h (2 * U) l, mul_assoc 2 U l)))
+            (rw (add-mul (over (f x) + under (f y)) h l, add-mul (over (f x)) (under (f y)) l, add-mul (over (f y)) (under (f x)) l) (omega (arith, r.not_above, t.not_below, far, before, add-mul h (2 * U) l, mul_assoc 2 U l)))
             L;
       }
 
@@ -88,7 +88,7 @@ module _ (U : ℕ) (step : Step U) where
       let less : z.size < 2 ^ 53 * U * 1 =
       size_below z.sign z.size (above s a + above t b) (beneath s a + beneath t b) (2 ^ 53 * U * 1) (omega (arith, z.balanced)) (omega (arith, small, sides s a, sides t b)) (omega (arith, small, sides s a, sides t b)) in
       let r = round-near z.sign z.size 1 U (omega arith) step less in
-      rw z.rounded record { is_finite_lem = r.is_finite_lem; double = r.double; not_above_lem = omega (arith, r.not_above_lem, z.balanced); not_below = omega (arith, r.not_below, z.balanced) }
+      rw z.rounded record { is_finite = r.is_finite; double = r.double; not_above = omega (arith, r.not_above, z.balanced); not_below = omega (arith, r.not_below, z.balanced) }
 
   module _ (B C D : ℕ) (fine : B + C + U ≤ D) (room : D ≤ 2 ^ 53 * U) where
     add-near : (x c : Float) → Small B x → Small C c → Near U 1 (over x * 1 + over c) (under x * 1 + under c) (add binary64 x c)
@@ -132,8 +132,8 @@ module _ (U B D k l : ℕ) (step : Step U) (L : 0 < l) (fine : B * k + U * l ≤
   scaled-apart f is x y = linear-apart U k l 0 0 B D f L near (omega (arith, fine)) (omega (arith, fine)) x y
     where
       near : (x : Float) → Small B x → Near U l (over x * k + 0) (under x * k + 0) (f x)
-      near nan h = absurd h.is_finite_lem
-      near (inf s) h = absurd h.is_finite_lem
+      near nan h = absurd h.is_finite
+      near (inf s) h = absurd h.is_finite
       near (fin s m e) h = rw (is s m e, add-zero (over (fin s m e) * k), add-zero (under (fin s m e) * k)) (scaled-near s m e h)
 
 module _ (U B D n : ℕ) (d : ℤ) (step : Step U) (room : D ≤ 2 ^ 53 * U) where

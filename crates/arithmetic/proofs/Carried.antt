@@ -81,8 +81,8 @@ module _ (p whole part factor extra shift : ℕ) (places-le : p ≤ 60) (whole-l
         ∙ ap (λ (n : ℕ). (n * 2 ^ p) % 2 ^ 128) rest-value
         ∙ mod-eq_of_lt (fits (whole * factor % 2 ^ shift * 2 ^ p) (omega (arith, mul-le-mul_right (2 ^ p) (le_of_lt rest_lt), pow_pos p)))
 
-    carried-value : value carried ≡ remaining p whole part factor extra (2 ^ shift)
-    carried-value = no_carry (value carried) carry₂ (remaining p whole part factor extra (2 ^ shift)) (carried-is ∙ ap₂ (λ (x y : ℕ). x + y) moved_value below-value) (fits _ left_lt)
+    carried_value : value carried ≡ remaining p whole part factor extra (2 ^ shift)
+    carried_value = no_carry (value carried) carry₂ (remaining p whole part factor extra (2 ^ shift)) (carried-is ∙ ap₂ (λ (x y : ℕ). x + y) moved_value below-value) (fits _ left_lt)
 
     quotient-value : quotient.lo ≡ whole * factor / 2 ^ shift
     quotient-value =
@@ -91,7 +91,7 @@ module _ (p whole part factor extra shift : ℕ) (places-le : p ≤ 60) (whole-l
 
     high_value : high.lo ≡ remaining p whole part factor extra (2 ^ shift) / 2 ^ (shift + p)
     high_value =
-        let v : value high ≡ remaining p whole part factor extra (2 ^ shift) / 2 ^ (shift + p) = high_is ∙ ap (λ (n : ℕ). n / 2 ^ (shift + p)) carried-value in
+        let v : value high ≡ remaining p whole part factor extra (2 ^ shift) / 2 ^ (shift + p) = high_is ∙ ap (λ (n : ℕ). n / 2 ^ (shift + p)) carried_value in
         low_word high (subst (λ (n : ℕ). n < 2 ^ 64) (sym v) (lt_of_lt_of_le high_lt (pow_mono {i = 8} {j = 64} (lit≤ tt)))) ∙ v
 
     pub quotients : Quotients p whole part factor extra shift quotient.lo high.lo low.lo
@@ -101,5 +101,5 @@ module _ (p whole part factor extra shift : ℕ) (places-le : p ≤ 60) (whole-l
           quotient-small = subst (λ (n : ℕ). n < 2 ^ 18) (sym quotient-value) quotient-lt;
           high_is = high_value;
           high_small = subst (λ (n : ℕ). n < 2 ^ 8) (sym high_value) high_lt;
-          low-is = low-remainder low p (omega arith) ∙ ap (λ (n : ℕ). n % 2 ^ p) (low-is ∙ ap (λ (n : ℕ). n / 2 ^ shift) carried-value);
+          low-is = low-remainder low p (omega arith) ∙ ap (λ (n : ℕ). n % 2 ^ p) (low-is ∙ ap (λ (n : ℕ). n / 2 ^ shift) carried_value);
         }

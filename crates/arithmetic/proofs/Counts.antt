@@ -21,7 +21,7 @@ under (fin s m e) = beneath s (units_of (fin s m e))
 
 -- finite, and of B units at most
 pub record Small (B : ℕ) (z : Float) : Type 0 where
-  pub is_finite_lem : T (finite z)
+  pub is_finite : T (finite z)
   pub double : T (fits binary64 z)
   pub size : units_of z ≤ B
 
@@ -48,10 +48,10 @@ signed_le true true a b h = opposites {a = b} {b = a} (omega (arith, h))
 -- of two finite doubles
 module _ {A B : ℕ} where
   pub both-finite : (P : Float → Float → Type 0) → ((s t : Bool) (m n : ℕ) (e d : ℤ) → Small A (fin s m e) → Small B (fin t n d) → P (fin s m e) (fin t n d)) → (x y : Float) → Small A x → Small B y → P x y
-  both-finite P f nan y p q = absurd p.is_finite_lem
-  both-finite P f (inf s) y p q = absurd p.is_finite_lem
-  both-finite P f (fin s m e) nan p q = absurd q.is_finite_lem
-  both-finite P f (fin s m e) (inf t) p q = absurd q.is_finite_lem
+  both-finite P f nan y p q = absurd p.is_finite
+  both-finite P f (inf s) y p q = absurd p.is_finite
+  both-finite P f (fin s m e) nan p q = absurd q.is_finite
+  both-finite P f (fin s m e) (inf t) p q = absurd q.is_finite
   both-finite P f (fin s m e) (fin t n d) p q = f s t m n e d p q
 
   pub lt-of-sides : (x y : Float) → Small A x → Small B y → over x + under y < over y + under x → T (lt x y)
@@ -83,7 +83,7 @@ module _ {B : ℕ} where
       let x : ℕ = units_of (fin r l c) in
       let b : ℕ = units_of (fin t n d) in
       let size : x ≤ B = between r s t x a b B (at_most_lem s r a x (count_of-le s r m l e c p.double f h)) (at_most_lem r t x b (count_of-le r t l n c d f q.double k)) p.size q.size in
-      record { is_finite_lem = tt; double = f; size = size }
+      record { is_finite = tt; double = f; size = size }
 
   pub small-between : (lo x hi : Float) → T (fits binary64 x) → Small B lo → Small B hi → T (le lo x) → T (le x hi) → Small B x
   small-between lo x hi f = both-finite (λ lo hi. T (le lo x) → T (le x hi) → Small B x) (λ s t m n e d. inside s t m n e d x f) lo hi
@@ -92,11 +92,11 @@ module _ {B : ℕ} where
 module _ {B : ℕ} (m : ℕ) (e : ℤ) (f : T (fits binary64 (fin false m e))) (large : B ≤ units_of (fin false m e)) (x : Float) (s : Small B x) where
   pub below-large : T (le x (fin false m e))
   unfolding above beneath
-  below-large = le-of-sides x (fin false m e) s record { is_finite_lem = tt; double = f; size = le_refl (units_of (fin false m e)) } (omega (arith, large, sides-small x s))
+  below-large = le-of-sides x (fin false m e) s record { is_finite = tt; double = f; size = le_refl (units_of (fin false m e)) } (omega (arith, large, sides-small x s))
 
   pub above-large : T (le (fin true m e) x)
   unfolding above beneath neg
-  above-large = le-of-sides (fin true m e) x record { is_finite_lem = tt; double = neg-fits binary64 (fin false m e) f; size = le_refl (units_of (fin true m e)) } s (omega (arith, large, sides-small x s))
+  above-large = le-of-sides (fin true m e) x record { is_finite = tt; double = neg-fits binary64 (fin false m e) f; size = le_refl (units_of (fin true m e)) } s (omega (arith, large, sides-small x s))
 
 -- ---- counts that are at least g apart
 gap-of-signed : (s t : Bool) (a b g : ℕ) → (signed s a +ℤ pos g) ≤ℤ signed t b → above s a + beneath t b + g ≤ above t b + beneath s a

@@ -1,7 +1,7 @@
 -- The kit's names that the proofs use most, from one place. Nothing is defined here.
 pub use Prim.Native.Nat.{◌%◌, ◌*◌, ◌+◌, ◌-◌, ◌/◌, ◌<◌, ◌^◌, ◌≤◌, min, suc, suc-le-suc, zero, zero-le, ℕ}
 pub use borrow.Author.Rules.{rules}
-pub use borrow.Author.Tests.{eq-eqb, eqb-false, eqb-true, le-leb, le-ltb, leb-false, leb-true, lt-leb, lt-ltb, ltb-false, ltb-true, ne_eqb, not-false, not_true}
+pub use borrow.Author.Tests.{eq-eqb, eqb-false, eqb-true, le-leb, le-ltb, leb-false, leb-true, lt-leb, lt-ltb, ltb-false, ltb-true, ne_eqb, not-false, not-true}
 pub use lib.Arith.{digits_div, digits_lt, le→nltb}
 unfoldable pub use lib.Count.{count_leading_zeros}
 pub use lib.Count.{leading_top}

@@ -33,9 +33,9 @@ module _ (n c k : ℕ) (C : 0 < c) (small : n < 2 ^ (53 + k) * c) where
 
 -- ---- a finite double that is no further than U from (p - q) / l
 pub record Near (U l p q : ℕ) (z : Float) : Type 0 where
-  pub is_finite_lem : T (finite z)
+  pub is_finite : T (finite z)
   pub double : T (fits binary64 z)
-  pub not_above_lem : over z * l + q ≤ under z * l + p + U * l
+  pub not_above : over z * l + q ≤ under z * l + p + U * l
   pub not_below : under z * l + p ≤ over z * l + q + U * l
 
 -- ---- the rounding of ±a / l units is one
@@ -51,8 +51,8 @@ round-value true a c h = rw (round-opposite binary64 a c) (opposite-value (round
 
 near_fin : (U l a m : ℕ) (e : ℤ) (s : Bool) → T (fits binary64 (fin s m e)) → units_of (fin s m e) * l ≤ a + U * l → a ≤ units_of (fin s m e) * l + U * l → Near U l (above s a) (beneath s a) (fin s m e)
 unfolding above beneath
-near_fin U l a m e false f i j = record { is_finite_lem = tt; double = f; not_above_lem = omega (arith, i); not_below = omega (arith, j) }
-near_fin U l a m e true f i j = record { is_finite_lem = tt; double = f; not_above_lem = omega (arith, j); not_below = omega (arith, i) }
+near_fin U l a m e false f i j = record { is_finite = tt; double = f; not_above = omega (arith, i); not_below = omega (arith, j) }
+near_fin U l a m e true f i j = record { is_finite = tt; double = f; not_above = omega (arith, j); not_below = omega (arith, i) }
 
 near-value : (U l a G : ℕ) (s : Bool) (z : Float) → T (fits binary64 z) → HasValue z s G (2 ^ 1074) → G * l ≤ a + U * l → a ≤ G * l + U * l → Near U l (above s a) (beneath s a) z
 near-value U l a G s nan f h i j = absurd h
@@ -100,7 +100,7 @@ round-near s a l U L (k, K, e) h = subst (λ (X : ℕ). Near X l (above s a) (be
 -- and it is of D units at most, where ±a / l is of D - U at most
 pub near-small : {U l p q D : ℕ} (z : Float) → 0 < l → p + U * l ≤ D * l → q + U * l ≤ D * l → Near U l p q z → Small D z
 unfolding above beneath
-near-small nan L P Q h = absurd h.is_finite_lem
-near-small (inf s) L P Q h = absurd h.is_finite_lem
-near-small (fin false m e) L P Q h = record { is_finite_lem = tt; double = h.double; size = le_of_mul-le-mul_right (omega (arith, h.not_above_lem, P)) L }
-near-small (fin true m e) L P Q h = record { is_finite_lem = tt; double = h.double; size = le_of_mul-le-mul_right (omega (arith, h.not_below, Q)) L }
+near-small nan L P Q h = absurd h.is_finite
+near-small (inf s) L P Q h = absurd h.is_finite
+near-small (fin false m e) L P Q h = record { is_finite = tt; double = h.double; size = le_of_mul-le-mul_right (omega (arith, h.not_above, P)) L }
+near-small (fin true m e) L P Q h = record { is_finite = tt; double = h.double; size = le_of_mul-le-mul_right (omega (arith, h.not_below, Q)) L }

@@ -9,14 +9,14 @@ pub record Fraction : Type 0 where
 
 infix 4 ◌is_at_most◌ ◌is_below◌
 abbrev pub ◌is_at_most◌ : Fraction → Fraction → Type 0
-a isAtMost b = a.over * b.under ≤ b.over * a.under
+a is_at_most b = a.over * b.under ≤ b.over * a.under
 
 abbrev pub ◌is_below◌ : Fraction → Fraction → Type 0
-a isBelow b = a.over * b.under < b.over * a.under
+a is_below b = a.over * b.under < b.over * a.under
 
 infixl 5 ◌to_the◌
 abbrev pub ◌to_the◌ : Fraction → ℕ → Fraction
-a toThe k = record { over = a.over ^ k; under = a.under ^ k }
+a to_the k = record { over = a.over ^ k; under = a.under ^ k }
 
 -- 2 to the power z, which may be negative
 abbrev pub two_to_the : ℤ → Fraction

@@ -1,5 +1,7 @@
 // Doubles as numbers: the shapes that the definitions and laws of this crate speak of. What computes with
 // them is `rounding` and above.
+#![tactic(auto)]
+
 pub mod double;
 pub mod doubles;
 pub mod middle;

@@ -76,7 +76,7 @@ fn rounded(y: u64, d: u64) -> u64
 }
 
 // m * 2^1085 as `digits` * 2^`places`, with 64 digits.
-#[derive(Drop)]
+#[derive(Clone, Copy)]
 struct Normalised {
     digits: u64,
     places: u64,

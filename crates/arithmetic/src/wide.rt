@@ -4,7 +4,7 @@ ghost use Rattle.arithmetic.specs.Value.{value};
 
 use std::num::wrapping_add_u64;
 
-#[derive(Drop)]
+#[derive(Clone, Copy)]
 pub struct Wide {
     pub hi: u64,
     pub lo: u64,
@@ -34,7 +34,7 @@ pub fn product(a: u64, b: u64) -> Wide
 }
 
 // A number modulo 2^128, and how often 2^128 was carried out of it.
-#[derive(Drop)]
+#[derive(Clone, Copy)]
 pub struct Carried {
     pub carry: u64,
     pub word: Wide,

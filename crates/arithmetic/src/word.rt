@@ -9,7 +9,7 @@ pub const WHOLE: u64 = 1 << PLACES;
 pub const ONES: u64 = WHOLE - 1;
 
 // a = `whole` * 2^60 + `part` stands for a, and where `negative` for -(a + 1).
-#[derive(Drop)]
+#[derive(Clone, Copy)]
 pub struct Word {
     pub negative: bool,
     pub whole: u32,
@@ -17,7 +17,7 @@ pub struct Word {
 }
 
 // What `log_word` answers: the word of a positive finite double, and of no other.
-#[derive(Drop)]
+#[derive(Clone, Copy)]
 pub enum Logarithm {
     Defined(Word),
     Undefined,

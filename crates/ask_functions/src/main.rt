@@ -1,4 +1,6 @@
 // Reads lines from standard input and answers each.
-fn main() {
-    ask_run::run();
+#![tactic(auto)]
+
+fn main(rt: HostRuntime) {
+    ask_run::run(&rt);
 }

@@ -1,5 +1,6 @@
--- How long an answer is, and one line more that is answered.
+-- How long an answer is, one line more that is answered, and a byte that is not moved yet.
 pub mod FewValues
 pub mod Short
 pub mod OneMore
 pub mod Stated
+pub mod Moved

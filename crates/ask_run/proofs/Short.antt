@@ -1,5 +1,5 @@
 -- No answer to a line has more than 4,096 bytes, so each has room in the 4,096 with which it is begun. Assumes nothing.
-use Rattle.arithmetic.proofs.Kit.{◌≡◌, refl, Bool, true, false, ◌||◌, ◌&&◌, cond, List, [], ◌∷◌, ◌++◌, ℕ, zero, suc, ◌+◌, ◌*◌, ◌≤◌, mul-suc, arith, leb-true, ltb-false, ltb, leb, eqb, lit≤, Float, binary64, to_bits, is_nan, length, get_or, length-append}
+use Rattle.arithmetic.proofs.Kit.{◌≡◌, refl, Bool, true, false, ◌||◌, ◌&&◌, cond, List, [], ◌∷◌, ◌++◌, ℕ, zero, suc, ◌*◌, ◌≤◌, mul-suc, arith, leb-true, ltb-false, ltb, leb, eqb, lit≤, Float, binary64, to_bits, is_nan, length, get_or, length-append}
 use Rattle.arithmetic.specs.Places.{places}
 use Rattle.arithmetic.specs.declared.word.Logarithm.{Logarithm}
 use Rattle.arithmetic.specs.declared.word.Logarithm.TheVariants.{Defined, Undefined}
@@ -34,12 +34,12 @@ use Rattle.arithmetic.specs.Ascii.{ascii}
 use Rattle.pages.specs.Characters.{number_text, hex, refusal_line}
 use Rattle.pages.proofs.Short.{Within, both, either, word-short, hex-length, number_short, refusal-short}
 use Rattle.pages.proofs.Short as pieces
+use Rattle.pages.proofs.Same as same
 use Rattle.text.proofs.Short.{answer-short}
 use Rattle.load_text.specs.Records.{load_record}
 use Rattle.load_text.specs.Text.{bytes_line}
 use Rattle.load_text.proofs.Every.{short}
-use Rattle.questions.specs.Words.{parts, line_parts}
-use Rattle.questions.proofs.Short.{each}
+use Rattle.questions.specs.Words.{line_parts}
 use Rattle.questions.specs.Forms.{fits, kind_text, kind_texts, wrong_line}
 use Rattle.lines.specs.Values.{whole, value_text, values_text, refusal_values, answer_values}
 use Rattle.lines.specs.Texts.{value_line, pair_line, three_line, truth_line, pair_truth_line, some_line, option_line, hex_pair_line}
@@ -54,7 +54,7 @@ use Rattle.lines.specs.Records.{read_text, record_answer_text, sheet_text}
 use Rattle.lines.specs.Items.{write_answer}
 use Rattle.lines.specs.Items as items
 use Rattle.lines.specs.Typed.{park_answer}
-use Rattle.lines.specs.Answers.{questionNames, questionShapes, recordAnswer, voteAnswer, sheetAnswer, loadAnswer, knownAnswer, questionAnswer, answerLine}
+use Rattle.lines.specs.Answers.{question_names, question_shapes, record_answer, vote_answer, sheet_answer, load_answer, known_answer, question_answer, answer_line}
 use Rattle.ask_run.proofs.Stated.{HasRoom}
 use Rattle.ask_run.proofs.FewValues.{Few, station-few, judge-few}
 
@@ -171,6 +171,15 @@ function_short number ws =
     (either (eqb number 33) _ _ (words-line _ _) (either (eqb number 34) _ _ (shown_line_lem _) (pair_truth_line_lem _ _ _)))))))))))
 
 -- ---- what is said of arguments that do not fit
+abbrev at_most_lem : ℕ → List (List ℕ) → Bool
+at_most_lem k [] = true
+at_most_lem k (w ∷ ws) = leb (length w) k && at_most_lem k ws
+
+each : (k : ℕ) (ws : List (List ℕ)) → at_most_lem k ws ≡ true → (i : ℕ) → length (get_or ws i []) ≤ k
+each k [] h i = omega arith
+each k (w ∷ ws) h zero = leb-true (length w) k (same.both (leb (length w) k) (at_most_lem k ws) h).0
+each k (w ∷ ws) h (suc i) = each k ws (same.both (leb (length w) k) (at_most_lem k ws) h).1 i
+
 kinds_short : (shape : List ℕ) → length (kind_texts shape) ≤ 12 * length shape
 unfolding kind_texts
 kinds_short [] = lit≤ tt
@@ -255,8 +264,8 @@ load_short : (n : ℕ) → length (bytes_line (load_record n)) ≤ 4096
 unfolding bytes_line
 load_short n = omega (arith, length-append (hex (load_record n)) (ascii "\n"), hex-length (load_record n), short n)
 
-known-short : (number : ℕ) (ws : List (List ℕ)) → length (knownAnswer number ws) ≤ 4096
-unfolding knownAnswer voteAnswer sheetAnswer loadAnswer recordAnswer
+known-short : (number : ℕ) (ws : List (List ℕ)) → length (known_answer number ws) ≤ 4096
+unfolding known_answer vote_answer sheet_answer load_answer record_answer
 known-short number ws =
     either (eqb number 8) _ _ (vote-short _) (either (eqb number 9) _ _ (sheet_short _ _ _) (either (eqb number 10) _ _ (load_short _) (record_short number _)))
 
@@ -266,22 +275,22 @@ items_short items.wrong = lit≤ tt
 
 -- ---- a line
 functions_short : (s : List ℕ) → length (function_answer s) ≤ 4096
-unfolding function_answer name_text shape_text parts unknown_line
+unfolding function_answer name_text shape_text line_parts unknown_line
 functions_short s =
     let number = place_in (line_parts name_text) (get_or (line_parts s) 0 []) in
     either (ltb number 36) _ _
     (either (fits (line_parts s) (get_or (line_parts shape_text) number [])) _ _ (function_short number (line_parts s)) (wrong-short _ _ (each 60 (line_parts name_text) refl number) (each 4 (line_parts shape_text) refl number)))
     (lit≤ tt)
 
-question_short : (s : List ℕ) → length (questionAnswer s) ≤ 4096
-unfolding questionAnswer park_answer write_answer parts
+question_short : (s : List ℕ) → length (question_answer s) ≤ 4096
+unfolding question_answer park_answer write_answer line_parts
 question_short s =
-    let number = place_in questionNames (get_or (line_parts s) 0 []) in
+    let number = place_in question_names (get_or (line_parts s) 0 []) in
     either (leb 13 number) _ _ (functions_short s)
     (either (eqb number 12) _ _ (has_room _)
     (either (eqb number 11) _ _ (items_short (items.items_in (line_parts s)))
-    (either (fits (line_parts s) (get_or questionShapes number [])) _ _ (known-short number (line_parts s)) (wrong-short _ _ (each 60 questionNames refl number) (each 4 questionShapes refl number)))))
+    (either (fits (line_parts s) (get_or question_shapes number [])) _ _ (known-short number (line_parts s)) (wrong-short _ _ (each 60 question_names refl number) (each 4 question_shapes refl number)))))
 
 pub answers_fit : HasRoom
-unfolding answerLine
+unfolding answer_line
 answers_fit s = either (ltb 4096 (length s)) _ _ (lit≤ tt) (either (eqb (length s) 0) _ _ (lit≤ tt) (question_short s))

@@ -9,7 +9,7 @@ use questions::line_ends::{Found, first_line};
 const LONGEST: usize = 4096;
 
 // How many lines were answered, how many bytes of input they are, and how many the answers are.
-#[derive(Drop)]
+#[derive(Clone, Copy)]
 pub struct Progress {
     pub lines: usize,
     pub taken: usize,

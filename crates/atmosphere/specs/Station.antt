@@ -26,7 +26,7 @@ in_temperature_band t = lt (abs_double (t ⊖ standard_temperature)) (decimal "0
 
 -- a reading in its band, more than 1 m from sea level, is a default and comes from the layer
 abbrev pub unless_default : Bool → Float → Float → Reading
-unless_default inBand x altitude = cond (inBand && lt one (abs_double altitude)) FromLayer (Given x)
+unless_default in_band x altitude = cond (in_band && lt one (abs_double altitude)) FromLayer (Given x)
 
 abbrev pub resolved_station_pressure : Float → Float → Reading
 resolved_station_pressure p altitude = unless_default (in_pressure_band p) p altitude

@@ -37,7 +37,7 @@ pub const ICAO_LAYERS: [[f64; 4]; 7] = [
 // lapse rate of zero has none: 27 is the table's length.
 const PRESSURE_EXPONENTS: [usize; 7] = [0, 27, 1, 2, 27, 3, 4];
 
-#[derive(Drop)]
+#[derive(Clone, Copy)]
 pub struct StandardAir {
     pub temperature_k: f64,
     pub pressure_pa: f64,

@@ -11,7 +11,7 @@ const STATION_PRESSURE_MIN_PLAUSIBLE_RATIO: f64 = 0.85;
 
 const STATION_PRESSURE_MAX_PLAUSIBLE_RATIO: f64 = 1.08;
 
-#[derive(Drop)]
+#[derive(Clone, Copy)]
 pub struct StationPressurePlausibility {
     pub icao_standard_pa: f64,
     pub ratio: f64,

@@ -2,7 +2,6 @@
 pub mod Digits
 pub mod Standing
 pub mod Places
-pub mod Signs
 pub mod Halves
 pub mod TooLong
 pub mod Samples

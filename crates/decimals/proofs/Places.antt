@@ -1,11 +1,11 @@
 -- A decimal text at the right of sixteen places, and how long a figure is. Assumes nothing.
-use Rattle.arithmetic.proofs.Kit.{◌≡◌, refl, ap, ◌∙◌, Bool, true, false, cond, List, ◌++◌, ℕ, ◌-◌, ◌<◌, ◌≤◌, arith, ltb-false, ltb, lit≤, Float, length, drop, replicate, length-replicate, length-append}
+use Rattle.arithmetic.proofs.Kit.{◌≡◌, refl, ap, ◌∙◌, Bool, true, false, cond, List, ℕ, ◌-◌, ◌<◌, ◌≤◌, arith, ltb-false, ltb, lit≤, Float, length, drop, replicate, length-replicate, length-append}
 use lib.Seq.{drop_at}
 use Rattle.decimals.specs.declared.shown.DecimalText.{DecimalText}
 use Rattle.decimals.specs.Decimal.{decimal_text}
 use Rattle.decimals.specs.Places.{too_long, standing, in_sixteen}
 use Rattle.arithmetic.specs.Ascii.{ascii}
-use Rattle.decimals.specs.Shown.{if_short, shown}
+use Rattle.decimals.specs.Shown.{shown}
 
 pub sixteen : (t : List ℕ) → length (in_sixteen t).bytes ≡ 16
 unfolding in_sixteen
@@ -45,19 +45,18 @@ module _ (t : List ℕ) {r : DecimalText} (is : r ≡ in_sixteen t) where
         ∙ drop_at (replicate (16 - length t) 32) t (16 - length t) (length-replicate (16 - length t) 32)
 
 -- ---- a figure
-pub too_wide : (t : List ℕ) → ltb 16 (length t) ≡ true → ascii "too wide" ≡ if_short t
-too_wide t e = rw e
+pub too_wide : (k : ℕ) (x : Float) → ltb 16 (length (decimal_text k x)) ≡ true → ascii "too wide" ≡ shown k x
+unfolding shown
+too_wide k x e = rw e
 
-pub all_shown : (t : List ℕ) → ltb 16 (length t) ≡ false → t ≡ if_short t
-all_shown t e = rw e
-
-pub if_short_lem : (t : List ℕ) → length (if_short t) ≤ 16
-if_short_lem t = go (ltb 16 (length t)) refl
-  where
-    go : (b : Bool) → ltb 16 (length t) ≡ b → length (cond b (ascii "too wide") t) ≤ 16
-    go true e = lit≤ tt
-    go false e = ltb-false 16 (length t) e
+pub all_shown : (k : ℕ) (x : Float) → ltb 16 (length (decimal_text k x)) ≡ false → decimal_text k x ≡ shown k x
+unfolding shown
+all_shown k x e = rw e
 
 pub shown-short : (k : ℕ) (x : Float) → length (shown k x) ≤ 16
 unfolding shown
-shown-short k x = if_short_lem (decimal_text k x)
+shown-short k x = go (ltb 16 (length (decimal_text k x))) refl
+  where
+    go : (b : Bool) → ltb 16 (length (decimal_text k x)) ≡ b → length (shown k x) ≤ 16
+    go true e = simp e (lit≤ tt)
+    go false e = simp e (ltb-false 16 (length (decimal_text k x)) e)

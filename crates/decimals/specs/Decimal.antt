@@ -43,9 +43,3 @@ unfolding nearest_count count_text
 decimal_text k nan = []
 decimal_text k (inf s) = []
 decimal_text k (fin s m e) = count_text k s (nearest_count (units_of (fin s m e)) (10 ^ k))
-
--- its size as a whole number of units of the k-th decimal; 0 for what is not finite
-unfoldable pub count_in : ℕ → Float → ℕ
-count_in k nan = 0
-count_in k (inf s) = 0
-count_in k (fin s m e) = nearest_count (units_of (fin s m e)) (10 ^ k)

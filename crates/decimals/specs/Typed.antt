@@ -1,5 +1,5 @@
--- A decimal as it is typed with up to k decimals, and its count of 10^-k: an optional sign (+ or -), one or more digits, optionally the decimal sign, a point
--- unless another is named, followed by one to k digits. A text is the list of its bytes. Definitions only.
+-- A decimal as it is typed with up to k decimals, and its count of 10^-k: an optional sign (+ or -), one or more digits, optionally a point followed by one
+-- to k digits. A text is the list of its bytes. Definitions only.
 use Rattle.std.specs.Prelude.{ℕ, suc, ◌+◌, ◌-◌, ◌*◌, ◌^◌, Bool, true, false, ◌&&◌, cond, List, [], ◌∷◌, ◌++◌, leb, eqb, length, take, drop}
 use Rattle.arithmetic.specs.Whole.{signed}
 use Rattle.thousandths.specs.declared.Counted.{Counted}
@@ -33,23 +33,20 @@ answer counted-as.Missing = OutOfRange
 unfoldable pub in_counts : Bool → ℕ → Typed
 in_counts negative n = answer (counted (signed negative n))
 
--- ---- what follows the sign: whole digits, and the decimal sign with decimals after it, or nothing
+-- ---- what follows the sign: whole digits, and a point with decimals after it, or nothing
 unfoldable pub with_decimals : ℕ → Bool → List ℕ → List ℕ → Typed
 with_decimals k negative whole d =
     cond (eqb (length d) 0) NotANumber
     (cond (eqb (digits_in d) (length d)) (cond (leb (length d) k) (in_counts negative (scaled_to k whole d)) TooManyDecimals) NotANumber)
 
-unfoldable pub after_whole : ℕ → ℕ → Bool → List ℕ → List ℕ → Typed
-after_whole sign k negative whole [] = in_counts negative (scaled_to k whole [])
-after_whole sign k negative whole (b ∷ d) = cond (eqb b sign) (with_decimals k negative whole d) NotANumber
+unfoldable pub after_whole : ℕ → Bool → List ℕ → List ℕ → Typed
+after_whole k negative whole [] = in_counts negative (scaled_to k whole [])
+after_whole k negative whole (b ∷ d) = cond (eqb b 46) (with_decimals k negative whole d) NotANumber
 
-unfoldable pub after_sign : ℕ → ℕ → Bool → List ℕ → Typed
-after_sign sign k negative t = cond (eqb (digits_in t) 0) NotANumber (after_whole sign k negative (take (digits_in t) t) (drop (digits_in t) t))
+unfoldable pub after_sign : ℕ → Bool → List ℕ → Typed
+after_sign k negative t = cond (eqb (digits_in t) 0) NotANumber (after_whole k negative (take (digits_in t) t) (drop (digits_in t) t))
 
 -- ---- the text
-unfoldable pub typed_by : ℕ → ℕ → List ℕ → Typed
-typed_by sign k [] = NotANumber
-typed_by sign k (b ∷ s) = cond (eqb b 45) (after_sign sign k true s) (cond (eqb b 43) (after_sign sign k false s) (after_sign sign k false (b ∷ s)))
-
-abbrev pub typed : ℕ → List ℕ → Typed
-typed k s = typed_by 46 k s
+unfoldable pub typed : ℕ → List ℕ → Typed
+typed k [] = NotANumber
+typed k (b ∷ s) = cond (eqb b 45) (after_sign k true s) (cond (eqb b 43) (after_sign k false s) (after_sign k false (b ∷ s)))

@@ -1,10 +1,8 @@
 // A double's size as a whole number of decimals.
 ghost use Rattle.std.specs.Prelude.{◌≡◌, ◌*◌, ◌^◌, ◌≤◌, ◌<◌, min};
 ghost use Rattle.arithmetic.specs.Parts.{Digits};
-ghost use Rattle.decimals.specs.Decimal.{nearest_count, count_in};
+ghost use Rattle.decimals.specs.Decimal.{nearest_count};
 
-use arithmetic::double::Parts;
-use arithmetic::nearest::take_apart;
 use arithmetic::wide::{product, shifted_right};
 
 pub(crate) fn power_of_ten(k: u32) -> u64
@@ -34,16 +32,4 @@ pub(crate) fn nearest_count(q: u64, k: u32, s: u64) -> u64
         return 0x8000_0000_0000_0000;
     }
     halves.lo / 2 + halves.lo % 2
-}
-
-// A double's size as a whole number of ten-thousandths; 2^63 stands for every number from there on.
-pub fn ten_thousandths(x: f64) -> u64
-    ensures { result ≡ min (count_in 4 x) (2 ^ 63) }
-{
-    match take_apart(x) {
-        Parts::NotANumber => 0,
-        Parts::Infinite(_) => 0,
-        Parts::Zero(_) => 0,
-        Parts::Finite(_, q, k) => nearest_count(q, k, 10000),
-    }
 }

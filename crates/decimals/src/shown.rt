@@ -9,7 +9,7 @@ use arithmetic::nearest::take_apart;
 
 // The last `len` of the bytes are the text and the others are blanks. A text of more than sixteen bytes
 // has a `len` of seventeen, and blanks only.
-#[derive(Drop)]
+#[derive(Clone, Copy)]
 pub struct DecimalText {
     pub bytes: [u8; 16],
     pub len: usize,
@@ -78,7 +78,7 @@ fn decimals_text(n: u64, decimals: u32) -> DecimalText
 }
 
 // n / 10^decimals, with its sign where it is not zero.
-pub(crate) fn count_text(negative: bool, n: u64, decimals: u32) -> DecimalText
+fn count_text(negative: bool, n: u64, decimals: u32) -> DecimalText
     requires { decimals ≤ 15 }
     ensures { result ≡ in_sixteen (count_text decimals negative n) }
 {

@@ -1,11 +1,11 @@
 // Decimals as they are typed, read as counts of their last decimal.
 ghost use Rattle.std.specs.Prelude.{◌≡◌, ◌-◌, ◌≤◌, min, length};
-ghost use Rattle.decimals.specs.Typed.{is_digit, digits_in, number_from, scaled_to, in_counts, with_decimals, after_sign, typed_by, typed};
+ghost use Rattle.decimals.specs.Typed.{is_digit, digits_in, number_from, scaled_to, in_counts, with_decimals, after_sign, typed};
 
 use crate::count::power_of_ten;
 use thousandths::{Counted, signed_count};
 
-#[derive(Drop)]
+#[derive(Clone, Copy)]
 pub enum Typed {
     Count(i32),
     NotANumber,
@@ -103,9 +103,9 @@ fn with_decimals(negative: bool, whole: &[u8], decimals: &[u8], places: usize) -
 }
 
 // What follows the sign.
-fn after_sign(negative: bool, text: &[u8], places: usize, sign: u8) -> Typed
+fn after_sign(negative: bool, text: &[u8], places: usize) -> Typed
     requires { places ≤ 4 }
-    ensures { result ≡ after_sign sign places negative text.now }
+    ensures { result ≡ after_sign places negative text.now }
 {
     let n = digits_in(text);
     if n == 0 {
@@ -114,7 +114,7 @@ fn after_sign(negative: bool, text: &[u8], places: usize, sign: u8) -> Typed
     if n >= text.len() {
         return from_digits(negative, text, &text[n..], places);
     }
-    if text[n] != sign {
+    if text[n] != b'.' {
         return Typed::NotANumber;
     }
     let after = n + 1;
@@ -122,20 +122,20 @@ fn after_sign(negative: bool, text: &[u8], places: usize, sign: u8) -> Typed
 }
 
 // A sign or none, and what follows it.
-fn with_sign(text: &[u8], places: usize, sign: u8) -> Typed
+fn with_sign(text: &[u8], places: usize) -> Typed
     requires { places ≤ 4 }
-    ensures { result ≡ typed_by sign places text.now }
+    ensures { result ≡ typed places text.now }
 {
     if text.len() == 0 {
         return Typed::NotANumber;
     }
     if text[0] == b'-' {
-        return after_sign(true, &text[1..], places, sign);
+        return after_sign(true, &text[1..], places);
     }
     if text[0] == b'+' {
-        return after_sign(false, &text[1..], places, sign);
+        return after_sign(false, &text[1..], places);
     }
-    after_sign(false, text, places, sign)
+    after_sign(false, text, places)
 }
 
 fn at_most_four(places: usize) -> usize
@@ -150,13 +150,5 @@ pub fn read_decimal(text: &[u8], places: usize) -> Typed
     ensures value { result ≡ typed (min places 4) text.now }
     ensures kept { text.now ≡ text.now }
 {
-    with_sign(text, at_most_four(places), b'.')
-}
-
-// The same, with another decimal sign in the place of the point.
-pub fn read_decimal_by(text: &[u8], places: usize, sign: u8) -> Typed
-    ensures value { result ≡ typed_by sign (min places 4) text.now }
-    ensures kept { text.now ≡ text.now }
-{
-    with_sign(text, at_most_four(places), sign)
+    with_sign(text, at_most_four(places))
 }

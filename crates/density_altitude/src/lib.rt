@@ -1,2 +1,4 @@
 // The station with a given density altitude.
+#![tactic(auto)]
+
 pub mod inverse;

@@ -62,7 +62,7 @@ granted p d t h = by-outcome (station p d t) refl h
     by_rows FromLayer n = record { finite = passes (is_finite d) n.0; read = tt; air = passes (has_air (resolve p d FromLayer)) n.1.0 }
 
     by-outcome : (o : Outcome Station) → station p d t ≡ o → Accepted o → Granted p d t
-    by-outcome (accepted s) e h = by_rows t ((caused p d t).accepted-because e).0
+    by-outcome (accepted s) e h = by_rows t ((caused p d t).accepted_because e).0
     by-outcome (refused number values) e h = absurd h
 
 pub is-station : (p : ℕ) (d : Float) (t : Reading) → Granted p d t → station p d t ≡ accepted (resolve p d t)

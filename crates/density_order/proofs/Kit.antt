@@ -1,6 +1,6 @@
 -- The names that most proofs here use, of the kit, of the crates below and of the definitions, from one place. Nothing is defined here.
 unfoldable pub use Rattle.arithmetic.proofs.Kit.{add, div, fits, le, lt, mul, neg, of_bits, sub}
-pub use Rattle.arithmetic.proofs.Kit.{Bool, Float, List, T, Val, ◌&&◌, ◌*◌, ◌+◌, ◌-◌, ◌^◌, ◌∙◌, ◌≡◌, ◌≤◌, and_i, and_l, and_r, ap, arith, binary64, div-fits, false, fin, finite, inf, lit<, lit≤, mul-fits, nan, needs, negsuc, not, of_bits-fits, pos, positive, refl, sub-fits, subst, subst₂, suc, sym, true, zero, ℕ, ℤ}
+pub use Rattle.arithmetic.proofs.Kit.{Bool, Float, List, T, Val, ◌&&◌, ◌*◌, ◌+◌, ◌-◌, ◌^◌, ◌∙◌, ◌≡◌, ◌≤◌, and_i, and_l, and_r, ap, arith, binary64, div-fits, false, fin, finite, inf, lit<, lit≤, mul-fits, nan, rules, negsuc, not, of_bits-fits, pos, positive, refl, sub-fits, subst, subst₂, suc, sym, true, zero, ℕ, ℤ}
 pub use Rattle.arithmetic.proofs.Order.{count_of-le, le-trans-double, numbers-of-le, zero-below}
 pub use Rattle.arithmetic.specs.Decimals.{decimal, nought, one}
 unfoldable pub use Rattle.arithmetic.specs.Doubles.{is_finite}

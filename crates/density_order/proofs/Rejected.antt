@@ -10,8 +10,8 @@ never-strict inverse not-strict =
     record {
       low_and_cold = λ h. not-strict _ _ _ (h.strictly (record { bottom = tt; top = tt }) (record { bottom = tt; top = tt }) (le_z_yes tt) (tt, tt));
       high_and_hot = λ h. not-strict _ _ _ (h.strictly (record { bottom = tt; top = tt }) (record { bottom = tt; top = tt }) (le_z_yes tt) (tt, tt));
-      low-none-given = λ h. not-strict _ _ _ (h.strictly (record { bottom = tt; top = tt }) (record { bottom = tt; top = tt }) (le_z_yes tt) tt);
-      high-none-given = λ h. not-strict _ _ _ (h.strictly (record { bottom = tt; top = tt }) (record { bottom = tt; top = tt }) (le_z_yes tt) tt);
+      low_none_given = λ h. not-strict _ _ _ (h.strictly (record { bottom = tt; top = tt }) (record { bottom = tt; top = tt }) (le_z_yes tt) tt);
+      high_none_given = λ h. not-strict _ _ _ (h.strictly (record { bottom = tt; top = tt }) (record { bottom = tt; top = tt }) (le_z_yes tt) tt);
     }
 
 pub rejected : Rejected
@@ -20,14 +20,14 @@ rejected =
     record {
       echoes = never-strict _ (λ t d₁ d₂ s. s.pressures);
       one_for_all = never-strict _ (λ t d₁ d₂ s. s.altitudes);
-      heights-left = never-strict _ (λ t d₁ d₂ s. s.altitudes);
-      refused-between = λ h. h.accepted;
-      altitude-falls-to = λ h. h.lower.altitudes;
-      altitude-falls-from = λ h. h.upper.altitudes;
-      pressure-rises-to = λ h. h.lower.pressures;
-      pressure-rises-from = λ h. h.upper.pressures;
-      temperature-rises-to = λ h. h.lower.temperatures tt;
-      temperature-rises-from = λ h. h.upper.temperatures tt;
+      heights_left = never-strict _ (λ t d₁ d₂ s. s.altitudes);
+      refused_between = λ h. h.accepted;
+      altitude_falls_to = λ h. h.lower.altitudes;
+      altitude_falls_from = λ h. h.upper.altitudes;
+      pressure_rises_to = λ h. h.lower.pressures;
+      pressure_rises_from = λ h. h.upper.pressures;
+      temperature_rises_to = λ h. h.lower.temperatures tt;
+      temperature_rises_from = λ h. h.upper.temperatures tt;
     }
 
 -- answers of which `InBetween` is false, and of which the outer two are accepted
@@ -39,14 +39,14 @@ pub rejected-by-warmth : RejectedByWarmth
 unfolding of_bits neg add sub mul div lt le is_finite power station
 rejected-by-warmth =
     record {
-      refused-between = never-between _ _ _ tt tt (λ b. b.accepted);
-      altitude-rises-to = never-between _ _ _ tt tt (λ b. b.colder.altitudes);
-      altitude-rises-from = never-between _ _ _ tt tt (λ b. b.warmer.altitudes);
-      pressure-falls-to = never-between _ _ _ tt tt (λ b. b.colder.pressures);
-      pressure-falls-from = never-between _ _ _ tt tt (λ b. b.warmer.pressures);
-      faa-falls = λ h. h tt tt tt tt tt;
-      faa-falls-at_one-temperature = λ h. h tt tt tt tt tt;
-      altitude-stays = refl;
-      pressure-stays = refl;
-      faa-stays = refl;
+      refused_between = never-between _ _ _ tt tt (λ b. b.accepted);
+      altitude_rises_to = never-between _ _ _ tt tt (λ b. b.colder.altitudes);
+      altitude_rises_from = never-between _ _ _ tt tt (λ b. b.warmer.altitudes);
+      pressure_falls_to = never-between _ _ _ tt tt (λ b. b.colder.pressures);
+      pressure_falls_from = never-between _ _ _ tt tt (λ b. b.warmer.pressures);
+      faa_falls = λ h. h tt tt tt tt tt;
+      faa_falls_at_one_temperature = λ h. h tt tt tt tt tt;
+      altitude_stays = refl;
+      pressure_stays = refl;
+      faa_stays = refl;
     }

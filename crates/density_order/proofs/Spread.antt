@@ -29,11 +29,11 @@ ReadingFits FromLayer = Unit {0}
 -- ---- density altitudes
 lowest-small : Small (whole 3000) (decimal "-500")
 unfolding U of_bits fits
-lowest-small = record { is_finite_lem = tt; double = tt; size = lit≤ tt }
+lowest-small = record { is_finite = tt; double = tt; size = lit≤ tt }
 
 highest-small : Small (whole 3000) (decimal "3000")
 unfolding U of_bits fits
-highest-small = record { is_finite_lem = tt; double = tt; size = lit≤ tt }
+highest-small = record { is_finite = tt; double = tt; size = lit≤ tt }
 
 in_range-small : (d : Float) → T (fits binary64 d) → InRange d → Small (whole 3000) d
 in_range-small d f r = small-between (decimal "-500") d (decimal "3000") f lowest-small highest-small r.bottom r.top
@@ -41,11 +41,11 @@ in_range-small d f r = small-between (decimal "-500") d (decimal "3000") f lowes
 -- ---- the correction for the temperature, which rises with it: -6,600 ft at -40 °C, and 4,200 ft at 50 °C
 coldest-small : Small (whole 6601) (correction (decimal "-40"))
 unfolding U of_bits add sub mul div fits
-coldest-small = record { is_finite_lem = tt; double = tt; size = lit≤ tt }
+coldest-small = record { is_finite = tt; double = tt; size = lit≤ tt }
 
 hottest-small : Small (whole 6601) (correction (decimal "50"))
 unfolding U of_bits add sub mul div fits
-hottest-small = record { is_finite_lem = tt; double = tt; size = lit≤ tt }
+hottest-small = record { is_finite = tt; double = tt; size = lit≤ tt }
 
 correction-small : (t : Float) → T (fits binary64 t) → Temperate (Given t) → Small (whole 6601) (correction t)
 correction-small t f (cold, hot) =
@@ -66,7 +66,7 @@ half = fin false 1 (negsuc 0)
 
 one-small : Small (whole 1) one
 unfolding U of_bits fits
-one-small = record { is_finite_lem = tt; double = tt; size = lit≤ tt }
+one-small = record { is_finite = tt; double = tt; size = lit≤ tt }
 
 -- 1 - q, for a q from -1/4 to 1/4
 module _ (q : Float) (s : Small (2 ^ 35 * U) q) where
@@ -127,8 +127,8 @@ module _ (d₁ d₂ : Float) (f₁ : T (fits binary64 d₁)) (f₂ : T (fits bin
         let s₁ = quotients.lower in
         let s₂ = quotients.higher in
         let a = sub-from-apart U step (2 ^ 35 * U) (whole 1) (2 ^ 37 * U + 2 ^ 35 * U + U) (omega arith) (omega arith) {h = (2 ^ 20 - 2) * U} q₁ q₂ one one-small (omega arith) quotients in
-        let x = base-sides (one ⊖ q₂) a.lower.is_finite_lem (base-least q₂ s₂) in
-        let y = base-sides (one ⊖ q₁) a.higher.is_finite_lem (base-least q₁ s₁) in
+        let x = base-sides (one ⊖ q₂) a.lower.is_finite (base-least q₂ s₂) in
+        let y = base-sides (one ⊖ q₁) a.higher.is_finite (base-least q₁ s₁) in
         record {
           least = base-least q₂ s₂;
           order = le-of-sides (one ⊖ q₂) (one ⊖ q₁) a.lower a.higher (omega (arith, a.gap));

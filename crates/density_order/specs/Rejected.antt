@@ -39,8 +39,8 @@ FalseAt inverse t d₁ d₂ = Demand₃ t d₁ d₂ (inverse d₁ t) (inverse d�
 pub record RejectedAtTheEdges (inverse : Float → Reading → Outcome Station) : Type 0 where
   pub low_and_cold : FalseAt inverse (Given (decimal "-40")) (decimal "-500") (decimal "-499")
   pub high_and_hot : FalseAt inverse (Given (decimal "50")) (decimal "2999") (decimal "3000")
-  pub low-none-given : FalseAt inverse FromLayer (decimal "-500") (decimal "-499")
-  pub high-none-given : FalseAt inverse FromLayer (decimal "2999") (decimal "3000")
+  pub low_none_given : FalseAt inverse FromLayer (decimal "-500") (decimal "-499")
+  pub high_none_given : FalseAt inverse FromLayer (decimal "2999") (decimal "3000")
 
 -- ---- answers at 0 m, 15 °C and 1000 hPa, and with one of the three figures greater
 abbrev plain : Outcome Station
@@ -65,14 +65,14 @@ FalseOf a₁ a a₂ = Demand₃ FromLayer (decimal "0") (decimal "0") a₁ a a�
 pub record Rejected : Type 0 where
   pub echoes : RejectedAtTheEdges echo
   pub one_for_all : RejectedAtTheEdges one_air
-  pub heights-left : RejectedAtTheEdges height_left
-  pub refused-between : FalseOf plain no_air plain
-  pub altitude-falls-to : FalseOf higher plain higher
-  pub altitude-falls-from : FalseOf plain higher plain
-  pub pressure-rises-to : FalseOf plain denser plain
-  pub pressure-rises-from : FalseOf denser plain denser
-  pub temperature-rises-to : FalseOf plain hotter plain
-  pub temperature-rises-from : FalseOf hotter plain hotter
+  pub heights_left : RejectedAtTheEdges height_left
+  pub refused_between : FalseOf plain no_air plain
+  pub altitude_falls_to : FalseOf higher plain higher
+  pub altitude_falls_from : FalseOf plain higher plain
+  pub pressure_rises_to : FalseOf plain denser plain
+  pub pressure_rises_from : FalseOf denser plain denser
+  pub temperature_rises_to : FalseOf plain hotter plain
+  pub temperature_rises_from : FalseOf hotter plain hotter
 
 -- ---- request K8
 -- three answers that it is false of, at one temperature and from the least double to the greatest
@@ -93,13 +93,13 @@ abbrev faa : String → Float
 faa t = faa_density_altitude places (decimal "1013.25") (decimal t)
 
 pub record RejectedByWarmth : Type 0 where
-  pub refused-between : FalseWarmed plain no_air plain
-  pub altitude-rises-to : FalseWarmed plain higher plain
-  pub altitude-rises-from : FalseWarmed higher plain higher
-  pub pressure-falls-to : FalseWarmed denser plain denser
-  pub pressure-falls-from : FalseWarmed plain denser plain
-  pub faa-falls : FaaNeverFalls (decimal "0") least greatest (decimal "1") (decimal "0") → ⊥
-  pub faa-falls-at_one-temperature : FaaNeverFalls greatest (decimal "0") (decimal "0") (decimal "1") (decimal "0") → ⊥
-  pub altitude-stays : altitude_found (warmed "5e-324") ≡ altitude_found (warmed "0")
-  pub pressure-stays : pressure_found (warmed "5e-324") ≡ pressure_found (warmed "0")
-  pub faa-stays : faa "5e-324" ≡ faa "0"
+  pub refused_between : FalseWarmed plain no_air plain
+  pub altitude_rises_to : FalseWarmed plain higher plain
+  pub altitude_rises_from : FalseWarmed higher plain higher
+  pub pressure_falls_to : FalseWarmed denser plain denser
+  pub pressure_falls_from : FalseWarmed plain denser plain
+  pub faa_falls : FaaNeverFalls (decimal "0") least greatest (decimal "1") (decimal "0") → ⊥
+  pub faa_falls_at_one_temperature : FaaNeverFalls greatest (decimal "0") (decimal "0") (decimal "1") (decimal "0") → ⊥
+  pub altitude_stays : altitude_found (warmed "5e-324") ≡ altitude_found (warmed "0")
+  pub pressure_stays : pressure_found (warmed "5e-324") ≡ pressure_found (warmed "0")
+  pub faa_stays : faa "5e-324" ≡ faa "0"

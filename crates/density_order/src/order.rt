@@ -10,7 +10,7 @@ use atmosphere::given::Reading;
 use density_altitude::inverse::station_for_density_altitude;
 use refusal::inverse::Answer;
 
-#[derive(Drop)]
+#[derive(Clone, Copy)]
 pub struct Stations {
     pub low: Answer,
     pub middle: Answer,
@@ -37,7 +37,7 @@ pub fn stations_for_density_altitudes(
     }
 }
 
-#[derive(Drop)]
+#[derive(Clone, Copy)]
 pub struct Pair {
     pub low: Answer,
     pub high: Answer,

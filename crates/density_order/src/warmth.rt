@@ -12,7 +12,7 @@ use atmosphere::given::Reading;
 use density_altitude::inverse::station_for_density_altitude;
 use refusal::inverse::Answer;
 
-#[derive(Drop)]
+#[derive(Clone, Copy)]
 pub struct ByWarmth {
     pub cold: Answer,
     pub middle: Answer,
@@ -38,7 +38,7 @@ pub fn stations_for_temperatures(
     }
 }
 
-#[derive(Drop)]
+#[derive(Clone, Copy)]
 pub struct FaaByWarmth {
     pub cold_ft: f64,
     pub warm_ft: f64,

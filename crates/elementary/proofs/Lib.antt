@@ -2,7 +2,6 @@
 pub mod Exponents
 pub mod PowerCases
 mod NearWords
-mod NearLn
 pub mod Rises
 pub mod ExpRises
 pub mod PowersApart

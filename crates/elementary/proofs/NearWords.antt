@@ -1,5 +1,5 @@
 -- A multiple of a log word of which the bits are known but for two units: its floor is known but for twice the factor and one. Assumes nothing.
-use Rattle.arithmetic.proofs.Kit.{◌≡◌, sym, ap, ◌∙◌, Bool, true, false, cond, ℕ, suc, ◌+◌, ◌-◌, ◌*◌, ◌/◌, ◌^◌, ◌≤◌, ◌<◌, le_trans, le_of_eq, add-mul, mul_assoc, mul_comm, mul-le-mul_right, mod-lt, div-add-mod', arith, ℤ, pos, negsuc, neg_ℤ, ◌+ℤ◌, ◌*ℤ◌, pow_pos, size, minus}
+use Rattle.arithmetic.proofs.Kit.{◌≡◌, sym, ap, ◌∙◌, Bool, true, false, cond, ℕ, ◌+◌, ◌-◌, ◌*◌, ◌/◌, ◌^◌, ◌≤◌, le_trans, le_of_eq, add-mul, mul-le-mul_right, arith, ℤ, pos, neg_ℤ, ◌+ℤ◌, ◌*ℤ◌, pow_pos, size, minus}
 use Rattle.arithmetic.specs.Whole.{floor_div}
 use Rattle.arithmetic.specs.Places.{places}
 use Rattle.antilog.specs.Log.{mantissa_of, log_bits, word_with, word_of_units}

@@ -51,7 +51,7 @@ fn guessed_logarithm(m: u64) -> u64 {
 }
 
 // Bits that the logarithm of a mantissa lies from to two more, where they are known to.
-#[derive(Drop)]
+#[derive(Clone, Copy)]
 pub(crate) struct Near {
     pub known: bool,
     pub bits: u64,

@@ -1,7 +1,8 @@
 // The log word, power, exp and ln of a double by whole-number rules, so that every answer has one fixed
 // bit pattern.
+#![tactic(auto)]
+
 pub mod exp;
-mod exponent_table;
 mod guess;
 pub mod ln;
 pub mod log;

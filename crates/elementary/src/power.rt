@@ -10,7 +10,6 @@ ghost use Rattle.elementary.specs.Exponents.{exponent_at};
 ghost use Rattle.elementary.specs.Power.{infinity_or_zero, positive_power, power, power_at};
 ghost use Rattle.arithmetic.specs.Places.{places};
 
-use super::exponent_table::{magnitude_of, sign_of};
 use super::guess::{Near, near_bits};
 use super::log::{log_of_digits, word_with};
 use super::multiples::{opposite, times};
@@ -108,12 +107,12 @@ fn near_power(q: u64, k: u32, bits: u64, number: usize) -> Among
     requires number_bound { number < 27 }
     ensures { result.known ≡ true → result.value ≡ positive_power places (exponent_at number) (odd 53 false q k 1074) }
 {
-    let least = if sign_of(number) {
+    let least = if is_negative(number) {
         opposite(word_with(q, k, bits + 2))
     } else {
         word_with(q, k, bits)
     };
-    let factor = magnitude_of(number);
+    let factor = magnitude(number);
     antilog_among(times(least, factor, 58), (factor >> 57) + 1)
 }
 
@@ -179,7 +178,7 @@ fn finite_power(negative: bool, q: u64, k: u32, near: Near, number: usize) -> f6
 }
 
 // A double taken apart, with the bits near those of its size's logarithm where it is finite and not zero.
-#[derive(Drop)]
+#[derive(Clone, Copy)]
 struct Base {
     parts: Parts,
     near: Near,

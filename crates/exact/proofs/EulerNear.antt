@@ -67,15 +67,15 @@ module _ (p : ℕ) (sixty : p ≡ 60) where
       (le_trans (le_of_lt (log_bits-above p (omega arith) mantissa.1)) (le_of_eq (ap (λ (x : ℕ). 2 ^ x) (add_assoc (62 * 2 ^ p) (log_bits p 0x6579531775085dfe) 2)))) (rw (is, places) enough)
 
 -- ---- and every number between them: `log2e`, and `ln2`
-module _ (B C D : ℕ) (power : B ≡ 2 ^ 62) (log-constant : C ≡ log2e) (ln-constant : D ≡ ln2) (b : Fraction) (least : e_below isAtMost b) (most : b isAtMost e_above) where
+module _ (B C D : ℕ) (power : B ≡ 2 ^ 62) (log-constant : C ≡ log2e) (ln-constant : D ≡ ln2) (b : Fraction) (least : e_below is_at_most b) (most : b is_at_most e_above) where
   abbrev two : ℕ → Fraction
   two f = record { over = 2 ^ f; under = 1 }
 
   reaches : (e f : ℕ) → f * (128 * 2 ^ 60) ≤ (184 * 2 ^ 60 + 0xaa3b295c17f0bbb) * e → b.under ^ e * 2 ^ f ≤ b.over ^ e
-  reaches e f enough = omega (arith, transitive (two f) (e_below toThe e) (b toThe e) (one-le-pow e e_below.under (lit< tt)) (omega (arith, e_below-word 60 refl e f enough)) (raise e_below b e least))
+  reaches e f enough = omega (arith, transitive (two f) (e_below to_the e) (b to_the e) (one-le-pow e e_below.under (lit< tt)) (omega (arith, e_below-word 60 refl e f enough)) (raise e_below b e least))
 
   keeps : (e f : ℕ) → (184 * 2 ^ 60 + 0xaa3b295c17f0bbd) * e ≤ f * (128 * 2 ^ 60) → b.over ^ e ≤ b.under ^ e * 2 ^ f
-  keeps e f enough = omega (arith, transitive (b toThe e) (e_above toThe e) (two f) (one-le-pow e e_above.under (lit< tt)) (raise b e_above e most) (omega (arith, e_above-word 60 refl e f enough)))
+  keeps e f enough = omega (arith, transitive (b to_the e) (e_above to_the e) (two f) (one-le-pow e e_above.under (lit< tt)) (raise b e_above e most) (omega (arith, e_above-word 60 refl e f enough)))
 
   pub log2e-word : (b.under ^ B * 2 ^ C ≤ b.over ^ B) × (b.over ^ B ≤ b.under ^ B * 2 ^ (C + 1))
   log2e-word = (reaches B C (rw (power, log-constant) (lit≤ tt)), keeps B (C + 1) (rw (power, log-constant) (lit≤ tt)))

@@ -120,7 +120,7 @@ root-of B B₀ τ U₀ low' high' =
       record { over = G; under = H },
       record {
         proper = mul-pos (mul-pos (mul-pos (lit< tt) B₀) (pow_pos 80)) U₀;
-        not_above_lem = rw (square G, square H) (above_of (G * G) (H * H) U A τ.plus τ.minus (2 ^ 80) whole (low A U B (2 ^ 80) A₀ U₀ B₀ (pow_pos 80) few));
+        not_above = rw (square G, square H) (above_of (G * G) (H * H) U A τ.plus τ.minus (2 ^ 80) whole (low A U B (2 ^ 80) A₀ U₀ B₀ (pow_pos 80) few));
         not_below = rw (square G, square H) (below_of (G * G) (H * H) U A τ.plus τ.minus (2 ^ 80) whole (high A U B (2 ^ 80) A₀ U₀ B₀ (pow_pos 80) few));
       },
     )
@@ -169,7 +169,7 @@ proper-quotient a b h i = mul-pos h (omega (arith, i))
 
 -- ---- the bounds of what is tracked
 pub above_zero : {b : Bounds} (x : Float) (X : Exact) → Tracks b x X → b.M ≡ 0 → b.E < b.L → X.minus < X.plus
-above_zero {b} x X t none more = go (over x) (under x) X.plus X.minus X.under b.L b.E t.some (omega (arith, t.low, none)) more t.not_above_lem
+above_zero {b} x X t none more = go (over x) (under x) X.plus X.minus X.under b.L b.E t.some (omega (arith, t.low, none)) more t.not_above
   where
     go : (o u P Q K L E : ℕ) → 0 < K → u + L ≤ o → E < L → o * K + Q * N ≤ u * K + P * N + E * K → Q < P
     go o u P Q K L E K₀ a m c = lt_of_mul-lt-mul_right N (omega (arith, mul-le-mul_right K a, mul-lt-mul_of_pos_right m K₀, c))

@@ -92,7 +92,7 @@ unfolding plus less
 sums false a t d m q K B C least most room = (omega arith, omega arith)
 sums true a t d m q K B C least most room = (omega arith, omega arith)
 
-module _ (p B C : ℕ) (least : 20 ≤ p) (most : p ≤ 60) (power : B ≡ 2 ^ 62) (constant : C ≡ log2e) (b : Fraction) (under : 0 < b.under) (low : e_below isAtMost b) (high : b isAtMost e_above) where
+module _ (p B C : ℕ) (least : 20 ≤ p) (most : p ≤ 60) (power : B ≡ 2 ^ 62) (constant : C ≡ log2e) (b : Fraction) (under : 0 < b.under) (low : e_below is_at_most b) (high : b is_at_most e_above) where
   over : 0 < b.over
   over = first_pos b.over e_below.under (lt_of_lt_of_le (mul-pos (lit< tt) under) low)
 
@@ -169,6 +169,7 @@ inner false true r normal = absurd normal.0
 inner false false r normal = record { same = refl; not_large = tt; not_small = tt }
 
 or_first : (a b : Bool) → T (not (a || b)) → T (not a)
+or_first true b t = elim t [ ]
 or_first false b t = tt
 
 within_1100 : (s : Bool) (m : ℕ) (e : ℤ) → T (not (le exp_top (fin s m e))) → T (not (le (fin s m e) exp_bottom)) → m * up e ≤ 1100 * down e
@@ -184,7 +185,7 @@ within_1100 true m e below above =
 -- last place and 6 units of 2 ^ -places, and one more for each four whole units of x.
 abbrev pub ExpNear : ℕ → Type 0
 ExpNear places =
-    (b : Fraction) → 0 < b.under → e_below isAtMost b → b isAtMost e_above → (x : Float) → T (fits binary64 x) → T (finite x) → Normal (exp places x)
+    (b : Fraction) → 0 < b.under → e_below is_at_most b → b is_at_most e_above → (x : Float) → T (fits binary64 x) → T (finite x) → Normal (exp places x)
     → InBounds (2 ^ (places - 53) + 6 + num x / (4 * den x)) places (exp places x) (den x) (raised_by x b)
 
 pub exp-near : (p : ℕ) → 20 ≤ p → p ≤ 60 → ExpNear p

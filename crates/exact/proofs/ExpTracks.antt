@@ -1,5 +1,5 @@
 -- exp of a double that tracks a number tracks every fraction that stands for the power of e. Assumes nothing.
-use Rattle.exact.proofs.Kit.{◌≡◌, sym, ap, ◌∙◌, Bool, true, false, ◌&&◌, List, [], ◌∷◌, ℕ, ◌+◌, ◌-◌, ◌*◌, ◌/◌, ◌^◌, ◌≤◌, ◌<◌, le_trans, le_of_eq, le_of_lt, mul-pos, mul-le-mul_right, mul-le-mul_left, le_of_mul-le-mul_right, pow-le-pow_left, div-mul-le_self, arith, ℤ, T, leb, ltb, eqb, leb→le, ltb→lt, eqb→eq, lit<, lit≤, Float, nan, inf, fin, binary64, up, down, fits, and_r, down_pos, num, den, den_pos, units_of, above, beneath, units-exact, over, under, Fraction, ◌is_at_most◌, exp, Normal, InBounds, raised_by, e_below, e_above, Exact, of, IsPower}
+use Rattle.exact.proofs.Kit.{◌≡◌, sym, ap, ◌∙◌, Bool, true, false, ◌&&◌, List, [], ◌∷◌, ℕ, ◌+◌, ◌-◌, ◌*◌, ◌/◌, ◌^◌, ◌≤◌, ◌<◌, le_trans, le_of_eq, le_of_lt, mul-pos, mul-le-mul_right, mul-le-mul_left, le_of_mul-le-mul_right, pow-le-pow_left, div-mul-le_self, arith, ℤ, T, leb, ltb, eqb, leb→le, ltb→lt, eqb→eq, lit<, lit≤, Float, nan, inf, fin, binary64, up, down, fits, and_r, down_pos, num, den, den_pos, units_of, above, beneath, units-exact, over, Fraction, ◌is_at_most◌, exp, Normal, InBounds, raised_by, e_below, e_above, Exact, of, IsPower}
 use Rattle.exact.proofs.FunctionsNear.{functions_near_60}
 use Rattle.exact.proofs.Rounded.{N, N_pos}
 use Rattle.exact.proofs.Tracks.{Bounds, Tracks}
@@ -88,10 +88,10 @@ one_of o u k q k₀ h i = le_of_mul-le-mul_right {k = k} (le_trans (le_of_eq (om
 three-of : (o u k q : ℕ) → 0 < k → q ≤ 3 * k → o * k ≤ q * u → o ≤ 3 * u
 three-of o u k q k₀ h i = le_of_mul-le-mul_right {k = k} (le_trans i (le_trans (mul-le-mul_right u h) (le_of_eq (omega arith)))) k₀
 
-not_below_one : (b : Fraction) → e_below isAtMost b → b.under ≤ b.over
+not_below_one : (b : Fraction) → e_below is_at_most b → b.under ≤ b.over
 not_below_one b = one_of b.over b.under e_below.under e_below.over (lit< tt) (lit≤ tt)
 
-not_above-three : (b : Fraction) → b isAtMost e_above → b.over ≤ 3 * b.under
+not_above-three : (b : Fraction) → b is_at_most e_above → b.over ≤ 3 * b.under
 not_above-three b = three-of b.over b.under e_above.under e_above.over (lit< tt) (lit≤ tt)
 
 scaled : (m : ℕ) (e : ℤ) → T (fits binary64 (fin true m e)) → m * up e * N ≡ units_of (fin true m e) * down e
@@ -106,7 +106,7 @@ fewer M d v is d₀ h =
     turn : (N d : ℕ) → 24 * N * d ≡ 24 * d * N
     turn N d = omega arith
 
-module _ (L H : ℕ) (yb : Bounds) (good : T (exponential L H yb).good) (b : Fraction) (b₀ : 0 < b.under) (least : e_below isAtMost b) (most : b isAtMost e_above) (Y : Exact) (R : Fraction) (is-power : IsPower b Y R) where
+module _ (L H : ℕ) (yb : Bounds) (good : T (exponential L H yb).good) (b : Fraction) (b₀ : 0 < b.under) (least : e_below is_at_most b) (most : b is_at_most e_above) (Y : Exact) (R : Fraction) (is-power : IsPower b Y R) where
   abbrev n : ℕ
   n = parts yb
 
@@ -118,8 +118,8 @@ module _ (L H : ℕ) (yb : Bounds) (good : T (exponential L H yb).good) (b : Fra
 
   pub sides : (y : Float) → Tracks yb y Y → Normal (exp 60 y) → T (fits binary64 (exp 60 y)) → Sides n (exp 60 y) R
   unfolding above beneath
-  sides nan t normal double = absurd t.is_finite_lem
-  sides (inf s) t normal double = absurd t.is_finite_lem
+  sides nan t normal double = absurd t.is_finite
+  sides (inf s) t normal double = absurd t.is_finite
   sides (fin false m e) t normal double = absurd (omega (arith, t.high, eqb→eq yb.H 0 (passed 0), ltb→lt 0 yb.J (passed 1)))
   sides (fin true m e) t normal double =
       let y : Float = fin true m e in
@@ -137,7 +137,7 @@ module _ (L H : ℕ) (yb : Bounds) (good : T (exponential L H yb).good) (b : Fra
       let high : b.under ^ M * (den r * 2 ^ 60) ^ d ≤ (num r * (2 ^ 60 + 140)) ^ d * b.over ^ M =
       le_trans (le_of_lt w.high) (mul-le-mul_right (b.over ^ M) (pow-le-pow_left (mul-le-mul_left (num r) (omega (arith, few))) d)) in
       let A = both-above b.over b.under n some b₀ (not_below_one b least) (not_above-three b most) (num r * (2 ^ 60 - 140)) (den r * 2 ^ 60) (R.over * (2 ^ 80 + 1)) (R.under * 2 ^ 80) d Y.under M Y.plus Y.minus (down_pos e) t.some low is-power.high
-      (exponent-above N yb.E n d M v Y.under Y.plus Y.minus N_pos small is (le_trans (omega arith) t.not_above_lem)) in
+      (exponent-above N yb.E n d M v Y.under Y.plus Y.minus N_pos small is (le_trans (omega arith) t.not_above)) in
       let B = both_below b.over b.under n some b₀ (not_below_one b least) (not_above-three b most) (num r * (2 ^ 60 + 140)) (den r * 2 ^ 60) (R.over * (2 ^ 80 - 1)) (R.under * 2 ^ 80) d Y.under M Y.plus Y.minus (down_pos e) t.some high is-power.low
       (exponent-below N yb.E n d M v Y.under Y.plus Y.minus N_pos small is (le_trans t.not_below (omega arith))) in
       record {

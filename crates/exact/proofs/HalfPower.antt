@@ -1,6 +1,6 @@
 -- The power to j halves of a double that tracks a number tracks the j-th power of every fraction that stands for the number's root: the analysis finds how near, and
 -- `power` is such a power. Assumes nothing.
-use Rattle.exact.proofs.Kit.{◌≡◌, ap, ◌∙◌, Bool, false, ◌&&◌, List, [], ◌∷◌, ℕ, ◌+◌, ◌-◌, ◌*◌, ◌/◌, ◌^◌, ◌≤◌, ◌<◌, le_trans, le_of_eq, lt_of_lt_of_le, mul-pos, one-le-pow, div-mul-le_self, arith, T, leb, ltb, eqb, leb→le, ltb→lt, eqb→eq, lit<, lit≤, pow_pos, pow-add, Float, binary64, fits, and_r, num, den, positive, over, under, Fraction, exact_value, ◌to_the◌, Exponent, power, power-fits, Normal, InBounds, Exact, ◌⊞◌, opposite, of, IsRoot}
+use Rattle.exact.proofs.Kit.{◌≡◌, ap, ◌∙◌, Bool, false, ◌&&◌, List, [], ◌∷◌, ℕ, ◌+◌, ◌-◌, ◌*◌, ◌/◌, ◌^◌, ◌≤◌, ◌<◌, le_trans, le_of_eq, lt_of_lt_of_le, mul-pos, one-le-pow, div-mul-le_self, arith, T, leb, ltb, eqb, leb→le, ltb→lt, eqb→eq, lit<, lit≤, pow_pos, pow-add, Float, binary64, fits, and_r, num, den, positive, over, Fraction, exact_value, ◌to_the◌, Exponent, power, power-fits, Normal, InBounds, Exact, ◌⊞◌, opposite, of, IsRoot}
 use Rattle.roots.specs.Root.{root}
 use Rattle.exact.proofs.PowerNear.{power-within}
 use Rattle.exact.proofs.Rounded.{N, N_pos}
@@ -89,7 +89,7 @@ module _ (K C j : ℕ) (τb : Bounds) (less : C < K) (good : T (powered K C j τ
   x-units = positive-units x x-positive t.double
 
   pub tracks-half : (k : Fraction) → IsRoot k τ → (r : Float) → T (positive r) → T (fits binary64 r) → (over r * (K - C)) ^ 2 * N ^ j < over x ^ j * (N * K) ^ 2 → over x ^ j * (N * K) ^ 2 < (over r * (K + C)) ^ 2 * N ^ j
-      → Tracks (powered K C j τb) r (of (k toThe j))
+      → Tracks (powered K C j τb) r (of (k to_the j))
   unfolding ◌⊞◌ opposite
   tracks-half k is-root r some double higher lower =
       let R : ℕ = over r in
@@ -101,11 +101,11 @@ module _ (K C j : ℕ) (τb : Bounds) (less : C < K) (good : T (powered K C j τ
       range-high N K C j R X N_pos less higher lower (2 ^ 20) most H τb.H (lit< tt) x-high (leb→le (τb.H * (2 ^ 20) ^ 2) (most ^ 2 * N) (passed 2)) (thin (most ^ j * (N * K)) ((K - C) * (2 ^ 20) ^ j) (mul-pos (omega (arith, less)) (one-le-pow j (2 ^ 20) (lit< tt)))) in
       let R-low : (powered K C j τb).L ≤ R =
       range-low N K C j R X N_pos less higher lower (2 ^ 20) least _ τb.L (lit< tt) x-low (leb→le (least ^ 2 * N) (τb.L * (2 ^ 20) ^ 2) (passed 1)) (div-mul-le_self (least ^ j * (N * K)) ((K + C) * (2 ^ 20) ^ j)) in
-      let tracked-above : X * τ.under + τ.minus * N ≤ τ.plus * N + τb.E * τ.under = le_trans t.not_above_lem (le_of_eq (ap (λ (u : ℕ). u * τ.under + τ.plus * N + τb.E * τ.under) x-units.none-under ∙ omega arith)) in
+      let tracked-above : X * τ.under + τ.minus * N ≤ τ.plus * N + τb.E * τ.under = le_trans t.not_above (le_of_eq (ap (λ (u : ℕ). u * τ.under + τ.plus * N + τb.E * τ.under) x-units.none-under ∙ omega arith)) in
       let tracked-below : τ.plus * N ≤ X * τ.under + τ.minus * N + τb.E * τ.under = le_trans (omega arith) t.not_below in
       let near-above = square_above N (2 ^ 994) (2 ^ 80) X τ.plus τ.minus τ.under τb.E (k.over ^ 2) (k.under ^ 2) (pow_pos 80) t.some scale tracked-above is-root.not_below in
-      let near-below = square-below N (2 ^ 994) (2 ^ 80) X τ.plus τ.minus τ.under τb.E (k.over ^ 2) (k.under ^ 2) (pow_pos 80) t.some scale tracked-below is-root.not_above_lem in
-      positive-near (2 ^ 70) D' (powered K C j τb).L H r (k toThe j) (lit< tt) (one-le-pow j k.under is-root.proper) some double R-low R-high
+      let near-below = square-below N (2 ^ 994) (2 ^ 80) X τ.plus τ.minus τ.under τb.E (k.over ^ 2) (k.under ^ 2) (pow_pos 80) t.some scale tracked-below is-root.not_above in
+      positive-near (2 ^ 70) D' (powered K C j τb).L H r (k to_the j) (lit< tt) (one-le-pow j k.under is-root.proper) some double R-low R-high
       (apart_from N K C j R X N_pos less higher lower k.over k.under (τb.E + 2 ^ 994) τb.L W' Y' (2 ^ 70) D' is-root.proper (ltb→lt 0 W' (passed 7)) (plus_pos (2 * W' / j - 2) 1 (lit< tt)) x-low near-above near-below room
       (leb→le ((W' + 1) ^ j * Y' ^ 2) (W' ^ j * (Y' + 1) ^ 2) (passed 4)) (leb→le (2 ^ 70 * (K * (Y' + 1))) (2 ^ 70 * ((K - C) * Y') + D' * (K * (Y' + 1))) (passed 5)) (leb→le (2 ^ 70 * ((K + C) * (Y' + 1))) (2 ^ 70 * (K * Y') + D' * (K * Y')) (passed 6)))
 
@@ -117,12 +117,12 @@ module _ (j : ℕ) (τb : Bounds) (small : j * 2 ^ 57 ≤ 8 * 2 ^ 58) (good : T 
   abbrev r : Float
   r = power 60 (halves j) x
 
-  pub tracks-power : Normal r → Tracks (half_power j τb) r (of (k toThe j))
+  pub tracks-power : Normal r → Tracks (half_power j τb) r (of (k to_the j))
   tracks-power normal =
       let some : T (positive x) = x-positive (2 ^ 60) 147 j τb (lit< tt) good x τ t in
       let x-is : Positive x = x-units (2 ^ 60) 147 j τb (lit< tt) good x τ t in
       let r-is : Positive r = positive-units r normal.0 (power-fits 60 _ x) in
-      let w : InBounds 147 60 r (2 ^ 58) (exact_value x toThe (j * 2 ^ 57)) = power-within 60 8 (halves j) (lit≤ tt) (lit≤ tt) (lit≤ tt) small x t.double some normal in
+      let w : InBounds 147 60 r (2 ^ 58) (exact_value x to_the (j * 2 ^ 57)) = power-within 60 8 (halves j) (lit≤ tt) (lit≤ tt) (lit≤ tt) small x t.double some normal in
       tracks-half (2 ^ 60) 147 j τb (lit< tt) good x τ t k is-root r normal.0 (power-fits 60 _ x)
       (units-above (num r) (den r) (over r) (num x) (den x) (over x) N j N_pos r-is.is-over x-is.is-over (2 ^ 60 - 147) (2 ^ 60) (unraised (num r * (2 ^ 60 - 147)) (den x) (num x) (den r * 2 ^ 60) 2 j j 2 (2 ^ 57) w.low))
       (units-below (num r) (den r) (over r) (num x) (den x) (over x) N j N_pos r-is.is-over x-is.is-over (2 ^ 60 + 147) (2 ^ 60) (unraised (num x) (den r * 2 ^ 60) (num r * (2 ^ 60 + 147)) (den x) j 2 2 j (2 ^ 57) w.high))

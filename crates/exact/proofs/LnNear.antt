@@ -50,12 +50,12 @@ inverse-two zero = (refl, refl)
 inverse-two (suc k) = (refl, refl)
 
 module _ (B D : ℕ) (b : Fraction) (over₀ : 0 < b.over) (under₀ : 0 < b.under) (most : b.over ^ D ≤ b.under ^ D * 2 ^ B) (least : b.under ^ (D + 1) * 2 ^ B ≤ b.over ^ (D + 1)) where
-  base-below : (F : ℤ) → at_least D b F isAtMost two_to_the (F *ℤ pos B)
+  base-below : (F : ℤ) → at_least D b F is_at_most two_to_the (F *ℤ pos B)
   base-below (pos n) = le_trans (le_of_eq (mul-one (b.over ^ (n * D)))) (le_trans (raise-most b.over b.under D B n most) (le_of_eq (mul_comm (b.under ^ (n * D)) (2 ^ (n * B)))))
   base-below (negsuc n) =
       rw ((inverse-two (suc n * B)).0, (inverse-two (suc n * B)).1) (le_trans (raise-least b.over b.under (D + 1) B (suc n) least) (le_of_eq (sym (one-mul (b.over ^ (suc n * (D + 1)))))))
 
-  base_above : (F : ℤ) → two_to_the (F *ℤ pos B) isAtMost at_most D b F
+  base_above : (F : ℤ) → two_to_the (F *ℤ pos B) is_at_most at_most D b F
   base_above (pos n) = le_trans (le_of_eq (mul_comm (2 ^ (n * B)) (b.under ^ (n * (D + 1))))) (le_trans (raise-least b.over b.under (D + 1) B n least) (le_of_eq (sym (mul-one (b.over ^ (n * (D + 1)))))))
   base_above (negsuc n) =
       rw ((inverse-two (suc n * B)).0, (inverse-two (suc n * B)).1) (le_trans (le_of_eq (one-mul (b.over ^ (suc n * D)))) (raise-most b.over b.under D B (suc n) most))
@@ -71,7 +71,7 @@ strictly_through x y z p q r r₀ less order =
     lt_of_mul-lt-mul_right q (omega arith)
 
 -- ---- the two together; B and D are given by equations, so that no power of theirs is written out
-module _ (p B D m : ℕ) (e : ℤ) (places : p ≤ 60) (power : B ≡ 2 ^ 62) (constant : D ≡ ln2) (b : Fraction) (under : 0 < b.under) (low : e_below isAtMost b) (high : b isAtMost e_above) (double : T (fits binary64 (fin false (suc m) e))) where
+module _ (p B D m : ℕ) (e : ℤ) (places : p ≤ 60) (power : B ≡ 2 ^ 62) (constant : D ≡ ln2) (b : Fraction) (under : 0 < b.under) (low : e_below is_at_most b) (high : b is_at_most e_above) (double : T (fits binary64 (fin false (suc m) e))) where
   abbrev x : Float
   x = fin false (suc m) e
 
@@ -102,23 +102,23 @@ module _ (p B D m : ℕ) (e : ℤ) (places : p ≤ 60) (power : B ≡ 2 ^ 62) (c
   word : F ≡ minus a (1074 * n)
   word = ap (λ (z : ℤ). floor_div (z *ℤ pos D) B) near.word ∙ floored (2 ^ p) B D 1074 near.biased (units_of x) B₀ D₀ proper near.below near.above
 
-  two-low : two_to_the (F *ℤ pos B) isAtMost (exact_value x toThe n)
+  two-low : two_to_the (F *ℤ pos B) is_at_most (exact_value x to_the n)
   two-low =
-      subst (λ (z : ℤ). two_to_the z isAtMost (exact_value x toThe n)) (sym (ap (λ (z : ℤ). z *ℤ pos B) word ∙ minus-times a (1074 * n) B))
+      subst (λ (z : ℤ). two_to_the z is_at_most (exact_value x to_the n)) (sym (ap (λ (z : ℤ). z *ℤ pos B) word ∙ minus-times a (1074 * n) B))
       (two-at_most (num x) (den x) (units_of x) 1074 n (a * B) (1074 * n * B) (down_pos e) (units-exact false (suc m) e double) (floor_low (2 ^ p) B D 1074 near.biased (units_of x) B₀ D₀ proper near.below near.above))
 
-  two-high : (exact_value x toThe n) isBelow two_to_the ((F +ℤ pos 3) *ℤ pos B)
+  two-high : (exact_value x to_the n) is_below two_to_the ((F +ℤ pos 3) *ℤ pos B)
   two-high =
-      subst (λ (z : ℤ). (exact_value x toThe n) isBelow two_to_the z) (sym (ap (λ (z : ℤ). (z +ℤ pos 3) *ℤ pos B) word ∙ ap (λ (z : ℤ). z *ℤ pos B) (minus_plus a (1074 * n) 3) ∙ minus-times (a + 3) (1074 * n) B))
+      subst (λ (z : ℤ). (exact_value x to_the n) is_below two_to_the z) (sym (ap (λ (z : ℤ). (z +ℤ pos 3) *ℤ pos B) word ∙ ap (λ (z : ℤ). z *ℤ pos B) (minus_plus a (1074 * n) 3) ∙ minus-times (a + 3) (1074 * n) B))
       (below_two (num x) (den x) (units_of x) 1074 n ((a + 3) * B) (1074 * n * B) (down_pos e) (units-exact false (suc m) e double) (floor_high (2 ^ p) B D 1074 near.biased (units_of x) B₀ D₀ proper near.below near.above))
 
   base : (b.over ^ D ≤ b.under ^ D * 2 ^ B) × (b.under ^ (D + 1) * 2 ^ B ≤ b.over ^ (D + 1))
   base = ln2-word B log2e D power refl constant b low high
 
-  ln-low : at_least D b F isAtMost (exact_value x toThe n)
+  ln-low : at_least D b F is_at_most (exact_value x to_the n)
   ln-low = let y : Fraction = at_least D b F in let z : Fraction = two_to_the (F *ℤ pos B) in through y.over z.over (num x ^ n) y.under z.under (den x ^ n) (down_pos (F *ℤ pos B)) (base-below B D b over under base.0 base.1 F) two-low
 
-  ln-high : (exact_value x toThe n) isBelow at_most D b (F +ℤ pos 3)
+  ln-high : (exact_value x to_the n) is_below at_most D b (F +ℤ pos 3)
   ln-high =
       let G : ℤ = F +ℤ pos 3 in
       let y : Fraction = at_most D b G in
@@ -127,7 +127,7 @@ module _ (p B D m : ℕ) (e : ℤ) (places : p ≤ 60) (power : B ≡ 2 ^ 62) (c
 
 abbrev pub LnNear : ℕ → Type 0
 LnNear places =
-    (b : Fraction) → 0 < b.under → e_below isAtMost b → b isAtMost e_above → (x : Float) → T (fits binary64 x) → T (positive x)
+    (b : Fraction) → 0 < b.under → e_below is_at_most b → b is_at_most e_above → (x : Float) → T (fits binary64 x) → T (positive x)
     → LnWithin places b x (floor_div (log_word places x *ℤ pos ln2) (2 ^ 62))
 
 pub ln-near : (p : ℕ) → p ≤ 60 → LnNear p

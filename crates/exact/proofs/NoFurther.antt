@@ -5,9 +5,9 @@ pub no_further : (j k : ℕ) (x : Float) (X : Exact) → j ≤ k → IsNear k x 
 no_further j k x X less n =
     let d = number x ⊟ X in
     record {
-      is_finite_lem = n.is_finite_lem;
+      is_finite = n.is_finite;
       proper = n.proper;
-      not_above_lem = go d.plus d.minus d.under n.not_above_lem;
+      not_above = go d.plus d.minus d.under n.not_above;
       not_below = go d.minus d.plus d.under n.not_below;
     }
   where

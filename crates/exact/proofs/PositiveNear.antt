@@ -17,11 +17,11 @@ module _ (F D L H : ℕ) (r : Float) (R : Fraction) (F₀ : 0 < F) (proper : 0 <
       let both = apart-units F D (over r) R.under (R.over * N) (D * H / F + 1) H F₀ top (thin (D * H) F F₀) apart in
       record {
         some = proper;
-        is_finite_lem = positive-finite r some;
+        is_finite = positive-finite r some;
         double = double;
         low = omega (arith, units.none-under, bottom);
         high = omega (arith, top);
-        not_above_lem = above_of (over r) (under r) R.under R.over (D * H / F + 1) both.0;
+        not_above = above_of (over r) (under r) R.under R.over (D * H / F + 1) both.0;
         not_below = below_of (over r) (under r) R.under R.over (D * H / F + 1) units.none-under both.1;
       }
     where
@@ -38,9 +38,9 @@ module _ (k : ℕ) (x : Float) (X : Exact) (some : T (positive x)) (double : T (
   nearly-of =
       let n = number_is x (positive-finite x some) double in
       record {
-        is_finite_lem = positive-finite x some;
+        is_finite = positive-finite x some;
         proper = proper;
-        not_above_lem = up (2 ^ k) (number x).plus (number x).minus (number x).under (over x) X.plus X.minus X.under n.1 above_zero apart.not_above_lem;
+        not_above = up (2 ^ k) (number x).plus (number x).minus (number x).under (over x) X.plus X.minus X.under n.1 above_zero apart.not_above;
         not_below = down (2 ^ k) (number x).plus (number x).minus (number x).under (over x) (under x) X.plus X.minus X.under n.1 n.2 (positive-units x some double).none-under apart.not_below;
       }
     where

@@ -201,29 +201,29 @@ module _ (s : Power) (w : Window) (good : T (power_bounds s w).good) (computed :
   r-units : Positive r
   r-units = positive-units r r-normal.0 r-fits
 
-  near : InBounds (C s) 60 r (2 ^ 58) (exact_value x toThe s.M)
+  near : InBounds (C s) 60 r (2 ^ 58) (exact_value x to_the s.M)
   near = power-within 60 s.whole (exponent_of s) (lit≤ tt) (lit≤ tt) (leb→le s.whole 36 (passed 5)) (leb→le s.M (s.whole * 2 ^ 58) (passed 4)) x t.double x-positive r-normal
 
   -- ---- the exact power
   apart : X.minus < X.plus
   apart = above_zero x X t none_below clear
 
-  exact-low : ((R times less 1 80) toThe s.Q.under) isAtMost (positive_part X toThe s.Q.plus)
-  exact-low = subst (λ (z : Fraction). ((R times less 1 80) toThe s.Q.under) isAtMost z) (no_power (positive_part X) s.Q.plus s.Q.minus (eqb→eq s.Q.minus 0 (passed 0))) is-power.low
+  exact-low : ((R times less 1 80) to_the s.Q.under) is_at_most (positive_part X to_the s.Q.plus)
+  exact-low = subst (λ (z : Fraction). ((R times less 1 80) to_the s.Q.under) is_at_most z) (no_power (positive_part X) s.Q.plus s.Q.minus (eqb→eq s.Q.minus 0 (passed 0))) is-power.low
 
-  exact-high : (positive_part X toThe s.Q.plus) isAtMost ((R times more 1 80) toThe s.Q.under)
-  exact-high = subst (λ (z : Fraction). z isAtMost ((R times more 1 80) toThe s.Q.under)) (no_power (positive_part X) s.Q.plus s.Q.minus (eqb→eq s.Q.minus 0 (passed 0))) is-power.high
+  exact-high : (positive_part X to_the s.Q.plus) is_at_most ((R times more 1 80) to_the s.Q.under)
+  exact-high = subst (λ (z : Fraction). z is_at_most ((R times more 1 80) to_the s.Q.under)) (no_power (positive_part X) s.Q.plus s.Q.minus (eqb→eq s.Q.minus 0 (passed 0))) is-power.high
 
   -- ---- near the exact one
   room : E * (W w + 1) ≤ over x
   room = le_trans (leb→le (E * (W w + 1)) (over w.lo) (passed 21)) x-least
 
-  base-high : exact_value x isAtMost (positive_part X times next (W w))
+  base-high : exact_value x is_at_most (positive_part X times next (W w))
   base-high =
       from-units (num x) (den x) (over x) x-is (X.under * W w) ((X.plus - X.minus) * (W w + 1))
-      (base_above (over x) E (W w) X.plus X.minus X.under (under x) x-units.none-under apart room t.not_above_lem)
+      (base_above (over x) E (W w) X.plus X.minus X.under (under x) x-units.none-under apart room t.not_above)
 
-  base-low : positive_part X isAtMost (exact_value x times next (W w))
+  base-low : positive_part X is_at_most (exact_value x times next (W w))
   base-low =
       le_trans (le_of_eq (turn (X.plus - X.minus) (den x) (W w)))
       (le_trans (from_units' (num x) (den x) (over x) x-is ((W w + 1) * X.under) ((X.plus - X.minus) * W w)
@@ -236,7 +236,7 @@ module _ (s : Power) (w : Window) (good : T (power_bounds s w).good) (computed :
       turn' : (n w u : ℕ) → n * (w * u) ≡ n * w * u
       turn' n w u = omega arith
 
-  part : (next (W w) toThe s.Q.plus) isAtMost (next (Y s w) toThe s.Q.under)
+  part : (next (W w) to_the s.Q.plus) is_at_most (next (Y s w) to_the s.Q.under)
   part =
       part_of-power (W w) (Y s w) s.i s.j s.Q.plus s.Q.under W₀ Y₀ (ltb→lt 0 s.j (passed 2)) (leb→le (s.Q.plus * s.j) (s.i * s.Q.under) (passed 3))
       (leb→le ((W w + 1) ^ s.i * Y s w ^ s.j) ((Y s w + 1) ^ s.j * W w ^ s.i) (passed 22))
@@ -248,12 +248,12 @@ module _ (s : Power) (w : Window) (good : T (power_bounds s w).good) (computed :
       go : (p q m k c : ℕ) → p * 16 ≤ q * (16 + c) → m * c ≤ 16 * k → p * m ≤ q * (m + k)
       go p q m k c h i = le_of_mul-le-mul_right {k = 16} (omega (arith, mul-le-mul_right m h, mul-le-mul_left q i)) (lit< tt)
 
-  x-at_most : exact_value x isAtMost record { over = m s w + k s; under = m s w }
+  x-at_most : exact_value x is_at_most record { over = m s w + k s; under = m s w }
   x-at_most =
       let few : num x * 16 ≤ (16 + w.c) * den x = from-units (num x) (den x) (over x) x-is 16 (16 + w.c) (le_trans (mul-le-mul_right 16 x-most) (leb→le (over w.hi * 16) ((16 + w.c) * N) (passed 10))) in
       le_trans (widest (num x) (den x) (le_trans few (le_of_eq (mul_comm (16 + w.c) (den x))))) (le_of_eq (mul_comm (den x) (m s w + k s)))
 
-  x-at_least : inverse (exact_value x) isAtMost record { over = m s w + k s; under = m s w }
+  x-at_least : inverse (exact_value x) is_at_most record { over = m s w + k s; under = m s w }
   x-at_least =
       let few : 16 * den x ≤ num x * (16 + w.c) = from_units' (num x) (den x) (over x) x-is (16 + w.c) 16 (le_trans (leb→le (16 * N) (over w.lo * (16 + w.c)) (passed 11)) (mul-le-mul_right (16 + w.c) x-least)) in
       le_trans (widest (den x) (num x) (le_trans (le_of_eq (mul_comm (den x) 16)) few)) (le_of_eq (mul_comm (num x) (m s w + k s)))
@@ -264,15 +264,15 @@ module _ (s : Power) (w : Window) (good : T (power_bounds s w).good) (computed :
   exponents-low : s.Q.plus * 2 ^ 58 * k s ≤ s.M * s.Q.under * k s + scale s
   exponents-low = leb→le (s.Q.plus * 2 ^ 58 * k s) (s.M * s.Q.under * k s + scale s) (passed 7)
 
-  power-high : (exact_value r times less (C s) 60) isAtMost (R times (more 1 80 times slack (Y s w) (m s w)))
+  power-high : (exact_value r times less (C s) 60) is_at_most (R times (more 1 80 times slack (Y s w) (m s w)))
   power-high =
-      subst (λ (z : Fraction). (exact_value r times less (C s) 60) isAtMost z) (times-assoc R (more 1 80) (slack (Y s w) (m s w)))
+      subst (λ (z : Fraction). (exact_value r times less (C s) 60) is_at_most z) (times-assoc R (more 1 80) (slack (Y s w) (m s w)))
       (at_most_lem (2 ^ 58) s.M s.Q.plus s.Q.under (m s w) (k s) (W w) (Y s w) (lit< tt) U₀ m₀ W₀ Y₀ part exponents-high exponents-low (exact_value x) (positive_part X) x₀ (den_pos x) t.some x-at_most x-at_least
       (exact_value r times less (C s) 60) (R times more 1 80) (mul-pos is-power.proper (pow_pos 80)) (le_of_lt near.low) base-high exact-high)
 
-  power-low : (R times less 1 80) isAtMost (exact_value r times (more (C s) 60 times slack (Y s w) (m s w)))
+  power-low : (R times less 1 80) is_at_most (exact_value r times (more (C s) 60 times slack (Y s w) (m s w)))
   power-low =
-      subst (λ (z : Fraction). (R times less 1 80) isAtMost z) (times-assoc (exact_value r) (more (C s) 60) (slack (Y s w) (m s w)))
+      subst (λ (z : Fraction). (R times less 1 80) is_at_most z) (times-assoc (exact_value r) (more (C s) 60) (slack (Y s w) (m s w)))
       (at_least (2 ^ 58) s.M s.Q.plus s.Q.under (m s w) (k s) (W w) (Y s w) (lit< tt) U₀ m₀ W₀ Y₀ part exponents-high exponents-low (exact_value x) (positive_part X) x₀ (den_pos x) t.some x-at_most x-at_least
       (exact_value r times more (C s) 60) (R times less 1 80) (mul-pos (den_pos r) (pow_pos 60)) (le_of_lt near.high) base-low exact-low)
 

@@ -1,4 +1,4 @@
--- Between fractions and units of 2 ^ -1074, over natural numbers: what a power needs of its base, and what it gives back. Assumes nothing.
+-- Between fractions and units of 2 ^ -1074, over natural numbers: what a power rules of its base, and what it gives back. Assumes nothing.
 use Rattle.exact.proofs.Kit.{◌≡◌, ap, ◌∙◌, ℕ, ◌+◌, ◌-◌, ◌*◌, ◌≤◌, ◌<◌, le_trans, le_of_eq, mul-le-mul_right, le_of_mul-le-mul_right, arith}
 use Rattle.exact.proofs.Rounded.{N, N_pos}
 

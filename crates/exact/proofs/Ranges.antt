@@ -31,11 +31,11 @@ number_is (fin true m e) h f = (down_pos e, none (2 ^ 1074) (down e), units-exac
 pub near_of : (k : ℕ) {b : Bounds} (x : Float) (X : Exact) → b.E * 2 ^ k ≤ N → Tracks b x X → IsNear k x X
 unfolding ◌⊞◌ opposite
 near_of k {b} x X fine t =
-    let n = number_is x t.is_finite_lem t.double in
+    let n = number_is x t.is_finite t.double in
     record {
-      is_finite_lem = t.is_finite_lem;
+      is_finite = t.is_finite;
       proper = t.some;
-      not_above_lem = read_off (number x).plus (number x).minus (number x).under X.plus X.minus X.under (over x) (under x) (2 ^ k) b.E n.1 n.2 fine t.not_above_lem;
+      not_above = read_off (number x).plus (number x).minus (number x).under X.plus X.minus X.under (over x) (under x) (2 ^ k) b.E n.1 n.2 fine t.not_above;
       not_below = read_off (number x).minus (number x).plus (number x).under X.minus X.plus X.under (under x) (over x) (2 ^ k) b.E n.2 n.1 fine t.not_below;
     }
 
@@ -53,19 +53,19 @@ sides-of-le (fin s m e) (fin t n d) h k f g l = omega (arith, at_most_lem s t (u
 module _ (lo hi x : Float) (finite-lo : T (finite lo)) (finite-hi : T (finite hi)) (fits-lo : T (fits binary64 lo)) (fits-hi : T (fits binary64 hi)) (r : Between lo hi x) where
   pub within : Small (units_of lo + units_of hi) x
   within =
-      small-between lo x hi r.double (record { is_finite_lem = finite-lo; double = fits-lo; size = omega arith }) (record { is_finite_lem = finite-hi; double = fits-hi; size = omega arith }) r.low r.high
+      small-between lo x hi r.double (record { is_finite = finite-lo; double = fits-lo; size = omega arith }) (record { is_finite = finite-hi; double = fits-hi; size = omega arith }) r.low r.high
 
   pub tracks-itself : Tracks (ranged lo hi 0) x (number x)
   tracks-itself =
       let s = within in
-      let n = number_is x s.is_finite_lem r.double in
+      let n = number_is x s.is_finite r.double in
       record {
         some = n.0;
-        is_finite_lem = s.is_finite_lem;
+        is_finite = s.is_finite;
         double = r.double;
-        low = omega (arith, sides-of-le lo x finite-lo s.is_finite_lem fits-lo r.double r.low);
-        high = omega (arith, sides-of-le x hi s.is_finite_lem finite-hi r.double fits-hi r.high);
-        not_above_lem = omega (arith, n.1, n.2);
+        low = omega (arith, sides-of-le lo x finite-lo s.is_finite fits-lo r.double r.low);
+        high = omega (arith, sides-of-le x hi s.is_finite finite-hi r.double fits-hi r.high);
+        not_above = omega (arith, n.1, n.2);
         not_below = omega (arith, n.1, n.2);
       }
 
@@ -86,11 +86,11 @@ widen {a} {b} x X h t =
     let more : a.E * X.under ≤ b.E * X.under = mul-le-mul_right X.under (leb→le a.E b.E (test (wider a b) 2 h)) in
     record {
       some = t.some;
-      is_finite_lem = t.is_finite_lem;
+      is_finite = t.is_finite;
       double = t.double;
       low = omega (arith, t.low, low);
       high = omega (arith, t.high, high);
-      not_above_lem = omega (arith, t.not_above_lem, more);
+      not_above = omega (arith, t.not_above, more);
       not_below = omega (arith, t.not_below, more);
     }
 
@@ -99,11 +99,11 @@ pub tracks_same : {b : Bounds} (x : Float) (X Y : Exact) → 0 < Y.under → X.p
 tracks_same {b} x X Y some same t =
     record {
       some = some;
-      is_finite_lem = t.is_finite_lem;
+      is_finite = t.is_finite;
       double = t.double;
       low = t.low;
       high = t.high;
-      not_above_lem = turned (over x) (under x) X.plus X.minus X.under Y.plus Y.minus Y.under b.E t.some same t.not_above_lem;
+      not_above = turned (over x) (under x) X.plus X.minus X.under Y.plus Y.minus Y.under b.E t.some same t.not_above;
       not_below = turned (under x) (over x) X.minus X.plus X.under Y.minus Y.plus Y.under b.E t.some (omega (arith, same)) t.not_below;
     }
   where

@@ -3,13 +3,13 @@ use Rattle.exact.proofs.Kit.{◌≡◌, sym, ap, ◌∙◌, ℕ, ◌+◌, ◌-�
 
 -- ---- a number A and a number B, each at most a part D / F of A from the other
 pub record Apart (F D A B : ℕ) : Type 0 where
-  pub not_above_lem : F * A ≤ F * B + D * A
+  pub not_above : F * A ≤ F * B + D * A
   pub not_below : F * B ≤ F * A + D * A
 
 pub apart_of : (F D A B α β γ δ : ℕ) → 0 < β → 0 < γ → α * A ≤ β * B → γ * B ≤ δ * A → F * β ≤ F * α + D * β → F * δ ≤ F * γ + D * γ → Apart F D A B
 apart_of F D A B α β γ δ β₀ γ₀ h l i j =
     record {
-      not_above_lem = le_of_mul-le-mul_right {k = β} (omega (arith, mul-le-mul_right A i, mul-le-mul_left F h)) β₀;
+      not_above = le_of_mul-le-mul_right {k = β} (omega (arith, mul-le-mul_right A i, mul-le-mul_left F h)) β₀;
       not_below = le_of_mul-le-mul_right {k = γ} (omega (arith, mul-le-mul_right A j, mul-le-mul_left F l)) γ₀;
     }
 
@@ -17,7 +17,7 @@ apart_of F D A B α β γ δ β₀ γ₀ h l i j =
 pub apart-units : (F D R H B E most : ℕ) → 0 < F → R ≤ most → D * most ≤ E * F → Apart F D (R * H) B → (R * H ≤ B + E * H) × (B ≤ R * H + E * H)
 apart-units F D R H B E most F₀ top fine a =
     let part : D * (R * H) ≤ E * F * H = le_trans (le_of_eq (omega arith)) (le_trans (mul-le-mul_right H (mul-le-mul_left D top)) (mul-le-mul_right H fine)) in
-    (le_of_mul-le-mul_right {k = F} (omega (arith, part, a.not_above_lem)) F₀, le_of_mul-le-mul_right {k = F} (omega (arith, part, a.not_below)) F₀)
+    (le_of_mul-le-mul_right {k = F} (omega (arith, part, a.not_above)) F₀, le_of_mul-le-mul_right {k = F} (omega (arith, part, a.not_below)) F₀)
 
 -- ---- half powers
 -- one power is below another where their roots are

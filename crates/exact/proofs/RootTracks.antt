@@ -70,7 +70,7 @@ abbrev pub rooted : Bounds → Bounds
 rooted = powered (2 ^ 53) 2 1
 
 module _ (τb : Bounds) (good : T (rooted τb).good) (x : Float) (τ : Exact) (t : Tracks τb x τ) (k : Fraction) (is-root : IsRoot k τ) where
-  pub tracks-sqrt : Tracks (rooted τb) (sqrt x) (of (k toThe 1))
+  pub tracks-sqrt : Tracks (rooted τb) (sqrt x) (of (k to_the 1))
   tracks-sqrt =
       let w : SqrtNear x = sqrt-near x (x-positive (2 ^ 53) 2 1 τb (lit< tt) good x τ t) t.double in
       tracks-half (2 ^ 53) 2 1 τb (lit< tt) good x τ t k is-root (sqrt x) w.is_positive w.double w.higher w.lower

@@ -51,7 +51,7 @@ module _ (s t : Bool) (m n : ℕ) (e d : ℤ) (f : T (fits binary64 (fin s m e))
       let z = sum_is s t (units_of x) (units_of y) (2 ^ 1074) in
       let most : z.size ≤ D = size-at_most z.sign z.size (over x + over y) (under x + under y) D (omega (arith, z.balanced)) high low in
       let r = round-near z.sign z.size 1 U (omega arith) step (omega (arith, most, small)) in
-      rw (add-counts s t m n e d f g) (rw z.rounded record { is_finite_lem = r.is_finite_lem; double = r.double; not_above_lem = omega (arith, r.not_above_lem, z.balanced); not_below = omega (arith, r.not_below, z.balanced) })
+      rw (add-counts s t m n e d f g) (rw z.rounded record { is_finite = r.is_finite; double = r.double; not_above = omega (arith, r.not_above, z.balanced); not_below = omega (arith, r.not_below, z.balanced) })
 
   same-sides : above (unlike s t) (units_of x * units_of y) ≡ over x * over y + under x * under y
   same-sides = like_signs s t (units_of x) (units_of y)

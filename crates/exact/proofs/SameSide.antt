@@ -22,24 +22,24 @@ apart A B F E h = lt_of_mul-lt-mul_right F (omega (arith, h))
 
 module _ (k : ℕ) (x c : Float) (X : Exact) (near : IsNear k x X) (fits-x : T (fits binary64 x)) (finite-c : T (finite c)) (fits-c : T (fits binary64 c)) where
   itself : (z : Float) → T (finite z) → T (fits binary64 z) → Small (units_of z) z
-  itself z h f = record { is_finite_lem = h; double = f; size = le_refl (units_of z) }
+  itself z h f = record { is_finite = h; double = f; size = le_refl (units_of z) }
 
   pub same-side : IsFar k X c → le c x ≡ is_not_above (number c) X
   unfolding ◌⊞◌ opposite
   same-side far =
-      let n = number_is x near.is_finite_lem fits-x in
+      let n = number_is x near.is_finite fits-x in
       let m = number_is c finite-c fits-c in
-      go (number x).plus (number x).minus (number x).under (number c).plus (number c).minus (number c).under X.plus X.minus X.under n m near.not_above_lem near.not_below far
+      go (number x).plus (number x).minus (number x).under (number c).plus (number c).minus (number c).under X.plus X.minus X.under n m near.not_above near.not_below far
     where
       go : (a b u p q v P Q K : ℕ) → (0 < u) × (a * N ≡ over x * u) × (b * N ≡ under x * u) → (0 < v) × (p * N ≡ over c * v) × (q * N ≡ under c * v)
           → (a * K + Q * u) * 2 ^ k ≤ (b * K + P * u) * 2 ^ k + u * K → (b * K + P * u) * 2 ^ k ≤ (a * K + Q * u) * 2 ^ k + u * K
           → ((Q * v + p * K) * 2 ^ k + K * v < (P * v + q * K) * 2 ^ k) ⊎ ((P * v + q * K) * 2 ^ k + K * v < (Q * v + p * K) * 2 ^ k)
           → le c x ≡ leb (p * K + Q * v) (P * v + q * K)
       go a b u p q v P Q K n m high low (inl far) =
-          is_true (le c x) (le-of-sides c x (itself c finite-c fits-c) (itself x near.is_finite_lem fits-x) (le_of_lt (in_units a b u p q v (over x) (under x) (over c) (under c) n.1 n.2 m.1 m.2 (on-a-side a b u p q v P Q K (2 ^ k) n.0 low far))))
+          is_true (le c x) (le-of-sides c x (itself c finite-c fits-c) (itself x near.is_finite fits-x) (le_of_lt (in_units a b u p q v (over x) (under x) (over c) (under c) n.1 n.2 m.1 m.2 (on-a-side a b u p q v P Q K (2 ^ k) n.0 low far))))
           ∙ sym (is_true (leb (p * K + Q * v) (P * v + q * K)) (le→leb (p * K + Q * v) (P * v + q * K) (omega (arith, apart (Q * v + p * K) (P * v + q * K) (2 ^ k) (K * v) far))))
       go a b u p q v P Q K n m high low (inr far) =
-          not_true (le c x) (not_le-of-less x c (lt-of-sides x c (itself x near.is_finite_lem fits-x) (itself c finite-c fits-c) (turn (under c) (over x) (under x) (over c) (in_units b a u q p v (under x) (over x) (under c) (over c) n.2 n.1 m.2 m.1 (on-a-side b a u q p v Q P K (2 ^ k) n.0 high far)))))
+          not_true (le c x) (not_le-of-less x c (lt-of-sides x c (itself x near.is_finite fits-x) (itself c finite-c fits-c) (turn (under c) (over x) (under x) (over c) (in_units b a u q p v (under x) (over x) (under c) (over c) n.2 n.1 m.2 m.1 (on-a-side b a u q p v Q P K (2 ^ k) n.0 high far)))))
           ∙ sym (not_true (leb (p * K + Q * v) (P * v + q * K)) (λ (h : T (leb (p * K + Q * v) (P * v + q * K))). not-le_of_lt (apart (P * v + q * K) (Q * v + p * K) (2 ^ k) (K * v) far) (omega (arith, leb→le (p * K + Q * v) (P * v + q * K) h))))
         where
           turn : (r w o z : ℕ) → r + w < o + z → w + r < z + o

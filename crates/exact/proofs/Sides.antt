@@ -3,17 +3,17 @@ use Rattle.exact.proofs.Kit.{Bool, ◌&&◌, ◌+◌, ◌≤◌, ◌<◌, le_ref
 use Rattle.exact.proofs.Tracks.{Bounds, Tracks}
 
 itself : (z : Float) → T (fits binary64 z) → T (finite z) → Small (units_of z) z
-itself z f h = record { is_finite_lem = h; double = f; size = le_refl (units_of z) }
+itself z f h = record { is_finite = h; double = f; size = le_refl (units_of z) }
 
 module _ {b : Bounds} (x : Float) (X : Exact) (t : Tracks b x X) (c : Float) (c-finite : T (finite c)) (c-fits : T (fits binary64 c)) where
   pub tracks-at_most : b.H + under c ≤ over c + b.J → T (le x c)
-  tracks-at_most h = le-of-sides x c (itself x t.double t.is_finite_lem) (itself c c-fits c-finite) (omega (arith, h, t.high))
+  tracks-at_most h = le-of-sides x c (itself x t.double t.is_finite) (itself c c-fits c-finite) (omega (arith, h, t.high))
 
   pub tracks-at_least : over c + b.M ≤ b.L + under c → T (le c x)
-  tracks-at_least h = le-of-sides c x (itself c c-fits c-finite) (itself x t.double t.is_finite_lem) (omega (arith, h, t.low))
+  tracks-at_least h = le-of-sides c x (itself c c-fits c-finite) (itself x t.double t.is_finite) (omega (arith, h, t.low))
 
   pub tracks-below : b.H + under c < over c + b.J → T (lt x c)
-  tracks-below h = lt-of-sides x c (itself x t.double t.is_finite_lem) (itself c c-fits c-finite) (omega (arith, h, t.high))
+  tracks-below h = lt-of-sides x c (itself x t.double t.is_finite) (itself c c-fits c-finite) (omega (arith, h, t.high))
 
 -- between two doubles
 abbrev pub inside : Float → Float → Bounds → Bool

@@ -61,11 +61,11 @@ tracks-constant c X f h =
     let g : gap c X ≤ (gap c X / X.under + 1) * X.under = omega (arith, lt-div-mul-add {a = gap c X} some) in
     record {
       some = some;
-      is_finite_lem = and_l (finite c) (ltb 0 X.under) h;
+      is_finite = and_l (finite c) (ltb 0 X.under) h;
       double = f;
       low = omega arith;
       high = omega arith;
-      not_above_lem = (within (over c * X.under + X.minus * N) (under c * X.under + X.plus * N) ((gap c X / X.under + 1) * X.under) g).0;
+      not_above = (within (over c * X.under + X.minus * N) (under c * X.under + X.plus * N) ((gap c X / X.under + 1) * X.under) g).0;
       not_below = (within (over c * X.under + X.minus * N) (under c * X.under + X.plus * N) ((gap c X / X.under + 1) * X.under) g).1;
     }
   where
@@ -90,12 +90,12 @@ tracks-raised : (b : Bounds) (x c : Float) (X : Exact) → T (fits binary64 c) �
 unfolding is_nan
 tracks-raised b x c X f t h =
     let ordered : over c + under x ≤ over x + under c = omega (arith, t.low, leb→le (over c + b.M) (b.L + under c) (and_r (finite c) (leb (over c + b.M) (b.L + under c)) h)) in
-    let not-less : T (lt x c) → ⊥ = λ l. not_le-of-less x c l (le-of-sides c x (itself c f (and_l (finite c) (leb (over c + b.M) (b.L + under c)) h)) (itself x t.double t.is_finite_lem) ordered) in
-    subst (λ (z : Float). Tracks (raised b c) z X) (sym (max-is x c t.is_finite_lem not-less))
-    record { some = t.some; is_finite_lem = t.is_finite_lem; double = t.double; low = t.low; high = t.high; not_above_lem = t.not_above_lem; not_below = t.not_below }
+    let not-less : T (lt x c) → ⊥ = λ l. not_le-of-less x c l (le-of-sides c x (itself c f (and_l (finite c) (leb (over c + b.M) (b.L + under c)) h)) (itself x t.double t.is_finite) ordered) in
+    subst (λ (z : Float). Tracks (raised b c) z X) (sym (max-is x c t.is_finite not-less))
+    record { some = t.some; is_finite = t.is_finite; double = t.double; low = t.low; high = t.high; not_above = t.not_above; not_below = t.not_below }
   where
     itself : (z : Float) → T (fits binary64 z) → T (finite z) → Small (units_of z) z
-    itself z f k = record { is_finite_lem = k; double = f; size = le_refl (units_of z) }
+    itself z f k = record { is_finite = k; double = f; size = le_refl (units_of z) }
 
 -- ---- the analysis
 abbrev pub analysed : List Bounds → Term → Bounds

@@ -25,18 +25,18 @@ most b = max b.H b.M
 
 pub record Tracks (b : Bounds) (x : Float) (X : Exact) : Type 0 where
   pub some : 0 < X.under
-  pub is_finite_lem : T (finite x)
+  pub is_finite : T (finite x)
   pub double : T (fits binary64 x)
   pub low : under x + b.L ≤ over x + b.M
   pub high : over x + b.J ≤ under x + b.H
-  pub not_above_lem : over x * X.under + X.minus * N ≤ under x * X.under + X.plus * N + b.E * X.under
+  pub not_above : over x * X.under + X.minus * N ≤ under x * X.under + X.plus * N + b.E * X.under
   pub not_below : under x * X.under + X.plus * N ≤ over x * X.under + X.minus * N + b.E * X.under
 
 -- ---- the size
 size-most : {b : Bounds} (x : Float) (X : Exact) → Tracks b x X → units_of x ≤ most b
 unfolding above beneath
-size-most nan X t = absurd t.is_finite_lem
-size-most (inf s) X t = absurd t.is_finite_lem
+size-most nan X t = absurd t.is_finite
+size-most (inf s) X t = absurd t.is_finite
 size-most {b} (fin false m e) X t = omega (arith, t.high, le-max_left b.H b.M)
 size-most {b} (fin true m e) X t = omega (arith, t.low, le-max_right b.H b.M)
 
@@ -67,12 +67,12 @@ tracks-neg x X t =
     let u = (opposite-over x).1 in
     record {
       some = t.some;
-      is_finite_lem = neg-finite x t.is_finite_lem;
+      is_finite = neg-finite x t.is_finite;
       double = neg-fits binary64 x t.double;
       low = rw (o, u) t.high;
       high = rw (o, u) t.low;
-      not_above_lem = rw (o, u) t.not_below;
-      not_below = rw (o, u) t.not_above_lem;
+      not_above = rw (o, u) t.not_below;
+      not_below = rw (o, u) t.not_above;
     }
 
 -- ---- the sum
@@ -92,10 +92,10 @@ summed a b =
     bounds (a.L + b.L) (a.M + b.M + U) (a.H + b.H + U) (a.J + b.J) (a.E + b.E + U) (a.good && b.good && small (sum_size a b))
 
 both : {a b : Bounds} (P : Float → Float → Type 0) → ((s t : Bool) (m n : ℕ) (e d : ℤ) → P (fin s m e) (fin t n d)) → (x y : Float) (X Y : Exact) → Tracks a x X → Tracks b y Y → P x y
-both P f nan y X Y p q = absurd p.is_finite_lem
-both P f (inf s) y X Y p q = absurd p.is_finite_lem
-both P f (fin s m e) nan X Y p q = absurd q.is_finite_lem
-both P f (fin s m e) (inf t) X Y p q = absurd q.is_finite_lem
+both P f nan y X Y p q = absurd p.is_finite
+both P f (inf s) y X Y p q = absurd p.is_finite
+both P f (fin s m e) nan X Y p q = absurd q.is_finite
+both P f (fin s m e) (inf t) X Y p q = absurd q.is_finite
 both P f (fin s m e) (fin t n d) X Y p q = f s t m n e d
 
 pub tracks-add : (a b : Bounds) (x y : Float) (X Y : Exact) → Tracks a x X → Tracks b y Y → T (small (sum_size a b)) → Tracks (summed a b) (add binary64 x y) (X ⊞ Y)
@@ -112,11 +112,11 @@ tracks-add a b x y X Y p q fine =
     (λ s t m n e d f g h l. add-rounded s t m n e d f g U (step_of_lem D fine) D h l (fine_enough D)) x y X Y p q p.double q.double h l in
     record {
       some = mul-pos p.some q.some;
-      is_finite_lem = r.is_finite_lem;
+      is_finite = r.is_finite;
       double = r.double;
       low = lower (over (add binary64 x y)) (under (add binary64 x y)) (over x) (under x) (over y) (under y) a.L b.L a.M b.M U (omega (arith, r.not_below)) p.low q.low;
-      high = upper (over (add binary64 x y)) (under (add binary64 x y)) (over x) (under x) (over y) (under y) a.H b.H a.J b.J U (omega (arith, r.not_above_lem)) p.high q.high;
-      not_above_lem = sum-error N (over (add binary64 x y)) (under (add binary64 x y)) (over x) (under x) (over y) (under y) X.plus X.minus X.under Y.plus Y.minus Y.under U a.E b.E (omega (arith, r.not_above_lem)) p.not_above_lem q.not_above_lem;
+      high = upper (over (add binary64 x y)) (under (add binary64 x y)) (over x) (under x) (over y) (under y) a.H b.H a.J b.J U (omega (arith, r.not_above)) p.high q.high;
+      not_above = sum-error N (over (add binary64 x y)) (under (add binary64 x y)) (over x) (under x) (over y) (under y) X.plus X.minus X.under Y.plus Y.minus Y.under U a.E b.E (omega (arith, r.not_above)) p.not_above q.not_above;
       not_below = sum-error N (under (add binary64 x y)) (over (add binary64 x y)) (under x) (over x) (under y) (over y) X.minus X.plus X.under Y.minus Y.plus Y.under U a.E b.E (omega (arith, r.not_below)) p.not_below q.not_below;
     }
   where
@@ -220,7 +220,7 @@ tracks-mul a b x y X Y p q fine =
     let enough : a.E * B + (A + a.E) * b.E + U * N ≤ (F + U) * N = omega (arith, above_quotient (a.E * B + (A + a.E) * b.E) N N_pos) in
     record {
       some = mul-pos p.some q.some;
-      is_finite_lem = r.is_finite_lem;
+      is_finite = r.is_finite;
       double = r.double;
       low =
           one_side N N_pos (eqb (a.M + b.M) 0) (eqb (a.H + b.H) 0) (a.L * b.L / N) (a.J * b.J / N) (over z) (under z) P Q U (reach a b b.M a.M D)
@@ -235,14 +235,14 @@ tracks-mul a b x y X Y p q fine =
           (λ h. omega (arith, above_of (under x) (over x) (over y) (under y) a.J a.H b.L b.M (eqb→eq (a.H + b.M) 0 h) p.high q.low))
           (reached (eqb a.M 0) (eqb b.M 0) (a.H * b.H) (b.H * a.H) D Q P (λ h. product-reach (over x) (under x) (under y) (over y) a.H b.H (omega (arith, eqb→eq a.M 0 h, p.low)) (omega (arith, p.high)) (omega (arith, q.high)))
           (λ h. omega (arith, product-reach (over y) (under y) (under x) (over x) b.H a.H (omega (arith, eqb→eq b.M 0 h, q.low)) (omega (arith, q.high)) (omega (arith, p.high))))
-          (le_trans (product-bound (over x) (under x) (over y) (under y) A B sx.0 sx.1 sy.0 sy.1) (omega (arith, room)))) r.not_above_lem;
-      not_above_lem =
+          (le_trans (product-bound (over x) (under x) (over y) (under y) A B sx.0 sx.1 sy.0 sy.1) (omega (arith, room)))) r.not_above;
+      not_above =
           product-error N (over z) (under z) (over x) (under x) (over y) (under y) X.plus X.minus X.under Y.plus Y.minus Y.under U A B a.E b.E (F + U) N_pos
-          sx.0 sx.1 sy.0 sy.1 (omega (arith, r.not_above_lem)) p.not_above_lem p.not_below q.not_above_lem q.not_below enough;
+          sx.0 sx.1 sy.0 sy.1 (omega (arith, r.not_above)) p.not_above p.not_below q.not_above q.not_below enough;
       not_below =
           le_trans (le_of_eq (omega arith))
           (le_trans (product-error N (under z) (over z) (under x) (over x) (over y) (under y) X.minus X.plus X.under Y.plus Y.minus Y.under U A B a.E b.E (F + U) N_pos
-          sx.1 sx.0 sy.0 sy.1 (omega (arith, r.not_below)) p.not_below p.not_above_lem q.not_above_lem q.not_below enough) (le_of_eq (omega arith)));
+          sx.1 sx.0 sy.0 sy.1 (omega (arith, r.not_below)) p.not_below p.not_above q.not_above q.not_below enough) (le_of_eq (omega arith)));
     }
   where
     above_of : (xo xu yo yu L₁ M₁ L₂ M₂ : ℕ) → M₁ + M₂ ≡ 0 → xu + L₁ ≤ xo + M₁ → yu + L₂ ≤ yo + M₂ → L₁ * L₂ / N * N + (xo * yu + xu * yo) ≤ xo * yo + xu * yu
@@ -265,10 +265,10 @@ divided a b =
 -- what is above zero is all of it
 pub positive-by : {a b : Bounds} (P : Float → Float → Type 0) → ((s : Bool) (m n : ℕ) (e d : ℤ) → P (fin s m e) (fin false (suc n) d)) → (x y : Float) (X Y : Exact) → Tracks a x X → Tracks b y Y → b.M ≡ 0 → 0 < b.L → P x y
 unfolding above beneath
-positive-by P f nan y X Y p q e l = absurd p.is_finite_lem
-positive-by P f (inf s) y X Y p q e l = absurd p.is_finite_lem
-positive-by P f (fin s m k) nan X Y p q e l = absurd q.is_finite_lem
-positive-by P f (fin s m k) (inf t) X Y p q e l = absurd q.is_finite_lem
+positive-by P f nan y X Y p q e l = absurd p.is_finite
+positive-by P f (inf s) y X Y p q e l = absurd p.is_finite
+positive-by P f (fin s m k) nan X Y p q e l = absurd q.is_finite
+positive-by P f (fin s m k) (inf t) X Y p q e l = absurd q.is_finite
 positive-by {b = b} P f (fin s m k) (fin true n d) X Y p q e l = absurd (omega (arith, q.low, e, l))
 positive-by {b = b} P f (fin s m k) (fin false zero d) X Y p q e l = absurd (nothing d q.low)
   where
@@ -310,22 +310,22 @@ tracks-div a b x y X Y p q fine none clear =
     let sx = sides-most x X p in
     let W : ℕ = over_quotient ((A + a.E) * b.E * N) (b.L - b.E) in
     let F : ℕ = over_quotient (a.E * N + W) b.L in
-    let j⁺ : v * Y.under + Y.minus * N ≤ Y.plus * N + b.E * Y.under = le_trans q.not_above_lem (le_of_eq (rw none-under (omega arith))) in
+    let j⁺ : v * Y.under + Y.minus * N ≤ Y.plus * N + b.E * Y.under = le_trans q.not_above (le_of_eq (rw none-under (omega arith))) in
     let j⁻ : Y.plus * N ≤ v * Y.under + Y.minus * N + b.E * Y.under = le_trans (omega arith) q.not_below in
     let shared : (A + a.E) * b.E * N ≤ W * (b.L - b.E) = above_quotient ((A + a.E) * b.E * N) (b.L - b.E) (omega (arith, apart)) in
     let enough : a.E * N + W ≤ F * b.L = above_quotient (a.E * N + W) b.L L₀ in
     record {
       some = mul-pos p.some (divisor_pos N v Y.plus Y.minus Y.under b.L b.E N_pos q.some large apart j⁺ j⁻);
-      is_finite_lem = r.is_finite_lem;
+      is_finite = r.is_finite;
       double = r.double;
       low = one_side v v₀ (eqb a.M 0) false (a.L * N / b.H) 0 (over z) (under z) (over x * N) (under x * N) U D (λ h. least-of (over x) (under x) a.L a.M (eqb→eq a.M 0 h) p.low) (λ h. absurd h) (le_trans (mul-le-mul_right N sx.1) (omega (arith, room, mul-le-mul_left D large))) r.not_below;
-      high = one_side v v₀ (eqb a.H 0) false (a.J * N / b.H) 0 (under z) (over z) (under x * N) (over x * N) U D (λ h. least-of (under x) (over x) a.J a.H (eqb→eq a.H 0 h) p.high) (λ h. absurd h) (le_trans (mul-le-mul_right N sx.0) (omega (arith, room, mul-le-mul_left D large))) r.not_above_lem;
-      not_above_lem =
+      high = one_side v v₀ (eqb a.H 0) false (a.J * N / b.H) 0 (under z) (over z) (under x * N) (over x * N) U D (λ h. least-of (under x) (over x) a.J a.H (eqb→eq a.H 0 h) p.high) (λ h. absurd h) (le_trans (mul-le-mul_right N sx.0) (omega (arith, room, mul-le-mul_left D large))) r.not_above;
+      not_above =
           quotient-error N v Y.plus Y.minus Y.under b.L b.E N_pos q.some large apart j⁺ j⁻ (over z) (under z) (over x) (under x) X.plus X.minus X.under U A a.E W F
-          sx.0 sx.1 r.not_above_lem p.not_above_lem p.not_below shared enough;
+          sx.0 sx.1 r.not_above p.not_above p.not_below shared enough;
       not_below =
           quotient-error N v Y.plus Y.minus Y.under b.L b.E N_pos q.some large apart j⁺ j⁻ (under z) (over z) (under x) (over x) X.minus X.plus X.under U A a.E W F
-          sx.1 sx.0 r.not_below p.not_below p.not_above_lem shared enough;
+          sx.1 sx.0 r.not_below p.not_below p.not_above shared enough;
     }
   where
     least-of : (o u L M : ℕ) → M ≡ 0 → u + L ≤ o + M → L * N / b.H * over y + u * N ≤ o * N

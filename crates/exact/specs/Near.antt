@@ -8,16 +8,16 @@ use Rattle.exact.specs.Exact.{Exact, ◌⊟◌, number}
 
 -- `IsNear 45 x X`: the double x is finite, X is a number, and x is no further than 2 ^ -45 from it
 pub record IsNear (k : ℕ) (x : Float) (X : Exact) : Type 0 where
-  pub is_finite_lem : T (finite x)
+  pub is_finite : T (finite x)
   pub proper : 0 < X.under
-  pub not_above_lem : let d = number x ⊟ X in d.plus * 2 ^ k ≤ d.minus * 2 ^ k + d.under
+  pub not_above : let d = number x ⊟ X in d.plus * 2 ^ k ≤ d.minus * 2 ^ k + d.under
   pub not_below : let d = number x ⊟ X in d.minus * 2 ^ k ≤ d.plus * 2 ^ k + d.under
 
 -- `IsNearly 41 x X`: the positive double x is no further from X than one part in 2 ^ 41 of x
 pub record IsNearly (k : ℕ) (x : Float) (X : Exact) : Type 0 where
-  pub is_finite_lem : T (finite x)
+  pub is_finite : T (finite x)
   pub proper : 0 < X.under
-  pub not_above_lem : let d = number x ⊟ X in d.plus * 2 ^ k ≤ d.minus * 2 ^ k + (number x).plus * X.under
+  pub not_above : let d = number x ⊟ X in d.plus * 2 ^ k ≤ d.minus * 2 ^ k + (number x).plus * X.under
   pub not_below : let d = number x ⊟ X in d.minus * 2 ^ k ≤ d.plus * 2 ^ k + (number x).plus * X.under
 
 -- `IsFar 45 X x`: the number X is further than 2 ^ -45 from the double x, above it or below

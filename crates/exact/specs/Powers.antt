@@ -16,12 +16,12 @@ positive_part X = record { over = X.plus - X.minus; under = X.under }
 -- `IsRoot k τ`: k stands for √τ. Its square is no further than 2 ^ -80 from τ.
 pub record IsRoot (k : Fraction) (τ : Exact) : Type 0 where
   pub proper : 0 < k.under
-  pub not_above_lem : let d = of (k toThe 2) ⊟ τ in d.plus * 2 ^ 80 ≤ d.minus * 2 ^ 80 + d.under
-  pub not_below : let d = of (k toThe 2) ⊟ τ in d.minus * 2 ^ 80 ≤ d.plus * 2 ^ 80 + d.under
+  pub not_above : let d = of (k to_the 2) ⊟ τ in d.plus * 2 ^ 80 ≤ d.minus * 2 ^ 80 + d.under
+  pub not_below : let d = of (k to_the 2) ⊟ τ in d.minus * 2 ^ 80 ≤ d.plus * 2 ^ 80 + d.under
 
 -- `IsPower b y r`: r stands for b ^ y, but for one part in 2 ^ 80. With y = (plus - minus) / under, r * (1 - 2 ^ -80) ≤ b ^ y ≤ r * (1 + 2 ^ -80) is said of the powers to
 -- `under`, where b ^ (plus - minus) is b ^ plus over b ^ minus.
 pub record IsPower (b : Fraction) (y : Exact) (r : Fraction) : Type 0 where
   pub proper : 0 < r.under
-  pub low : ((r times less 1 80) toThe y.under) isAtMost ((b toThe y.plus) times inverse (b toThe y.minus))
-  pub high : ((b toThe y.plus) times inverse (b toThe y.minus)) isAtMost ((r times more 1 80) toThe y.under)
+  pub low : ((r times less 1 80) to_the y.under) is_at_most ((b to_the y.plus) times inverse (b to_the y.minus))
+  pub high : ((b to_the y.plus) times inverse (b to_the y.minus)) is_at_most ((r times more 1 80) to_the y.under)

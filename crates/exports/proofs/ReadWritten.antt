@@ -1,5 +1,5 @@
 -- Arrays that are read of a record and those that are written as one undo each other. Assumes nothing.
-use Rattle.arithmetic.proofs.Kit.{◌≡◌, refl, sym, ap, subst, ◌∙◌, ◌⊎◌, inl, inr, ⊎_elim, Bool, true, false, cond, not, ◌&&◌, ℕ, zero, suc, ◌+◌, ◌≤◌, ◌<◌, arith, T, leb-true, le-leb, eqb, eqb-true, eqb-false, not-false, false≢true, List, [], ◌∷◌, ◌++◌, length, length-append, length-set, get_or, drop, Float, nan, fits, is_nan, binary64}
+use Rattle.arithmetic.proofs.Kit.{◌≡◌, refl, sym, ap, subst, ◌∙◌, ⊎_elim, Bool, true, false, cond, not, ◌&&◌, ℕ, zero, suc, ◌≤◌, ◌<◌, arith, T, leb-true, eqb, eqb-true, eqb-false, ltb, not-false, false≢true, List, [], ◌∷◌, ◌++◌, length, length-append, length-set, get_or, drop, Float, nan, fits, is_nan, binary64}
 use lib.ListN.{get_or-append}
 use lib.Seq.{get_or_at, ext_get_or}
 use Rattle.refusal.specs.Outcomes.{Outcome, accepted, refused, row}
@@ -12,7 +12,7 @@ use Rattle.record.specs.declared.entries.Stored.{Stored}
 use Rattle.record.specs.declared.entries.Stored.TheVariants.{Absent, Present}
 use Rattle.record.specs.declared.entries.Slot.{Slot}
 use Rattle.record.specs.declared.entries.Readings.{Readings}
-use Rattle.record.specs.Entries.{slot_of, no_readings, stored_of, with_value}
+use Rattle.record.specs.Entries.{slot_of, stored_of, with_value}
 use Rattle.record.specs.Readings.{readings, read_rows, read_record}
 use Rattle.record.proofs.Walk.{all_slots}
 use Rattle.record.proofs.Strict.{same_or_falling}
@@ -22,11 +22,12 @@ use Rattle.writer.proofs.Passed.{no_stored, is-meant, stored_same, stored_other}
 use Rattle.writer.proofs.ReadBack.{read_back}
 use Rattle.writer.proofs.Stated.{NotNan}
 use Rattle.writer.proofs.WrittenAgain.{written-again}
-use Rattle.exports.specs.Lent.{have_room, handed_out}
+use Rattle.exports.specs.Lent.{with_room, handed_out}
 use Rattle.exports.specs.Records.{is_form, are_forms, with_form, array_readings, array_record}
-use Rattle.exports.specs.Reads.{form_of, double_for, count_for, each, read_in, array_after}
+use Rattle.exports.specs.Reads.{form_of, double_for, count_for, each, read_in}
 use Rattle.exports.specs.Laws.{AreNumbers, NoneIsNan, written_of, ReadAs}
 use Rattle.exports.proofs.Each.{as_many}
+use Rattle.exports.proofs.Room.{roomy}
 
 -- ---- what three numbers store
 abbrev stored_as : ℕ → Float → ℕ → Stored
@@ -168,24 +169,28 @@ module _ (r : Readings) where
     pub written_back : written_of forms values counts r ≡ accepted (record_of r)
     written_back =
         rw (
-          le-leb meanings (length f) (room form_of forms),
-          le-leb meanings (length v) (room double_for values),
-          le-leb meanings (length w) (room count_for counts),
+          roomy meanings f (room form_of forms),
+          roomy meanings v (room double_for values),
+          roomy meanings w (room count_for counts),
           known forms meanings (omega arith),
         )
         (ap (λ (q : Readings). accepted (record_of q)) array_back)
 
 -- ---- what has room is what it would be
-with_room_lem : {A : Type 0} (b : Bool) (o : Outcome A) {x : A} → cond b o (refused 255 []) ≡ accepted x → o ≡ accepted x
-with_room_lem true o h = h
-with_room_lem false o h = let z : ◌≡◌ {A = ℕ} 0 1 = cc in absurd (omega arith)
+with_room_lem : {A B : Type 0} (needed : ℕ) (lent : List B) (o : Outcome A) {x : A} → with_room needed lent o ≡ accepted x → o ≡ accepted x
+unfolding with_room
+with_room_lem {A} {B} needed lent o {x} e = go (ltb (length lent) needed) e
+  where
+    go : (b : Bool) → cond b (refused 255 []) o ≡ accepted x → o ≡ accepted x
+    go true h = let z : ◌≡◌ {A = ℕ} 0 1 = cc in absurd (omega arith)
+    go false h = h
 
 module _ (strict : Bool) (forms : List ℕ) (values : List Float) (counts s : List ℕ) (r : Readings) (e : read_in strict forms values counts s ≡ accepted r) where
   taken : read_record strict s ≡ accepted r
-  taken = with_room_lem (have_room (length forms) (length values) (length counts)) _ e
+  taken = with_room_lem meanings counts _ (with_room_lem meanings values _ (with_room_lem meanings forms _ e))
 
   are_its : readings s ≡ r
-  are_its = ((exactly (readings s) (read_rows strict s)).accepted-because taken).1
+  are_its = ((exactly (readings s) (read_rows strict s)).accepted_because taken).1
 
   -- what was read is written as the record of its readings
   pub written_of-read : written_of forms values counts r ≡ accepted (record_of (readings s))
@@ -229,7 +234,7 @@ module _ (forms : List ℕ) (values : List Float) (counts s : List ℕ) (are : A
   written : NoneHolds (row (not (are_forms meanings forms)) 254 [] ∷ []) × (accepted (record_of r) ≡ accepted s)
   written =
       then-accepted (row (not (are_forms meanings forms)) 254 [] ∷ [])
-      (with_room_lem (have_room (length forms) (length values) (length counts)) _ e)
+      (with_room_lem meanings counts _ (with_room_lem meanings values _ (with_room_lem meanings forms _ e)))
 
   are_held : AreHeld r
   are_held = record {

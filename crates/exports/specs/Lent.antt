@@ -1,6 +1,5 @@
 -- The status that a function returns, and what it leaves in a lent array of doubles, in a lent mark and in a lent length. Definitions only.
-use Rattle.std.specs.Prelude.{ℕ, Bool, ◌&&◌, cond, List, [], ◌∷◌, ◌++◌, leb, ltb, length, drop, Float}
-use Rattle.fields.specs.Fields.{meanings}
+use Rattle.std.specs.Prelude.{ℕ, Bool, cond, List, [], ◌∷◌, ◌++◌, ltb, length, drop, Float}
 use Rattle.refusal.specs.declared.inverse.Station.{Station}
 use Rattle.refusal.specs.Outcomes.{Outcome, accepted, refused}
 use Rattle.refusal.specs.declared.judge.Figures.{Figures}
@@ -9,13 +8,6 @@ use Rattle.refusal.specs.declared.judge.Figures.{Figures}
 -- 255, before anything else: a lent array has fewer places than are needed
 unfoldable pub with_room : {A B : Type 0} → ℕ → List B → Outcome A → Outcome A
 with_room needed lent o = cond (ltb (length lent) needed) (refused 255 []) o
-
--- and where one of three arrays of forms, values and counts has no place for some meaning
-abbrev pub have_room : ℕ → ℕ → ℕ → Bool
-have_room forms values counts = (leb meanings forms && leb meanings values) && leb meanings counts
-
-abbrev pub with_places : {A : Type 0} → List ℕ → List Float → List ℕ → Outcome A → Outcome A
-with_places forms values counts o = cond (have_room (length forms) (length values) (length counts)) o (refused 255 [])
 
 -- 0, or the number of what is refused
 abbrev pub status_of : {A : Type 0} → Outcome A → ℕ

@@ -8,7 +8,7 @@ use Rattle.record.specs.declared.entries.Stored.TheVariants.{Absent, Present}
 use Rattle.record.specs.declared.entries.Readings.{Readings}
 use Rattle.record.specs.Entries.{stored_of, entry_for, value_or_zero}
 use Rattle.record.specs.Readings.{read_record}
-use Rattle.exports.specs.Lent.{with_places, handed_out}
+use Rattle.exports.specs.Lent.{with_room, handed_out}
 
 -- ---- what is stored: its form, 0 absent, 1 a double or 2 a count
 abbrev pub form_of : Stored → ℕ
@@ -33,7 +33,7 @@ each of (suc m) r = each of m r ++ (of (stored_of r m) ∷ [])
 
 -- ---- a record's readings, for arrays that each have a place for each meaning
 abbrev pub read_in : Bool → List ℕ → List Float → List ℕ → List ℕ → Outcome Readings
-read_in strict forms values counts bytes = with_places forms values counts (read_record strict bytes)
+read_in strict forms values counts bytes = with_room meanings forms (with_room meanings values (with_room meanings counts (read_record strict bytes)))
 
 -- what is refused leaves an array
 abbrev pub array_after : {A : Type 0} → (Stored → A) → List A → Outcome Readings → List A

@@ -8,7 +8,7 @@ use Rattle.fields.specs.Fields.{meanings}
 use Rattle.record.specs.Entries.{no_readings, with_value, with_entry}
 use Rattle.writer.specs.Records.{record_of}
 use Rattle.writer.specs.Written.{length_written, overwritten}
-use Rattle.exports.specs.Lent.{with_places}
+use Rattle.exports.specs.Lent.{with_room}
 
 -- ---- a form for each meaning, 0 absent, 1 a double or 2 a count, and a value: the double, or the count's word by two's complement
 abbrev pub is_form : ℕ → Bool
@@ -30,7 +30,9 @@ array_readings (suc m) forms values counts = with_form (array_readings m forms v
 -- the record of arrays, each with a place for each meaning. 254: a form is none of these
 abbrev pub array_record : List ℕ → List Float → List ℕ → Outcome (List ℕ)
 array_record forms values counts =
-    with_places forms values counts (row (not (are_forms meanings forms)) 254 [] ∷ [] then accepted (record_of (array_readings meanings forms values counts)))
+    with_room meanings forms
+    (with_room meanings values
+    (with_room meanings counts (row (not (are_forms meanings forms)) 254 [] ∷ [] then accepted (record_of (array_readings meanings forms values counts)))))
 
 -- ---- a record in a lent buffer: its length, or 18 where the buffer is shorter
 abbrev pub length_in : List ℕ → Outcome (List ℕ) → Outcome ℕ

@@ -1,5 +1,5 @@
 -- Texts for people on a lent page that has room for the longest of them. Definitions only.
-use Rattle.std.specs.Prelude.{ℕ, ◌+◌, ◌*◌, Bool, not, ◌&&◌, List, [], ◌∷◌, leb, ltb, length}
+use Rattle.std.specs.Prelude.{ℕ, ◌+◌, ◌*◌, Bool, not, ◌&&◌, ◌||◌, List, [], ◌∷◌, leb, ltb, eqb, length}
 use Rattle.refusal.specs.Outcomes.{Outcome, accepted, refused, row, ◌then◌}
 use Rattle.report.specs.declared.Origin.TheVariants.{Record}
 use Rattle.report.specs.Advice.{cause_lines}
@@ -13,11 +13,11 @@ on_page most page o = row (ltb (length page) most) 16 [] ∷ [] then o
 abbrev pub report_on : List ℕ → List ℕ → Outcome (List ℕ)
 report_on bytes page = on_page (2842 + 2 * length bytes) page (accepted (record_text bytes))
 
--- ---- the cause of a refusal and what to do, in the report's words
+-- ---- the cause of a refusal and what to do, in the report's words; those that a record or a setting sheet can have
 abbrev pub has_words : ℕ → Bool
-has_words n = leb 1 n && leb n 22
+has_words n = (leb 1 n && leb n 15) || eqb n 17
 
--- 253: a number that is no refusal's
+-- 253: any other number
 abbrev pub words_on : ℕ → List ℕ → Outcome (List ℕ)
 words_on n page = on_page 236 page (row (not (has_words n)) 253 [] ∷ [] then accepted (cause_lines Record n))
 

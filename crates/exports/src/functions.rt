@@ -27,32 +27,28 @@ use humid_air::humid::{
 };
 
 // e to the power x.
-#[unsafe(no_mangle)]
-pub extern "C" fn station_air_exp(x: f64) -> f64
+pub fn station_air_exp(x: f64) -> f64
     ensures { result ≡ Exp.exp places x }
 {
     exp(x)
 }
 
 // The natural logarithm.
-#[unsafe(no_mangle)]
-pub extern "C" fn station_air_ln(x: f64) -> f64
+pub fn station_air_ln(x: f64) -> f64
     ensures { result ≡ Ln.ln places x }
 {
     ln(x)
 }
 
 // The square root, the nearest double.
-#[unsafe(no_mangle)]
-pub extern "C" fn station_air_sqrt(x: f64) -> f64
+pub fn station_air_sqrt(x: f64) -> f64
     ensures { result ≡ Sqrt.sqrt x }
 {
     sqrt(x)
 }
 
 // The mole fraction of water vapour, above 1 where there is more vapour than air.
-#[unsafe(no_mangle)]
-pub extern "C" fn station_air_water_vapor_mole_fraction_uncapped(
+pub fn station_air_water_vapor_mole_fraction_uncapped(
     temperature_c: f64,
     pressure_hpa: f64,
     humidity_percent: f64,
@@ -63,8 +59,7 @@ pub extern "C" fn station_air_water_vapor_mole_fraction_uncapped(
 }
 
 // The density in kg/m3 of moist air by CIPM-2007.
-#[unsafe(no_mangle)]
-pub extern "C" fn station_air_calculate_air_density_cimp(
+pub fn station_air_calculate_air_density_cimp(
     temperature_c: f64,
     pressure_hpa: f64,
     humidity_percent: f64,
@@ -75,8 +70,7 @@ pub extern "C" fn station_air_calculate_air_density_cimp(
 }
 
 // The speed of sound in m/s in moist air, of K and Pa.
-#[unsafe(no_mangle)]
-pub extern "C" fn station_air_moist_speed_of_sound(
+pub fn station_air_moist_speed_of_sound(
     temperature_k: f64,
     pressure_pa: f64,
     humidity_percent: f64,
@@ -96,56 +90,49 @@ fn is_given(reading: Reading) -> bool
 }
 
 // Whether a station pressure is kept; a default is not, and comes from the layer.
-#[unsafe(no_mangle)]
-pub extern "C" fn station_air_keeps_pressure(pressure_hpa: f64, altitude_m: f64) -> bool
+pub fn station_air_keeps_pressure(pressure_hpa: f64, altitude_m: f64) -> bool
     ensures { result ≡ is_given (resolved_station_pressure pressure_hpa altitude_m) }
 {
     is_given(resolve_station_pressure(pressure_hpa, altitude_m))
 }
 
 // Whether a temperature is kept; a default is not, and comes from the layer.
-#[unsafe(no_mangle)]
-pub extern "C" fn station_air_keeps_temperature(temperature_c: f64, altitude_m: f64) -> bool
+pub fn station_air_keeps_temperature(temperature_c: f64, altitude_m: f64) -> bool
     ensures { result ≡ is_given (resolved_station_temperature temperature_c altitude_m) }
 {
     is_given(resolve_station_temperature(temperature_c, altitude_m))
 }
 
 // The station pressure in hPa at an altitude under a QNH.
-#[unsafe(no_mangle)]
-pub extern "C" fn station_air_reduced_qnh(qnh_hpa: f64, altitude_m: f64) -> f64
+pub fn station_air_reduced_qnh(qnh_hpa: f64, altitude_m: f64) -> f64
     ensures { result ≡ reduced_qnh places qnh_hpa altitude_m }
 {
     reduce_qnh_to_station_pressure(qnh_hpa, altitude_m)
 }
 
 // The National Weather Service's pressure altitude in feet.
-#[unsafe(no_mangle)]
-pub extern "C" fn station_air_nws_pressure_altitude_ft(pressure_hpa: f64) -> f64
+pub fn station_air_nws_pressure_altitude_ft(pressure_hpa: f64) -> f64
     ensures { result ≡ nws_altitude places pressure_hpa }
 {
     nws_pressure_altitude_ft(pressure_hpa)
 }
 
 // The pressure altitude in metres.
-#[unsafe(no_mangle)]
-pub extern "C" fn station_air_pressure_altitude_m(pressure_hpa: f64) -> f64
+pub fn station_air_pressure_altitude_m(pressure_hpa: f64) -> f64
     ensures { result ≡ pressure_altitude places pressure_hpa }
 {
     pressure_altitude_m(pressure_hpa)
 }
 
 // The density altitude in feet by the FAA's rule.
-#[unsafe(no_mangle)]
-pub extern "C" fn station_air_faa_density_altitude_ft(pressure_hpa: f64, temperature_f: f64) -> f64
+pub fn station_air_faa_density_altitude_ft(pressure_hpa: f64, temperature_f: f64) -> f64
     ensures { result ≡ faa_density_altitude places pressure_hpa temperature_f }
 {
     faa_rule_density_altitude_ft(pressure_hpa, temperature_f)
 }
 
 // The height in metres at which the standard atmosphere has the density of the readings.
-#[unsafe(no_mangle)]
-pub extern "C" fn station_air_density_matched_altitude_m(
+pub fn station_air_density_matched_altitude_m(
     temperature_c: f64,
     pressure_hpa: f64,
     humidity_percent: f64,
@@ -156,9 +143,8 @@ pub extern "C" fn station_air_density_matched_altitude_m(
 }
 
 // The header's STATION_AIR_VERSION.
-#[unsafe(no_mangle)]
-pub extern "C" fn station_air_version() -> u32
-    ensures { result ≡ 8 }
+pub fn station_air_version() -> u32
+    ensures { result ≡ 7 }
 {
-    8
+    7
 }

@@ -4,9 +4,8 @@ ghost use Rattle.std.specs.Prelude.{◌≡◌, ◌≤◌, [], ◌∷◌, length}
 ghost use Rattle.refusal.specs.Refusals.{number_of, values_of, listed};
 ghost use Rattle.refusal.specs.Judged.{outcome};
 ghost use Rattle.writer.specs.Written.{written};
-ghost use Rattle.exports.specs.Lent.{have_room, handed_out, left_in, status_of, station_values, figure_values, mark_or, length_or};
+ghost use Rattle.exports.specs.Lent.{handed_out, left_in, status_of, station_values, figure_values, mark_or, length_or};
 
-use fields::fields::MEANINGS;
 use refusal::inverse::Station;
 use refusal::judge::{Answer, Figures};
 use refusal::{Refusal, Values, handed_out, number};
@@ -17,13 +16,6 @@ pub(crate) const FIGURES: u32 = 0;
 
 // The status of a lent array that is too short.
 pub(crate) const TOO_SHORT: u32 = 255;
-
-// Whether each array has a place for each meaning.
-pub(crate) fn have_room(forms: usize, values: usize, counts: usize) -> bool
-    ensures { result ≡ have_room forms values counts }
-{
-    (forms >= MEANINGS) & (values >= MEANINGS) & (counts >= MEANINGS)
-}
 
 pub(crate) fn put_two(lent: &mut [f64], a: f64, b: f64)
     requires { 2 ≤ length lent.old }

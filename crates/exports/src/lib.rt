@@ -1,5 +1,7 @@
-// The functions of the air for C and Rust to call. `include/station_air_rules.h` is the header of `rules`,
+// The functions of the air that `exports_c` exports for C. `include/station_air_rules.h` is the header of `rules`,
 // and `include/station_air.h` that of the other modules.
+#![tactic(auto)]
+
 pub mod functions;
 mod lent;
 pub mod loads;

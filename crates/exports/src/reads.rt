@@ -5,7 +5,7 @@ ghost use Rattle.record.specs.Readings.{read_outcome};
 ghost use Rattle.exports.specs.Lent.{handed_out, status_of};
 ghost use Rattle.exports.specs.Reads.{form_of, double_for, count_for, each, read_in, array_after};
 
-use crate::lent::{FIGURES, TOO_SHORT, have_room, wide};
+use crate::lent::{FIGURES, TOO_SHORT, wide};
 use fields::fields::{MEANINGS, Value};
 use record::entries::{Readings, Stored, entry_of, stored_of, value_or_zero};
 use record::readings::{Read, read_record, read_record_strictly};
@@ -75,8 +75,7 @@ fn put_read(forms: &mut [u8], values: &mut [f64], counts: &mut [u32], read: Read
 // its double, whatever the form, 0 where it is absent; and its count's word by two's complement, 0 where
 // it is none. Answers 0; or 255 where one of the three arrays has fewer than 7 places, else the cause, 5
 // to 8, for which the record is not read; these leave the arrays as they were. The record is left.
-#[unsafe(no_mangle)]
-pub extern "C" fn station_air_read(
+pub fn station_air_read(
     record: &[u8],
     forms: &mut [u8],
     values: &mut [f64],
@@ -91,15 +90,20 @@ pub extern "C" fn station_air_read(
         ≡ array_after count_for counts.old (read_in false forms.old values.old counts.old «record».now) }
     ensures record_value { «record».now ≡ «record».now }
 {
-    if !have_room(forms.len(), values.len(), counts.len()) {
+    if forms.len() < MEANINGS {
+        return TOO_SHORT;
+    }
+    if values.len() < MEANINGS {
+        return TOO_SHORT;
+    }
+    if counts.len() < MEANINGS {
         return TOO_SHORT;
     }
     put_read(forms, values, counts, read_record(record))
 }
 
 // The same by the strict reader, which refuses a tag below the one before it by 19.
-#[unsafe(no_mangle)]
-pub extern "C" fn station_air_read_strictly(
+pub fn station_air_read_strictly(
     record: &[u8],
     forms: &mut [u8],
     values: &mut [f64],
@@ -114,7 +118,13 @@ pub extern "C" fn station_air_read_strictly(
         ≡ array_after count_for counts.old (read_in true forms.old values.old counts.old «record».now) }
     ensures record_value { «record».now ≡ «record».now }
 {
-    if !have_room(forms.len(), values.len(), counts.len()) {
+    if forms.len() < MEANINGS {
+        return TOO_SHORT;
+    }
+    if values.len() < MEANINGS {
+        return TOO_SHORT;
+    }
+    if counts.len() < MEANINGS {
         return TOO_SHORT;
     }
     put_read(forms, values, counts, read_record_strictly(record))

@@ -5,7 +5,7 @@ ghost use Rattle.fields.specs.Fields.{meanings};
 ghost use Rattle.exports.specs.Lent.{status_of, length_or};
 ghost use Rattle.exports.specs.Records.{are_forms, with_form, array_readings, array_record, length_in, out_after};
 
-use crate::lent::{TOO_SHORT, have_room, put_length};
+use crate::lent::{TOO_SHORT, put_length};
 use fields::fields::{MEANINGS, Value};
 use record::entries::{Readings, no_readings, with_entry, with_value};
 use writer::conversion::{to_counts, to_doubles};
@@ -66,8 +66,7 @@ fn readings_of(forms: &[u8], values: &[f64], counts: &[u32]) -> Readings
 // Answers 0; or 255 where one of the three arrays has fewer than 7 places, else 254 where one of the
 // first 7 forms is unknown, else 18 where `out` is shorter than the record; these leave `out` and
 // `length` as they were. The arrays are left.
-#[unsafe(no_mangle)]
-pub extern "C" fn station_air_write(
+pub fn station_air_write(
     forms: &[u8],
     values: &[f64],
     counts: &[u32],
@@ -82,7 +81,13 @@ pub extern "C" fn station_air_write(
     ensures values_value { values.now ≡ values.now }
     ensures counts_value { counts.now ≡ counts.now }
 {
-    if !have_room(forms.len(), values.len(), counts.len()) {
+    if forms.len() < MEANINGS {
+        return TOO_SHORT;
+    }
+    if values.len() < MEANINGS {
+        return TOO_SHORT;
+    }
+    if counts.len() < MEANINGS {
         return TOO_SHORT;
     }
     if !are_forms(forms) {
@@ -93,8 +98,7 @@ pub extern "C" fn station_air_write(
 
 // Writes the record converted to counts, fields in their old order, and its length. Answers 0; or a cause
 // 5 to 8, then 20, then 18, which leave `out` and `length` as they were. The record is left.
-#[unsafe(no_mangle)]
-pub extern "C" fn station_air_to_counts(record: &[u8], out: &mut [u8], length: &mut usize) -> u32
+pub fn station_air_to_counts(record: &[u8], out: &mut [u8], length: &mut usize) -> u32
     ensures value { result ≡ status_of (length_converted true «record».now out.old) }
     ensures out_after { out.new ≡ written_in (converted true «record».now) out.old }
     ensures length_after { length.new ≡ length_or length.old (length_converted true «record».now out.old) }
@@ -104,8 +108,7 @@ pub extern "C" fn station_air_to_counts(record: &[u8], out: &mut [u8], length: &
 }
 
 // Writes the record converted to doubles, likewise; no double is refused by 20.
-#[unsafe(no_mangle)]
-pub extern "C" fn station_air_to_doubles(record: &[u8], out: &mut [u8], length: &mut usize) -> u32
+pub fn station_air_to_doubles(record: &[u8], out: &mut [u8], length: &mut usize) -> u32
     ensures value { result ≡ status_of (length_converted false «record».now out.old) }
     ensures out_after { out.new ≡ written_in (converted false «record».now) out.old }
     ensures length_after { length.new ≡ length_or length.old (length_converted false «record».now out.old) }

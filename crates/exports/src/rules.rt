@@ -14,13 +14,7 @@ use elementary::log::log_word;
 use elementary::power::power;
 
 // Whether x has a log word. Where it has none, the three numbers stay as they are.
-#[unsafe(no_mangle)]
-pub extern "C" fn station_air_log_word(
-    x: f64,
-    negative: &mut bool,
-    whole: &mut u32,
-    part: &mut u64,
-) -> bool
+pub fn station_air_log_word(x: f64, negative: &mut bool, whole: &mut u32, part: &mut u64) -> bool
     ensures value { result ≡ is_defined (logarithm places x) }
     ensures part_after { word_of_numbers negative.new whole.new part.new
         ≡ word_or (word_of_numbers negative.old whole.old part.old) (logarithm places x) }
@@ -37,8 +31,7 @@ pub extern "C" fn station_air_log_word(
 }
 
 // 2 to the power of a word.
-#[unsafe(no_mangle)]
-pub extern "C" fn station_air_antilog(negative: bool, whole: u32, part: u64) -> f64
+pub fn station_air_antilog(negative: bool, whole: u32, part: u64) -> f64
     ensures { result ≡ Antilog.antilog places (word_value places (word_of_numbers negative whole part)) }
 {
     antilog(Word {
@@ -49,8 +42,7 @@ pub extern "C" fn station_air_antilog(negative: bool, whole: u32, part: u64) -> 
 }
 
 // x to the power of the exponent with a number, and NaN where there is none.
-#[unsafe(no_mangle)]
-pub extern "C" fn station_air_power(x: f64, number: usize) -> f64
+pub fn station_air_power(x: f64, number: usize) -> f64
     ensures { result ≡ power_at places number x }
 {
     power(x, number)

@@ -24,8 +24,7 @@ fn put_first(lent: &mut [f64], values: Values)
 // Writes the setting sheet on the first 1,530 bytes of the page, or answers the refusal, 11 to 17, with
 // the value of 11, 12 or 13 in `lent`. A refusal leaves the page as it was, and so does 255, where `lent`
 // has no place.
-#[unsafe(no_mangle)]
-pub extern "C" fn station_air_setting_sheet(
+pub fn station_air_setting_sheet(
     altitude_m: f64,
     pressure_hpa: f64,
     humidity_percent: f64,

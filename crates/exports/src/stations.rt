@@ -34,8 +34,7 @@ fn reading(given: bool, x: f64) -> Reading
 }
 
 // The standard atmosphere at an altitude: K, Pa.
-#[unsafe(no_mangle)]
-pub extern "C" fn station_air_standard_atmosphere(altitude_m: f64, lent: &mut [f64]) -> u32
+pub fn station_air_standard_atmosphere(altitude_m: f64, lent: &mut [f64]) -> u32
     ensures value { result ≡ status_of (with_room 2 lent.old (accepted (standard_air places altitude_m))) }
     ensures lent_after { lent.new ≡ left_in standard_values lent.old (with_room 2 lent.old (accepted (standard_air places altitude_m))) }
 {
@@ -48,8 +47,7 @@ pub extern "C" fn station_air_standard_atmosphere(altitude_m: f64, lent: &mut [f
 }
 
 // Density and speed of sound: kg/m3, m/s. A reading that is not given comes from the layer.
-#[unsafe(no_mangle)]
-pub extern "C" fn station_air_calculate_atmosphere(
+pub fn station_air_calculate_atmosphere(
     altitude_m: f64,
     temperature_given: bool,
     temperature_c: f64,
@@ -78,8 +76,7 @@ pub extern "C" fn station_air_calculate_atmosphere(
 
 // A station pressure, Pa, beside the standard atmosphere's at its altitude: that one, Pa, and their ratio,
 // with whether the two are implausible together in `implausible`, which 255 leaves as it was.
-#[unsafe(no_mangle)]
-pub extern "C" fn station_air_station_pressure_plausibility(
+pub fn station_air_station_pressure_plausibility(
     station_pressure_pa: f64,
     altitude_m: f64,
     lent: &mut [f64],
@@ -102,8 +99,7 @@ pub extern "C" fn station_air_station_pressure_plausibility(
 
 // The station that a density altitude resolves to, air or not. A temperature that is not given is the
 // standard one.
-#[unsafe(no_mangle)]
-pub extern "C" fn station_air_resolve_atmosphere_for_density_altitude(
+pub fn station_air_resolve_atmosphere_for_density_altitude(
     density_altitude_m: f64,
     temperature_given: bool,
     temperature_c: f64,
@@ -124,8 +120,7 @@ pub extern "C" fn station_air_resolve_atmosphere_for_density_altitude(
 
 // The station with a density altitude, or the refusal. A temperature that is not given is the
 // standard one.
-#[unsafe(no_mangle)]
-pub extern "C" fn station_air_for_density_altitude(
+pub fn station_air_for_density_altitude(
     density_altitude_m: f64,
     temperature_given: bool,
     temperature_c: f64,
@@ -152,8 +147,7 @@ pub extern "C" fn station_air_for_density_altitude(
 
 // The eight figures of a record, with their mark in `in_range`, or the refusal. The record is left as it
 // was, and so is the mark by a refusal.
-#[unsafe(no_mangle)]
-pub extern "C" fn station_air_judge(record: &[u8], lent: &mut [f64], in_range: &mut bool) -> u32
+pub fn station_air_judge(record: &[u8], lent: &mut [f64], in_range: &mut bool) -> u32
     ensures value { result ≡ status_of (with_room 8 lent.old (judge «record».now)) }
     ensures lent_after { lent.new ≡ left_in figure_values lent.old (with_room 8 lent.old (judge «record».now)) }
     ensures in_range_after { in_range.new ≡ mark_or in_range.old (with_room 8 lent.old (judge «record».now)) }
@@ -167,12 +161,7 @@ pub extern "C" fn station_air_judge(record: &[u8], lent: &mut [f64], in_range: &
 
 // What `station_air_judge` says of a record whose tags rise, and 19 where a tag is below the one before
 // it. The record is left as it was, and so is the mark by a refusal.
-#[unsafe(no_mangle)]
-pub extern "C" fn station_air_judge_strictly(
-    record: &[u8],
-    lent: &mut [f64],
-    in_range: &mut bool,
-) -> u32
+pub fn station_air_judge_strictly(record: &[u8], lent: &mut [f64], in_range: &mut bool) -> u32
     ensures value { result ≡ status_of (with_room 8 lent.old (judge_strictly «record».now)) }
     ensures lent_after { lent.new ≡ left_in figure_values lent.old (with_room 8 lent.old (judge_strictly «record».now)) }
     ensures in_range_after { in_range.new ≡ mark_or in_range.old (with_room 8 lent.old (judge_strictly «record».now)) }

@@ -12,7 +12,7 @@ use report::{Origin, put_record_report};
 // The status of a page that is too short for the longest text.
 const PAGE_TOO_SHORT: u32 = 16;
 
-// The status of a number that is no refusal's.
+// The status of a number that has no words.
 const NO_WORDS: u32 = 253;
 
 // The bytes of the longest text on a number, and on a record beside two for each of its bytes.
@@ -32,8 +32,7 @@ fn has_room(page: usize, record: usize) -> bool
 // Writes the report of a record, or why it is not read, at the start of the page, and its length. 16 where
 // the page has fewer than 2,842 bytes and two for each of the record's, which leaves `page` and `length` as
 // they were. The record is left.
-#[unsafe(no_mangle)]
-pub extern "C" fn station_air_report(record: &[u8], page: &mut [u8], length: &mut usize) -> u32
+pub fn station_air_report(record: &[u8], page: &mut [u8], length: &mut usize) -> u32
     ensures value { result ≡ status_of (report_on «record».now page.old) }
     ensures page_after { page.new ≡ over_or_left page.old 0 (report_on «record».now page.old) }
     ensures length_after { length.new ≡ text_length_or length.old (report_on «record».now page.old) }
@@ -49,14 +48,13 @@ pub extern "C" fn station_air_report(record: &[u8], page: &mut [u8], length: &mu
 fn has_words(number: u32) -> bool
     ensures { result ≡ has_words number }
 {
-    (number >= 1) & (number <= 22)
+    (number >= 1) & (number <= 15) | (number == 17)
 }
 
 // Writes the cause of a refusal's number and what to do at the start of the page, and their length. 16 where
-// the page has fewer than 236 bytes, else 253 where the number is no refusal's; these leave `page` and
-// `length` as they were.
-#[unsafe(no_mangle)]
-pub extern "C" fn station_air_refusal_words(number: u32, page: &mut [u8], length: &mut usize) -> u32
+// the page has fewer than 236 bytes, else 253 where the number has no words; these leave `page` and `length`
+// as they were.
+pub fn station_air_refusal_words(number: u32, page: &mut [u8], length: &mut usize) -> u32
     ensures value { result ≡ status_of (words_on number page.old) }
     ensures page_after { page.new ≡ over_or_left page.old 0 (words_on number page.old) }
     ensures length_after { length.new ≡ text_length_or length.old (words_on number page.old) }

@@ -11,8 +11,7 @@ use trim::classes::trim_class;
 use trim::search::{Trim, next_trim_class};
 
 // The trim class of a density, kg/m3.
-#[unsafe(no_mangle)]
-pub extern "C" fn station_air_trim_class(density_kg_m3: f64) -> u32
+pub fn station_air_trim_class(density_kg_m3: f64) -> u32
     ensures { result ≡ trim_class density_kg_m3 }
 {
     wide(trim_class(density_kg_m3))
@@ -68,12 +67,7 @@ fn put_turn(answer: &mut [i32], class: u8, turn: Turn)
 // another, as four numbers in `answer`: the class, the tag of the field changed, 2 or 7, the tenths with
 // their sign, and the new class; 0, 0 and the class again where no change does. Or the record's refusal,
 // or 22 where one of the two is absent, with its values in `lent`. The record is left as it was.
-#[unsafe(no_mangle)]
-pub extern "C" fn station_air_next_trim_class(
-    record: &[u8],
-    lent: &mut [f64],
-    answer: &mut [i32],
-) -> u32
+pub fn station_air_next_trim_class(record: &[u8], lent: &mut [f64], answer: &mut [i32]) -> u32
     ensures value { result ≡ status_of (trim_in lent.old answer.old «record».now) }
     ensures lent_after { lent.new ≡ values_after lent.old (trim_in lent.old answer.old «record».now) }
     ensures answer_after { answer.new

@@ -33,8 +33,7 @@ fn answer_of(voted: Vote) -> Answer
 // What `station_air_judge` says of the voted record, or the refusal of the first mast whose record is
 // not accepted by itself, or 21. `mast` is then that mast's number, 1 to 3, and else 0. The records are
 // left as they were, and so is the mark by a refusal.
-#[unsafe(no_mangle)]
-pub extern "C" fn station_air_vote(
+pub fn station_air_vote(
     a: &[u8],
     b: &[u8],
     c: &[u8],

@@ -3,5 +3,3 @@ pub mod Kit
 pub mod Forms
 pub mod FieldChecks
 pub mod Heads
-pub mod Thin
-pub mod Held

@@ -24,7 +24,7 @@ pub const MEASURED_PRESSURE: usize = 6;
 pub const MEANINGS: usize = 7;
 
 // A value in the form of its field.
-#[derive(Drop)]
+#[derive(Clone, Copy)]
 pub enum Value {
     Double(f64),
     // the word of a count of thousandths, by two's complement
@@ -32,7 +32,7 @@ pub enum Value {
 }
 
 // A tag, its meaning, and the value.
-#[derive(Drop)]
+#[derive(Clone, Copy)]
 pub struct Field {
     pub tag: u8,
     pub meaning: usize,
@@ -40,7 +40,7 @@ pub struct Field {
 }
 
 // A field, or what is wrong with it: a cause 5, 6 or 7.
-#[derive(Drop)]
+#[derive(Clone, Copy)]
 pub enum Found {
     Field(Field),
     Refused(Refusal),

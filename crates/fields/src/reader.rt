@@ -1,13 +1,13 @@
 // The field reader: a struct over the lent record, with the position of a field. It moves on field by
-// field. The borrow checker covers no function over such a struct, and no loop in one is proved by
-// hand: so these are few and thin, the work is done in `fields`, and a record is walked by `step_from`.
+// field. Its functions are few and thin: the work is done in `fields`, and a record is walked by
+// `step_from`.
 ghost use Rattle.std.specs.Prelude.{◌≡◌, drop};
 ghost use Rattle.fields.specs.Fields.{found, field_of, next_at, step_at, stepped};
 
 use crate::fields::{Field, Found, field_at, next_at};
 use refusal::Refusal;
 
-#[derive(Drop)]
+#[derive(Clone, Copy)]
 pub struct Reader<'a> {
     pub bytes: &'a [u8],
     pub at: usize,
@@ -52,7 +52,7 @@ fn next_from(bytes: &[u8], at: usize) -> usize
 }
 
 // The field at a position and the position after it, or what is wrong with the field.
-#[derive(Drop)]
+#[derive(Clone, Copy)]
 pub enum Step {
     Field(Field, usize),
     Refused(Refusal),

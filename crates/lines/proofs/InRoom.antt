@@ -1,5 +1,5 @@
 -- What a buffer of 154 bytes holds after a record is written into it: the record, where it has room. Assumes nothing.
-use Rattle.arithmetic.proofs.Kit.{◌≡◌, refl, ap, subst, ◌∙◌, Bool, true, false, List, ◌++◌, ℕ, ◌≤◌, arith, ltb-false, ltb, lit≤, length, take, drop, replicate, length-append, length-drop, length-replicate, take_at}
+use Rattle.arithmetic.proofs.Kit.{◌≡◌, refl, ap, ◌∙◌, Bool, true, false, List, ℕ, ◌≤◌, arith, ltb-false, ltb, lit≤, length, drop, replicate, length-append, length-drop, length-replicate, take_at}
 use Rattle.refusal.specs.Outcomes.{Outcome, accepted, refused, ◌⟫◌}
 use Rattle.writer.specs.Written.{length_written}
 use Rattle.writer.specs.Conversion.{written_in}

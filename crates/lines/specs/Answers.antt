@@ -17,50 +17,50 @@ use Rattle.lines.specs.Items.{write_answer}
 use Rattle.lines.specs.Typed.{park_answer}
 
 -- ---- the questions, and the shapes of the arguments of all but the last two, which take any words
-abbrev pub questionNames : List (List ℕ)
-questionNames = line_parts (ascii "judge strict judge-values strict-values class counts doubles report vote sheet load write park")
+abbrev pub question_names : List (List ℕ)
+question_names = line_parts (ascii "judge strict judge-values strict-values class counts doubles report vote sheet load write park")
 
-abbrev pub questionShapes : List (List ℕ)
-questionShapes = line_parts (ascii "r r r r r r r r rrr xxx n")
+abbrev pub question_shapes : List (List ℕ)
+question_shapes = line_parts (ascii "r r r r r r r r rrr xxx n")
 
 -- ---- the answer to the words of a line whose arguments fit
 -- a line has room for no longer record
-abbrev pub recordArgument : List (List ℕ) → ℕ → List ℕ
-recordArgument ws i = bytes_in 2048 (get_or ws i [])
+abbrev pub record_argument : List (List ℕ) → ℕ → List ℕ
+record_argument ws i = bytes_in 2048 (get_or ws i [])
 
-unfoldable pub recordAnswer : ℕ → List (List ℕ) → List ℕ
-recordAnswer number ws = record_answer_text number (recordArgument ws 1)
+unfoldable pub record_answer : ℕ → List (List ℕ) → List ℕ
+record_answer number ws = record_answer_text number (record_argument ws 1)
 
-unfoldable pub voteAnswer : List (List ℕ) → List ℕ
-voteAnswer ws = vote_text (vote (recordArgument ws 1) (recordArgument ws 2) (recordArgument ws 3))
+unfoldable pub vote_answer : List (List ℕ) → List ℕ
+vote_answer ws = vote_text (vote (record_argument ws 1) (record_argument ws 2) (record_argument ws 3))
 
-unfoldable pub sheetAnswer : List (List ℕ) → List ℕ
-sheetAnswer ws = sheet_text (setting_sheet (double_in (get_or ws 1 [])) (double_in (get_or ws 2 [])) (double_in (get_or ws 3 [])) 1530)
+unfoldable pub sheet_answer : List (List ℕ) → List ℕ
+sheet_answer ws = sheet_text (setting_sheet (double_in (get_or ws 1 [])) (double_in (get_or ws 2 [])) (double_in (get_or ws 3 [])) 1530)
 
-unfoldable pub loadAnswer : List (List ℕ) → List ℕ
-loadAnswer ws = bytes_line (load_record (number_or (get_or ws 1 [])))
+unfoldable pub load_answer : List (List ℕ) → List ℕ
+load_answer ws = bytes_line (load_record (number_or (get_or ws 1 [])))
 
-unfoldable pub knownAnswer : ℕ → List (List ℕ) → List ℕ
-knownAnswer number ws =
-    cond (eqb number 8) (voteAnswer ws)
-    (cond (eqb number 9) (sheetAnswer ws)
-    (cond (eqb number 10) (loadAnswer ws) (recordAnswer number ws)))
+unfoldable pub known_answer : ℕ → List (List ℕ) → List ℕ
+known_answer number ws =
+    cond (eqb number 8) (vote_answer ws)
+    (cond (eqb number 9) (sheet_answer ws)
+    (cond (eqb number 10) (load_answer ws) (record_answer number ws)))
 
 -- ---- a line
 -- the question with a number; any other is a function's name, or unknown
-abbrev pub numberedAnswer : ℕ → List ℕ → List ℕ
-numberedAnswer number line =
+abbrev pub numbered_answer : ℕ → List ℕ → List ℕ
+numbered_answer number line =
     let ws = line_parts line in
     cond (leb 13 number) (function_answer line)
     (cond (eqb number 12) (park_answer line)
     (cond (eqb number 11) (write_answer ws)
-    (cond (fits ws (get_or questionShapes number [])) (knownAnswer number ws) (wrong_line (get_or questionNames number []) (get_or questionShapes number [])))))
+    (cond (fits ws (get_or question_shapes number [])) (known_answer number ws) (wrong_line (get_or question_names number []) (get_or question_shapes number [])))))
 
-unfoldable pub questionAnswer : List ℕ → List ℕ
-questionAnswer line = numberedAnswer (place_in questionNames (get_or (line_parts line) 0 [])) line
+unfoldable pub question_answer : List ℕ → List ℕ
+question_answer line = numbered_answer (place_in question_names (get_or (line_parts line) 0 [])) line
 
 -- an empty line is answered by an empty line
-unfoldable pub answerLine : List ℕ → List ℕ
-answerLine line =
+unfoldable pub answer_line : List ℕ → List ℕ
+answer_line line =
     cond (ltb 4096 (length line)) (ascii "line too long: expected 4096 bytes at most\n")
-    (cond (eqb (length line) 0) (ascii "\n") (questionAnswer line))
+    (cond (eqb (length line) 0) (ascii "\n") (question_answer line))

@@ -1,6 +1,6 @@
 -- The words of a line after the first as they are typed to `park`, each ended by a newline, 10; a tab, 9, stands for a blank in one. Definitions only.
 use Rattle.std.specs.Prelude.{ℕ, ◌+◌, ◌-◌, min, cond, List, ltb, eqb, length, get_or}
-use Rattle.bytes.specs.Bytes.{index_of}
+use Rattle.pages.specs.Scan.{index_of}
 use Rattle.pages.specs.Pages.{up_to}
 use Rattle.park_text.specs.Words.{arguments}
 use Rattle.park_text.specs.ParkText.{park_text}

@@ -84,7 +84,7 @@ fn value_in(item: &[u8]) -> Value
 }
 
 // The readings of items; none where an item is not understood or a reading comes twice.
-#[derive(Drop)]
+#[derive(Clone, Copy)]
 struct Items {
     good: bool,
     readings: Readings,

@@ -1,4 +1,6 @@
 // The answer to a line.
+#![tactic(auto)]
+
 mod asked;
 mod classes;
 mod decimal;
@@ -16,7 +18,7 @@ mod written;
 ghost use Rattle.std.specs.Prelude.{◌≡◌};
 ghost use Rattle.pages.specs.Pages.{Appended};
 ghost use Rattle.questions.specs.Words.{line_parts};
-ghost use Rattle.lines.specs.Answers.{recordAnswer, voteAnswer, sheetAnswer, loadAnswer, knownAnswer, questionAnswer, answerLine};
+ghost use Rattle.lines.specs.Answers.{record_answer, vote_answer, sheet_answer, load_answer, known_answer, question_answer, answer_line};
 
 use crate::asked::put_function_answer;
 use crate::item_answers::put_write;
@@ -33,7 +35,7 @@ use questions::words::{nth_word, place};
 const ROOM: usize = 2048;
 
 fn put_record_answer(page: &mut [u8], at: usize, number: usize, line: &[u8]) -> usize
-    ensures { Appended page.old at (recordAnswer number (line_parts line.now)) page.new result }
+    ensures { Appended page.old at (record_answer number (line_parts line.now)) page.new result }
 {
     let mut record = [0u8; ROOM];
     let n = record_at(line, 1, &mut record);
@@ -41,7 +43,7 @@ fn put_record_answer(page: &mut [u8], at: usize, number: usize, line: &[u8]) -> 
 }
 
 fn put_vote_answer(page: &mut [u8], at: usize, line: &[u8]) -> usize
-    ensures { Appended page.old at (voteAnswer (line_parts line.now)) page.new result }
+    ensures { Appended page.old at (vote_answer (line_parts line.now)) page.new result }
 {
     let mut first = [0u8; ROOM];
     let a = record_at(line, 1, &mut first);
@@ -53,7 +55,7 @@ fn put_vote_answer(page: &mut [u8], at: usize, line: &[u8]) -> usize
 }
 
 fn put_sheet_answer(page: &mut [u8], at: usize, line: &[u8]) -> usize
-    ensures { Appended page.old at (sheetAnswer (line_parts line.now)) page.new result }
+    ensures { Appended page.old at (sheet_answer (line_parts line.now)) page.new result }
 {
     let altitude_m = double_at(line, 1);
     let pressure_hpa = double_at(line, 2);
@@ -62,7 +64,7 @@ fn put_sheet_answer(page: &mut [u8], at: usize, line: &[u8]) -> usize
 }
 
 fn put_load_answer(page: &mut [u8], at: usize, line: &[u8]) -> usize
-    ensures { Appended page.old at (loadAnswer (line_parts line.now)) page.new result }
+    ensures { Appended page.old at (load_answer (line_parts line.now)) page.new result }
 {
     let number = number_at(line, 1);
     put_load_record(page, at, number)
@@ -70,7 +72,7 @@ fn put_load_answer(page: &mut [u8], at: usize, line: &[u8]) -> usize
 
 // The answer to the question with a number, whose arguments fit its shape.
 fn put_known(page: &mut [u8], at: usize, number: usize, line: &[u8]) -> usize
-    ensures { Appended page.old at (knownAnswer number (line_parts line.now)) page.new result }
+    ensures { Appended page.old at (known_answer number (line_parts line.now)) page.new result }
 {
     match number {
         8 => put_vote_answer(page, at, line),
@@ -81,7 +83,7 @@ fn put_known(page: &mut [u8], at: usize, number: usize, line: &[u8]) -> usize
 }
 
 fn put_question(page: &mut [u8], at: usize, line: &[u8]) -> usize
-    ensures { Appended page.old at (questionAnswer line.now) page.new result }
+    ensures { Appended page.old at (question_answer line.now) page.new result }
 {
     let names =
         b"judge strict judge-values strict-values class counts doubles report vote sheet load write park";
@@ -106,7 +108,7 @@ fn put_question(page: &mut [u8], at: usize, line: &[u8]) -> usize
 // The answer to a line, its end not counted, on the page from `at` on, as much of it as there is room for;
 // the position after it. The line is left as it was.
 pub fn put_line_answer(page: &mut [u8], at: usize, line: &[u8]) -> usize
-    ensures appended { Appended page.old at (answerLine line.now) page.new result }
+    ensures appended { Appended page.old at (answer_line line.now) page.new result }
     ensures kept { line.now ≡ line.now }
 {
     if line.len() > 4096 {

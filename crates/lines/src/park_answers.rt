@@ -3,7 +3,7 @@ ghost use Rattle.std.specs.Prelude.{◌≡◌, min, length};
 ghost use Rattle.pages.specs.Pages.{Appended, Holds};
 ghost use Rattle.lines.specs.Typed.{typed_byte, typed_at, typed_text, park_answer};
 
-use bytes::scan::find;
+use pages::scan::find;
 use park_text::put_park_text;
 
 // A line has room for no more words.

@@ -1,20 +1,42 @@
 // Writes the load for the acceptance bench: of each record its bytes, and its figures. No contract can
 // say what is read or written, so this is all that stands outside of one.
-use libc::STDOUT_FILENO;
+#![tactic(auto)]
+
 use load_text::asked::{Asked, asked_for};
 use load_text::blocks::put_records;
+use std::env::{Env, FillError};
 
 // Longer words than this ask for nothing.
 const WORD: usize = 64;
 
+// The bytes of a piece.
+const PAGE: usize = 65536;
+
+// How many words the program was started with, its own name among them.
+fn word_count<E: Env>(env: &E) -> usize {
+    for i in 0..usize::MAX {
+        if let Err(FillError::NotPresent) = env.arg(i, &mut []) {
+            return i;
+        }
+    }
+    usize::MAX
+}
+
+// What is asked for by the words that the program was started with.
+fn asked<E: Env>(env: &E) -> Asked {
+    let mut word = [0u8; WORD];
+    let length = env.arg(1, &mut word).unwrap_or(0);
+    asked_for(word_count(env), &word[..length])
+}
+
 // The first records, in pieces of many. Where the output fails, nothing more is written.
-fn write_records(count: u32) {
-    let mut page = io::large_buffer();
+fn write_records<P: Print>(rt: &P, count: u32) {
+    let mut page = [0u8; PAGE];
     let mut first = 0;
     while first < count {
         let block = put_records(&mut page, first, count - first);
         let length = block.length;
-        if !io::write_all(STDOUT_FILENO, &page[..length]) {
+        if rt.write_all(&page[..length]).is_err() {
             return;
         }
         first += block.records;
@@ -23,14 +45,11 @@ fn write_records(count: u32) {
 
 // Ten thousand records, or as many as its argument says. Where that asks for nothing that there is, what
 // there is is written.
-fn main() {
-    let mut word = [0u8; WORD];
-    let length = os::arg(1, &mut word);
-    match asked_for(os::arg_count(), &word[..length]) {
-        Asked::Records(count) => write_records(count),
+fn main(rt: HostRuntime) {
+    match asked(&rt) {
+        Asked::Records(count) => write_records(&rt, count),
         Asked::Unknown => {
-            io::write_all(
-                STDOUT_FILENO,
+            let _ = rt.write_all(
                 b"usage: load [COUNT], a whole number from 0 to 2147483, 10000 if there is none\n",
             );
         }

@@ -1,6 +1,6 @@
 -- The names that most proofs here use, of the kit, of the crates below and of the definitions, from one place. Nothing is defined here.
 unfoldable pub use Rattle.arithmetic.proofs.Kit.{fits, le, lt, of_bits, round}
-pub use Rattle.arithmetic.proofs.Kit.{Bool, Float, List, SFits, T, [], ◌%◌, ◌*◌, ◌++◌, ◌+◌, ◌+ℤ◌, ◌-◌, ◌/◌, ◌<◌, ◌^◌, ◌||◌, ◌∙◌, ◌∷◌, ◌≡◌, ◌≤◌, ◌≤ℤ◌, ◌⊎◌, add-mul, add-one, ap, append_assoc, append-nil, ap₂, arith, binary64, cond, div-add-mod', drop, eq-eqb, eqb, false, fin, finite, get_or, inf, inl, inr, le-leb, le-ltb, le_trans, leb→le, length, length-append, le→leb, lit<, lt-leb, lt_of_lt_of_le, ltb, mod-lt, mul-add-mod_self_right, mul_comm, mul_right_comm, mul-suc, nan, ne_eqb, needs, negsuc, neg_ℤ, not, of_z, pos, refl, replicate, subst, suc, sym, take, take_at, to_z, to_z-of_z, true, true≢false, w32, zero, ℕ, ℤ, ⊎_elim}
+pub use Rattle.arithmetic.proofs.Kit.{Bool, Float, List, SFits, T, [], ◌%◌, ◌*◌, ◌++◌, ◌+◌, ◌+ℤ◌, ◌-◌, ◌/◌, ◌<◌, ◌^◌, ◌||◌, ◌∙◌, ◌∷◌, ◌≡◌, ◌≤◌, ◌≤ℤ◌, ◌⊎◌, add-mul, add-one, ap, append_assoc, append-nil, ap₂, arith, binary64, cond, div-add-mod', drop, eq-eqb, eqb, false, fin, finite, get_or, inf, inl, inr, le-leb, le-ltb, le_trans, leb→le, length, length-append, le→leb, lit<, lt-leb, lt_of_lt_of_le, ltb, mod-lt, mul-add-mod_self_right, mul_comm, mul_right_comm, mul-suc, nan, ne_eqb, rules, negsuc, neg_ℤ, not, of_z, pos, refl, replicate, subst, suc, sym, take, take_at, to_z, to_z-of_z, true, true≢false, w32, zero, ℕ, ℤ, ⊎_elim}
 pub use Rattle.thousandths.proofs.Sizes.{InRange}
 unfoldable pub use Rattle.thousandths.specs.Thousandths.{thousandths, twos_complement}
 pub use Rattle.refusal.specs.Outcomes.{Outcome, Row, ◌then◌, ◌⟫◌, accepted, row}

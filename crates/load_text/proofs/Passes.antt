@@ -6,7 +6,7 @@ use Rattle.arithmetic.specs.Decimals.{nought}
 use Rattle.thousandths.proofs.Words.{count_of_word_lem}
 use Rattle.density_altitude.specs.Inverse.{absolute_zero, temperature_rows}
 use Rattle.record.specs.declared.entries.Entry.{Entry}
-use Rattle.record.specs.declared.entries.Entry.TheVariants.{Absent, Present}
+use Rattle.record.specs.declared.entries.Entry.TheVariants.{Present}
 use Rattle.record.specs.declared.entries.Stored.{Stored}
 use Rattle.record.specs.declared.entries.Stored.TheVariants as stored
 use Rattle.fields.specs.Fields as meaning

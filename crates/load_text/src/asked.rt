@@ -8,7 +8,7 @@ use thousandths::word_from;
 // As many as the acceptance bench takes.
 const RECORDS: u32 = 10_000;
 
-#[derive(Drop)]
+#[derive(Clone, Copy)]
 pub enum Asked {
     Records(u32),
     Unknown,

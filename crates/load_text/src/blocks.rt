@@ -19,7 +19,7 @@ const LONGEST: usize = 28;
 const ROOM: usize = 207;
 
 // How many records there are, and how many bytes their text has.
-#[derive(Drop)]
+#[derive(Clone, Copy)]
 pub struct Block {
     pub records: u32,
     pub length: usize,
@@ -51,7 +51,7 @@ fn length_of(answer: Written) -> usize
 }
 
 // A record at the start of the bytes, and its length.
-#[derive(Drop)]
+#[derive(Clone, Copy)]
 struct RecordBytes {
     bytes: [u8; LONGEST],
     len: usize,

@@ -7,7 +7,7 @@ use super::splitmix::{grown, mixed, state_after, wrapping_mul};
 
 // Thousandths of a metre, of a degree Celsius, of a hectopascal and of a percent, and whether the record
 // has its humidity.
-#[derive(Drop)]
+#[derive(Clone, Copy)]
 pub struct LoadCounts {
     pub altitude: i32,
     pub temperature: i32,
@@ -17,7 +17,7 @@ pub struct LoadCounts {
 }
 
 // The counts of one record, and the state from which the next is drawn.
-#[derive(Drop)]
+#[derive(Clone, Copy)]
 pub struct Drawn {
     pub counts: LoadCounts,
     pub state: u64,

@@ -1,4 +1,6 @@
 // The load for the acceptance bench: the text of its records, and how many of them are asked for.
+#![tactic(auto)]
+
 pub mod asked;
 pub mod blocks;
 mod counts;

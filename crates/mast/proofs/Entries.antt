@@ -127,6 +127,6 @@ by_way r apart (Present d) told none = station-finite r d apart none told
 pub accepted-is_finite : (r : Readings) (f : Figures) → judged r ≡ accepted f → (m : ℕ) → m < meanings → FiniteEntry (entry_of r m)
 unfolding judged
 accepted-is_finite r f e =
-    let none = ((exactly (figures_of (resolved r)) (reading_rows r)).accepted-because e).0 in
+    let none = ((exactly (figures_of (resolved r)) (reading_rows r)).accepted_because e).0 in
     let way = entry_of r density_altitude in
     by_way r none.0 way refl (none_before (way_rows r way) (air_rows (resolved r)) none.1)

@@ -39,7 +39,7 @@ same-station a b s = record { altitudes = s.altitudes; temperatures = ap₂ show
 
 accepted-figures : (r : Readings) {f : Figures} → judged r ≡ accepted f → figures_of (resolved r) ≡ f
 unfolding judged
-accepted-figures r e = ((exactly (figures_of (resolved r)) (reading_rows r)).accepted-because e).1
+accepted-figures r e = ((exactly (figures_of (resolved r)) (reading_rows r)).accepted_because e).1
 
 pub humidity_leaves_the-station : (r q : Readings) → DifferOnlyInHumidity r q → (f g : Figures) → judged r ≡ accepted f → judged q ≡ accepted g
     → SameStation f g

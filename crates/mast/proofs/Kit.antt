@@ -1,6 +1,6 @@
 -- The names that most proofs here use, of the kit, of the crates below and of the definitions, from one place. Nothing is defined here.
 unfoldable pub use Rattle.arithmetic.proofs.Kit.{div, eq, flat_map, le, lt, mul, neg, of_bits, round}
-pub use Rattle.arithmetic.proofs.Kit.{Bool, Float, List, [], ◌&&◌, ◌*◌, ◌++◌, ◌<◌, ◌||◌, ◌∙◌, ◌∷◌, ◌≡◌, ◌≢◌, ◌≤◌, ap, ap₂, arith, binary64, cond, down, down_pos, eqb, false, false≢true, fin, inf, length, nan, ne_eqb, needs, not, not-false, pos, refl, subst, subst₂, suc, sym, take, true, true≢false, up, up_pos, zero, zero-mul, ℕ}
+pub use Rattle.arithmetic.proofs.Kit.{Bool, Float, List, [], ◌&&◌, ◌*◌, ◌++◌, ◌<◌, ◌||◌, ◌∙◌, ◌∷◌, ◌≡◌, ◌≢◌, ◌≤◌, ap, ap₂, arith, binary64, cond, down, down_pos, eqb, false, false≢true, fin, inf, length, nan, ne_eqb, rules, not, not-false, pos, refl, subst, subst₂, suc, sym, take, true, true≢false, up, up_pos, zero, zero-mul, ℕ}
 pub use Rattle.arithmetic.specs.Decimals.{decimal, hundred, nought, one}
 pub use Rattle.arithmetic.specs.Places.{places}
 pub use Rattle.refusal.proofs.Rows.{Never, after_check, exactly, exactly-by, first-passed, never_both, never-refused, none_after, none_before, then_append, then_next, then-rows, then_same}

@@ -58,4 +58,4 @@ record_never k h strict s e =
     let rows = record_rows strict s in
     let f = figures_of (resolved (readings s)) in
     never-refused k f rows (never_both k (read_rows strict s) (reading_rows (readings s)) (fields-never k h strict s) (readings-never k (omega arith) (readings s)))
-    ((exactly f rows).refused_where ((caused strict s).refused-because e))
+    ((exactly f rows).refused_where ((caused strict s).refused_because e))

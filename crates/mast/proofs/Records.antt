@@ -57,7 +57,7 @@ of-readings : (r : Readings) (k : ℕ) (vs : List Float) → judged r ≡ refuse
 unfolding judged
 of-readings r k vs e =
     let d = entry_of r density_altitude in
-    let f = (exactly (figures_of (resolved r)) (reading_rows r)).refused-because e in
+    let f = (exactly (figures_of (resolved r)) (reading_rows r)).refused_because e in
     let all : AllOutside (reading_rows r) = (omega arith, both (way_rows r d) (air_rows (resolved r)) (way_outside r d) (omega arith)) in
     subst Outside f.numbered (here-outside f.earlier f.here f.later (subst AllOutside f.all all))
 

@@ -13,7 +13,7 @@ sea_level_lem = ranged (decimal "1.2255") (decimal "1.2256") (2 ^ 1024)
 
 tracks-sea_level : Tracks sea_level_lem (sea_level_density 60) Spec.sea_level
 unfolding sea_level_density atmosphere density_of mole_fraction air_density_at compressibility_factor Spec.sea_level Density.exact_density the ◌⊞◌ opposite ◌⊠◌ ◌÷◌ N above beneath add sub mul div neg round units span climb size odd of_fields of_bits lt eq is_nan fits
-tracks-sea_level = record { some = lit< tt; is_finite_lem = tt; double = tt; low = lit≤ tt; high = lit≤ tt; not_above_lem = lit≤ tt; not_below = lit≤ tt }
+tracks-sea_level = record { some = lit< tt; is_finite = tt; double = tt; low = lit≤ tt; high = lit≤ tt; not_above = lit≤ tt; not_below = lit≤ tt }
 
 -- ---- the formula, of the two densities and of the power
 abbrev density_ratio : Term
@@ -70,7 +70,7 @@ module _ (t p h : Float) (range : InScope t p h) (s : Saturation (kelvin t)) whe
 
   module _ (r : Spec.RaisedDensity (Spec.exact_air_density t p h s)) where
     tracks-H : Tracks altitudes H (Spec.matched_altitude r)
-    tracks-H = tracks (tracks-constant-power height_power window (test tests 2 passed) ends x (Spec.density_ratio (Spec.exact_air_density t p h s)) tracks-x r.power r.is-power also none) metres (test tests 3 passed)
+    tracks-H = tracks (tracks-constant-power height_power window (test tests 2 passed) ends x (Spec.density_ratio (Spec.exact_air_density t p h s)) tracks-x r.power r.is_power also none) metres (test tests 3 passed)
 
     kept : T (le H tropopause)
     unfolding of_bits fits
@@ -87,7 +87,7 @@ module _ (t p h : Float) (range : InScope t p h) (s : Saturation (kelvin t)) whe
     altitude-near = subst (λ (z : Float). IsNear 30 z (Spec.matched_altitude r)) (sym is-H) (near_of 30 _ _ (leb→le (altitudes.E * 2 ^ 30) N (test tests 4 passed)) tracks-H)
 
   pub power-there : Spec.RaisedDensity (Spec.exact_air_density t p h s)
-  power-there = let r = power-exists height_power window (test tests 2 passed) x (Spec.density_ratio (Spec.exact_air_density t p h s)) tracks-x in record { power = r.0; is-power = r.1 }
+  power-there = let r = power-exists height_power window (test tests 2 passed) x (Spec.density_ratio (Spec.exact_air_density t p h s)) tracks-x in record { power = r.0; is_power = r.1 }
 
 pub record DensityAltitudeNear : Type 0 where
   -- 2 ^ -30 m is 9.3e-10 m

@@ -4,8 +4,8 @@ use Rattle.exact.proofs.Terms.{num}
 
 -- the denominator of the logarithm
 module _ (T : Exact) (k : Fraction) (k₀ : 0 < k.under) where
-  proper-half : (c : Exact) (n : ℕ) → 0 < c.under → 0 < (c ⊠ of (k toThe n)).under
-  proper-half c n i = proper-product c (of (k toThe n)) i (one-le-pow n k.under k₀)
+  proper-half : (c : Exact) (n : ℕ) → 0 < c.under → 0 < (c ⊠ of (k to_the n)).under
+  proper-half c n i = proper-product c (of (k to_the n)) i (one-le-pow n k.under k₀)
 
   proper_log : 0 < (reduced T).under → T.minus < T.plus → 0 < (exact_log_ratio T k).under
   unfolding exact_log_ratio the
@@ -18,7 +18,7 @@ saturation-of : {b c : Bounds} (T : Exact) (x y : Float) → Tracks b x T → b.
 saturation-of T x y warm M₀ apart part M₀' apart' few =
     let k : (k : Fraction) × IsRoot k (reduced T) = root-of 2 (lit< tt) (reduced T) part.some (above_zero y (reduced T) part M₀' apart') (below-square 2 y (reduced T) part few) in
     let r : (r : Fraction) × IsPower e_below (exact_log_ratio T k.0) r = power-of e_below (exact_log_ratio T k.0) (lit< tt) (lit< tt) (proper_log T k.0 k.1.proper part.some (above_zero x T warm M₀ apart)) in
-    record { root = k.0; is-root = k.1; e = e_below; e-proper = lit< tt; e-least = lit≤ tt; e-most = lit≤ tt; ratio = r.0; is-ratio = r.1 }
+    record { root = k.0; is_root = k.1; e = e_below; e_proper = lit< tt; e_least = lit≤ tt; e_most = lit≤ tt; ratio = r.0; is_ratio = r.1 }
 
 abbrev Kelvin : Term
 Kelvin = given 0 plus num "273.15"

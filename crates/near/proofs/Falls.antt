@@ -1,6 +1,6 @@
 -- The density of dry air at one pressure falls with every degree. Z moves less than T does in a degree, so that the divisor Z R T is greater by more than a rounding
 -- can hide. All numbers are counts of units of 2 ^ -1074. Assumes nothing.
-use Rattle.near.proofs.Kit.{◌≡◌, refl, sym, ap, Bool, ◌&&◌, List, [], ◌∷◌, ℕ, ◌+◌, ◌-◌, ◌*◌, ◌^◌, ◌≤◌, ◌<◌, le_refl, le_trans, le_of_eq, lt_of_not-le, mul-pos, mul-le-mul_right, mul-le-mul_left, le_of_mul-le-mul_right, dec_le, arith, T, eqb, leb, ltb, eqb→eq, leb→le, ltb→lt, Float, binary64, span, climb, size, odd, units, round, sum, neg, add, sub, mul, div, of_fields, of_bits, fits, lt, and_l, and_r, finite, decimal, nought, hundred, ◌⊕◌, ◌⊖◌, ◌⊗◌, ◌⊘◌, units_of, above, beneath, over, under, Small, lt-of-sides, ice_point, air_density_at, compressibility_factor, Given, density_of, atmosphere, ◌⊞◌, the, number, is_not_above, N, N_pos, step_of, Bounds, Tracks, small, product_size, quotient_size, mul-near, div-near, Term, ◌plus◌, ◌minus◌, ◌times◌, ◌by◌, as_double, as_exact, analysed, none, ◌also◌, tracks, ranged, number_is, tracks-between, all, item, test, positive-units, is_above, positive-tested, InScope, places}
+use Rattle.near.proofs.Kit.{◌≡◌, refl, sym, ap, Bool, ◌&&◌, List, [], ◌∷◌, ℕ, ◌+◌, ◌-◌, ◌*◌, ◌^◌, ◌≤◌, ◌<◌, le_refl, le_trans, le_of_eq, lt_of_not-le, mul-pos, mul-le-mul_right, mul-le-mul_left, le_of_mul-le-mul_right, dec_le, arith, T, eqb, leb, ltb, eqb→eq, leb→le, ltb→lt, Float, binary64, span, climb, size, odd, units, round, sum, neg, add, sub, mul, div, of_fields, of_bits, fits, lt, and_l, and_r, finite, decimal, nought, hundred, ◌⊕◌, ◌⊖◌, ◌⊗◌, ◌⊘◌, units_of, above, beneath, over, under, Small, lt-of-sides, ice_point, air_density_at, compressibility_factor, Given, density_of, atmosphere, ◌⊞◌, the, number, is_not_above, N, N_pos, step_of, Bounds, Tracks, small, product_size, quotient_size, mul-near, div-near, Term, ◌minus◌, ◌times◌, ◌by◌, as_double, as_exact, analysed, none, ◌also◌, tracks, ranged, number_is, tracks-between, all, item, test, positive-units, is_above, positive-tested, InScope, places}
 use Rattle.exact.proofs.Terms.{num}
 use Rattle.near.proofs.Paths.{hpa_bounds}
 use Rattle.near.proofs.Density.{T-K, p-Pa, Z, dry-t, dry-tracks-t, dry-tracks-p, no_vapour}
@@ -172,12 +172,12 @@ module _ (t p : Float) (range : InScope t p nought) where
   product s s' h =
       let each : (n : ℕ) → T (item (product-tests s s') n) = λ n. test (product-tests s s') n h in
       let r = mul-near (of s) (of s') _ _ _ _ (surely s (each 0)) (surely s' (each 1)) (each 3) in
-      product-of (value (s times s')) (under (as_double doubles (s times s'))) (value s) (under (as_double doubles s)) (value s') (under (as_double doubles s')) (step s s') (none-under s (each 0)) (none-under s' (each 1)) (none-under (s times s') (each 2)) r.not_above_lem r.not_below
+      product-of (value (s times s')) (under (as_double doubles (s times s'))) (value s) (under (as_double doubles s)) (value s') (under (as_double doubles s')) (step s s') (none-under s (each 0)) (none-under s' (each 1)) (none-under (s times s') (each 2)) r.not_above r.not_below
 
   ratio : (value quotient * value divisor ≤ value numerator * N + quotient-step (of numerator) (of divisor) * value divisor) × (value numerator * N ≤ value quotient * value divisor + quotient-step (of numerator) (of divisor) * value divisor)
   ratio =
       let r = div-near (of numerator) (of divisor) _ _ _ _ (surely numerator (passed 5)) (surely divisor (passed 6)) (passed 8) (none_below divisor (passed 6)) (ltb→lt 0 (of divisor).L (and_r (eqb (of divisor).M 0) (ltb 0 (of divisor).L) (and_r (of divisor).good (is_above (of divisor)) (passed 6)))) in
-      ratio-of (value quotient) (under (as_double doubles quotient)) (value numerator) (under (as_double doubles numerator)) (value divisor) (quotient-step (of numerator) (of divisor)) (none-under numerator (passed 5)) (none-under quotient (passed 7)) r.not_above_lem r.not_below
+      ratio-of (value quotient) (under (as_double doubles quotient)) (value numerator) (under (as_double doubles numerator)) (value divisor) (quotient-step (of numerator) (of divisor)) (none-under numerator (passed 5)) (none-under quotient (passed 7)) r.not_above r.not_below
 
   -- the temperature in units
   itself : Tracks (ranged (decimal "-40") (decimal "50") 0) t (number t)
@@ -188,16 +188,16 @@ module _ (t p : Float) (range : InScope t p nought) where
   unfolding ◌⊞◌ the
   warmth =
       let x = surely K (passed 4) in
-      let n = number_is t itself.is_finite_lem itself.double in
-      warmth-of (value K) (under (as_double doubles K)) (number t).plus (number t).minus (number t).under (over t) (under t) (of K).E (none-under K (passed 4)) n.0 n.1 n.2 x.not_above_lem x.not_below
+      let n = number_is t itself.is_finite itself.double in
+      warmth-of (value K) (under (as_double doubles K)) (number t).plus (number t).minus (number t).under (over t) (under t) (of K).E (none-under K (passed 4)) n.0 n.1 n.2 x.not_above x.not_below
 
 -- ---- two temperatures a degree apart
 module _ (t u p : Float) (t-range : InScope t p nought) (u-range : InScope u p nought) (warmer : T (is_not_above (number t ⊞ the "1") (number u))) where
   degree : over t + N + under u ≤ over u + under t
   unfolding ◌⊞◌ the
   degree =
-      let n = number_is t (itself t p t-range).is_finite_lem (itself t p t-range).double in
-      let m = number_is u (itself u p u-range).is_finite_lem (itself u p u-range).double in
+      let n = number_is t (itself t p t-range).is_finite (itself t p t-range).double in
+      let m = number_is u (itself u p u-range).is_finite (itself u p u-range).double in
       degree-of (number t).plus (number t).minus (number t).under (number u).plus (number u).minus (number u).under (over t) (under t) (over u) (under u) n.0 m.0 n.1 n.2 m.1 m.2
       (leb→le (((number t).plus * 1 + 1 * (number t).under) * (number u).under + (number u).minus * ((number t).under * 1)) ((number u).plus * ((number t).under * 1) + ((number t).minus * 1 + 0 * (number t).under) * (number u).under) warmer)
 
@@ -228,14 +228,14 @@ module _ (t u p : Float) (t-range : InScope t p nought) (u-range : InScope u p n
   below =
       let d = surely t p t-range formula (passed 13) in
       let d' = surely u p u-range formula (passed 13) in
-      lt-of-sides _ _ (itself-of _ d'.is_finite_lem d'.double) (itself-of _ d.is_finite_lem d.double)
+      lt-of-sides _ _ (itself-of _ d'.is_finite d'.double) (itself-of _ d.is_finite d.double)
       (sides (value t p t-range formula) (value u p u-range formula) (under (as_double (doubles t p t-range) formula)) (under (as_double (doubles u p u-range) formula)) (none-under t p t-range formula (passed 13)) (none-under u p u-range formula (passed 13))
       (last_of (value t p t-range formula) (value u p u-range formula) (value t p t-range quotient) (value u p u-range quotient) (step quotient one)
       (le_trans (product u p u-range quotient one (passed 2)).0 (le_of_eq (ap (λ (w : ℕ). value u p u-range quotient * w + step quotient one * N) same)))
       (le_trans (le_of_eq (ap (λ (w : ℕ). value t p t-range quotient * w) (sym same))) (product t p t-range quotient one (passed 2)).1) quotients))
     where
       itself-of : (z : Float) → T (finite z) → T (fits binary64 z) → Small (units_of z) z
-      itself-of z h f = record { is_finite_lem = h; double = f; size = le_refl (units_of z) }
+      itself-of z h f = record { is_finite = h; double = f; size = le_refl (units_of z) }
 
       sides : (o o' v v' : ℕ) → v ≡ 0 → v' ≡ 0 → o' + 0 < o + 0 → o' + v < o + v'
       sides o o' v v' a b l = omega (arith, a, b, l)

@@ -32,8 +32,8 @@ nearest U S = halves U S (2 ^ 1074) (pow_pos 1074)
 
 pub printed-near : (j k : ℕ) (x : Float) (X : Exact) → T (fits binary64 x) → IsNear k x X → IsPrinted j k (decimal_text j x) X
 unfolding decimal_text ◌⊞◌ opposite above beneath
-printed-near j k nan X f near = absurd near.is_finite_lem
-printed-near j k (inf s) X f near = absurd near.is_finite_lem
+printed-near j k nan X f near = absurd near.is_finite
+printed-near j k (inf s) X f near = absurd near.is_finite
 printed-near j k (fin false m e) X f near =
     let x = fin false m e in
     let n = number_is x tt f in
@@ -41,8 +41,8 @@ printed-near j k (fin false m e) X f near =
     record {
       negative = false;
       n = nearest_count (units_of x) (10 ^ j);
-      is-text = refl;
-      not_above_lem = printed (10 ^ j) X.under (2 ^ k) _ 0 (over x) (under x) X.plus X.minus c.0 (in_units (10 ^ j) X.under (2 ^ k) (number x).plus (number x).minus (number x).under (over x) (under x) X.plus X.minus n.0 n.1 n.2 near.not_above_lem);
+      is_text = refl;
+      not_above = printed (10 ^ j) X.under (2 ^ k) _ 0 (over x) (under x) X.plus X.minus c.0 (in_units (10 ^ j) X.under (2 ^ k) (number x).plus (number x).minus (number x).under (over x) (under x) X.plus X.minus n.0 n.1 n.2 near.not_above);
       not_below = printed (10 ^ j) X.under (2 ^ k) 0 _ (under x) (over x) X.minus X.plus c.1 (in_units (10 ^ j) X.under (2 ^ k) (number x).minus (number x).plus (number x).under (under x) (over x) X.minus X.plus n.0 n.2 n.1 near.not_below);
     }
 printed-near j k (fin true m e) X f near =
@@ -52,8 +52,8 @@ printed-near j k (fin true m e) X f near =
     record {
       negative = true;
       n = nearest_count (units_of x) (10 ^ j);
-      is-text = refl;
-      not_above_lem = printed (10 ^ j) X.under (2 ^ k) 0 _ (over x) (under x) X.plus X.minus c.1 (in_units (10 ^ j) X.under (2 ^ k) (number x).plus (number x).minus (number x).under (over x) (under x) X.plus X.minus n.0 n.1 n.2 near.not_above_lem);
+      is_text = refl;
+      not_above = printed (10 ^ j) X.under (2 ^ k) 0 _ (over x) (under x) X.plus X.minus c.1 (in_units (10 ^ j) X.under (2 ^ k) (number x).plus (number x).minus (number x).under (over x) (under x) X.plus X.minus n.0 n.1 n.2 near.not_above);
       not_below = printed (10 ^ j) X.under (2 ^ k) _ 0 (under x) (over x) X.minus X.plus c.0 (in_units (10 ^ j) X.under (2 ^ k) (number x).minus (number x).plus (number x).under (under x) (over x) X.minus X.plus n.0 n.2 n.1 near.not_below);
     }
 

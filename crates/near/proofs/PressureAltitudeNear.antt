@@ -50,7 +50,7 @@ module _ (lo hi : Float) (w : Window) where
 
     module _ (r : Spec.RaisedPressure (number p)) where
       tracks-h : Tracks altitudes h (Spec.exact_nws_altitude r)
-      tracks-h = tracks (tracks-constant-power nws_power w (test tests 3 passed) at-ends x (Spec.pressure_ratio (number p)) tracks-x r.power r.is-power also none) metres (test tests 4 passed)
+      tracks-h = tracks (tracks-constant-power nws_power w (test tests 3 passed) at-ends x (Spec.pressure_ratio (number p)) tracks-x r.power r.is_power also none) metres (test tests 4 passed)
 
       kept : Between lowest_height tropopause h
       unfolding of_bits fits
@@ -69,7 +69,7 @@ module _ (lo hi : Float) (w : Window) where
     between-near : Near p
     between-near =
         let r = power-exists nws_power w (test tests 3 passed) x (Spec.pressure_ratio (number p)) tracks-x in
-        record { altitude-near = near; power-there = record { power = r.0; is-power = r.1 } }
+        record { altitude-near = near; power-there = record { power = r.0; is_power = r.1 } }
 
 -- ---- the two parts
 abbrev window_1 : Window

@@ -125,7 +125,7 @@ module _ (qnh h : Float) (qnh-range : Between (decimal "500") (decimal "1100") q
   tracks-station : (r : Spec.Reduction (number qnh) (number h)) → Tracks stations (qnh ⊗ outer) (Spec.station_hpa r)
   tracks-station r =
       tracks
-      (tracks-qnh also tracks-constant-power pressure_power outer_window (test tests 5 passed) outer-ends outer-base (Spec.reduced_ratio (number h) r.inner) (tracks-outer-base r.inner r.is-inner) r.outer r.is-outer also none)
+      (tracks-qnh also tracks-constant-power pressure_power outer_window (test tests 5 passed) outer-ends outer-base (Spec.reduced_ratio (number h) r.inner) (tracks-outer-base r.inner r.is_inner) r.outer r.is_outer also none)
       station (test tests 6 passed)
 
   pub reduced-near : (r : Spec.Reduction (number qnh) (number h)) → IsNear 37 (reduced_qnh 60 qnh h) (Spec.station_hpa r)
@@ -135,7 +135,7 @@ module _ (qnh h : Float) (qnh-range : Between (decimal "500") (decimal "1100") q
   reduction =
       let s = power-exists inner_power inner_window (test tests 2 passed) base (Spec.setting (number qnh)) tracks-base in
       let r = power-exists pressure_power outer_window (test tests 5 passed) outer-base (Spec.reduced_ratio (number h) s.0) (tracks-outer-base s.0 s.1) in
-      record { inner = s.0; is-inner = s.1; outer = r.0; is-outer = r.1 }
+      record { inner = s.0; is_inner = s.1; outer = r.0; is_outer = r.1 }
 
 pub record QnhNear : Type 0 where
   -- 2 ^ -37 hPa is 7.3e-12 hPa

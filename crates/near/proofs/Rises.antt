@@ -44,7 +44,7 @@ module _ (x y : Float) (x-positive : T (positive x)) (y-positive : T (positive y
   le-of-units h = let a : Positive x = positive-units x x-positive fits-x in let b : Positive y = positive-units y y-positive fits-y in le-of-sides x y (itself x fits-x (positive-finite x x-positive)) (itself y fits-y (positive-finite y y-positive)) (omega arith)
     where
       itself : (z : Float) → T (fits binary64 z) → T (finite z) → Small (units_of z) z
-      itself z f k = record { is_finite_lem = k; double = f; size = le_refl (units_of z) }
+      itself z f k = record { is_finite = k; double = f; size = le_refl (units_of z) }
 
 pub sqrt-rises : (x y : Float) → T (fits binary64 x) → T (fits binary64 y) → T (positive x) → T (positive y) → T (le x y) → T (le (sqrt x) (sqrt y))
 sqrt-rises x y fx fy px py h =

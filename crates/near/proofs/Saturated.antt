@@ -43,7 +43,7 @@ module _ (Tb : Bounds) (q : Part) where
     passed n = test checks n checked
 
     itself : (z : Float) → T (fits binary64 z) → T (finite z) → Small (units_of z) z
-    itself z f k = record { is_finite_lem = k; double = f; size = le_refl (units_of z) }
+    itself z f k = record { is_finite = k; double = f; size = le_refl (units_of z) }
 
     -- ---- the half powers
     abbrev x' : Float
@@ -54,7 +54,7 @@ module _ (Tb : Bounds) (q : Part) where
     tracks-τ = tracks (t also none) τ (passed 11)
 
     τ-itself : Small (units_of x') x'
-    τ-itself = itself x' tracks-τ.double tracks-τ.is_finite_lem
+    τ-itself = itself x' tracks-τ.double tracks-τ.is_finite
 
     τ-low : T (le (decimal "0.5") x')
     unfolding above beneath of_bits fits
@@ -73,8 +73,8 @@ module _ (Tb : Bounds) (q : Part) where
     abbrev power-of : ℕ → Float
     power-of j = power 60 (halves j) x'
 
-    tracks-half : (j : ℕ) → j * 2 ^ 57 ≤ 8 * 2 ^ 58 → Moderate j → T (half j).good → Tracks (half j) (power-of j) (of (s.root toThe j))
-    tracks-half j few m good = tracks-power j τ-bounds few good x' (reduced X) tracks-τ s.root s.is-root (power-normal j m x' tracks-τ.double τ-low τ-high)
+    tracks-half : (j : ℕ) → j * 2 ^ 57 ≤ 8 * 2 ^ 58 → Moderate j → T (half j).good → Tracks (half j) (power-of j) (of (s.root to_the j))
+    tracks-half j few m good = tracks-power j τ-bounds few good x' (reduced X) tracks-τ s.root s.is_root (power-normal j m x' tracks-τ.double τ-low τ-high)
 
     -- ---- the exponent
     pub y : Float
@@ -87,7 +87,7 @@ module _ (Tb : Bounds) (q : Part) where
         also tracks-half 8 (lit≤ tt) moderate.3 (passed 15) also tracks-half 15 (lit≤ tt) moderate.4 (passed 16) also none) exponent (passed 17)
 
     y-itself : Small (units_of y) y
-    y-itself = itself y tracks-y.double tracks-y.is_finite_lem
+    y-itself = itself y tracks-y.double tracks-y.is_finite
 
     y-low : T (le (decimal "-24") y)
     unfolding above beneath of_bits fits
@@ -112,13 +112,13 @@ module _ (Tb : Bounds) (q : Part) where
     exp-normal = normal-of (exp 60 y) (number (exp 60 y)) exp-itself refl (lit≤ tt)
 
     pub sides-ratio : Sides (parts exponent-bounds) (exp 60 y) s.ratio
-    sides-ratio = sides (over (decimal "1e-11")) (over q.ratio) exponent-bounds (passed 18) s.e s.e-proper s.e-least s.e-most (exact_log_ratio X s.root) s.ratio s.is-ratio y tracks-y exp-normal (exp-fits 60 y)
+    sides-ratio = sides (over (decimal "1e-11")) (over q.ratio) exponent-bounds (passed 18) s.e s.e_proper s.e_least s.e_most (exact_log_ratio X s.root) s.ratio s.is_ratio y tracks-y exp-normal (exp-fits 60 y)
 
     pub tracks-ratio : Tracks ratio-bounds (exp 60 y) (of s.ratio)
     unfolding above beneath of_bits
     tracks-ratio =
         let none-under = (positive-units (exp 60 y) exp-normal.0 (exp-fits 60 y)).none-under in
-        tracks-exp (over (decimal "1e-11")) (over q.ratio) exponent-bounds (passed 18) s.e s.e-proper s.e-least s.e-most (exact_log_ratio X s.root) s.ratio s.is-ratio y tracks-y exp-normal (exp-fits 60 y)
+        tracks-exp (over (decimal "1e-11")) (over q.ratio) exponent-bounds (passed 18) s.e s.e_proper s.e_least s.e_most (exact_log_ratio X s.root) s.ratio s.is_ratio y tracks-y exp-normal (exp-fits 60 y)
         (low (over (exp 60 y)) (under (exp 60 y)) (over (decimal "1e-11")) none-under exp-itself.low)
         (high (over (exp 60 y)) (under (exp 60 y)) (over q.ratio) (under q.ratio) none-under (eqb→eq (under q.ratio) 0 (passed 10)) exp-itself.high)
       where

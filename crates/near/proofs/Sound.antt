@@ -16,7 +16,7 @@ use Rattle.near.proofs.Paths.{kelvin_and_back, T-tests, celsius-again, kelvins-b
 abbrev square : Term
 square = num "1.4" times (num "1" minus given 1 times num "0.062") times (num "287.0531" times (num "1" plus num "0.378" times given 1)) times given 0
 
-first-power : (c : Fraction) → c toThe 1 ≡ c
+first-power : (c : Fraction) → c to_the 1 ≡ c
 first-power c = ap₂ (λ (a b : ℕ). fraction a b) (pow-one c.over) (pow-one c.under)
   where
     fraction : ℕ → ℕ → Fraction

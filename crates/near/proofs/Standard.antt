@@ -72,16 +72,16 @@ module _ (lo hi a b : Float) where
     tracks-kelvin =
         let i = tracks-itself lo hi x (passed 0) (passed 1) (passed 2) (passed 3) x-range in
         let t = tracks (i also none) (given 0 minus num "273.15") (passed 10) in
-        let n = number_is x i.is_finite_lem fits-x in
-        let m = number_is (x ⊖ ice_point) t.is_finite_lem t.double in
+        let n = number_is x i.is_finite fits-x in
+        let m = number_is (x ⊖ ice_point) t.is_finite t.double in
         record {
           some = omega (arith, m.0);
-          is_finite_lem = i.is_finite_lem;
+          is_finite = i.is_finite;
           double = fits-x;
           low = i.low;
           high = i.high;
-          not_above_lem = sum-turned (under x) (over x) (under (x ⊖ ice_point)) (over (x ⊖ ice_point)) (number x).minus (number x).plus (number x).under (number (x ⊖ ice_point)).minus (number (x ⊖ ice_point)).plus (number (x ⊖ ice_point)).under 0 27315 100 shown.E n.0 n.2 n.1 m.2 m.1 t.not_below;
-          not_below = sum-turned (over x) (under x) (over (x ⊖ ice_point)) (under (x ⊖ ice_point)) (number x).plus (number x).minus (number x).under (number (x ⊖ ice_point)).plus (number (x ⊖ ice_point)).minus (number (x ⊖ ice_point)).under 27315 0 100 shown.E n.0 n.1 n.2 m.1 m.2 t.not_above_lem;
+          not_above = sum-turned (under x) (over x) (under (x ⊖ ice_point)) (over (x ⊖ ice_point)) (number x).minus (number x).plus (number x).under (number (x ⊖ ice_point)).minus (number (x ⊖ ice_point)).plus (number (x ⊖ ice_point)).under 0 27315 100 shown.E n.0 n.2 n.1 m.2 m.1 t.not_below;
+          not_below = sum-turned (over x) (under x) (over (x ⊖ ice_point)) (under (x ⊖ ice_point)) (number x).plus (number x).minus (number x).under (number (x ⊖ ice_point)).plus (number (x ⊖ ice_point)).minus (number (x ⊖ ice_point)).under 27315 0 100 shown.E n.0 n.1 n.2 m.1 m.2 t.not_above;
         }
 
 -- ---- hPa times 100: a double that tracks x / 100, turned round
@@ -112,16 +112,16 @@ module _ (x : Float) (fits-x : T (fits binary64 x)) (range : Between (decimal "5
   tracks-pascal =
       let i = tracks-itself (decimal "49999") (decimal "110001") x tt tt tt tt pascal-range in
       let t = tracks (i also none) (given 0 by num "100") tt in
-      let n = number_is x i.is_finite_lem fits-x in
-      let m = number_is (x ⊘ hundred) t.is_finite_lem t.double in
+      let n = number_is x i.is_finite fits-x in
+      let m = number_is (x ⊘ hundred) t.is_finite t.double in
       record {
         some = omega (arith, m.0);
-        is_finite_lem = i.is_finite_lem;
+        is_finite = i.is_finite;
         double = fits-x;
         low = i.low;
         high = i.high;
-        not_above_lem = product_turned (under x) (over x) (under (x ⊘ hundred)) (over (x ⊘ hundred)) (number x).minus (number x).plus (number x).under (number (x ⊘ hundred)).minus (number (x ⊘ hundred)).plus (number (x ⊘ hundred)).under _ _ hundredths.E (add (number (x ⊘ hundred)).plus (number (x ⊘ hundred)).minus) (add' (number (x ⊘ hundred)).plus (number (x ⊘ hundred)).minus) n.0 n.2 n.1 m.2 m.1 t.not_below;
-        not_below = product_turned (over x) (under x) (over (x ⊘ hundred)) (under (x ⊘ hundred)) (number x).plus (number x).minus (number x).under (number (x ⊘ hundred)).plus (number (x ⊘ hundred)).minus (number (x ⊘ hundred)).under _ _ hundredths.E (add' (number (x ⊘ hundred)).plus (number (x ⊘ hundred)).minus) (add (number (x ⊘ hundred)).plus (number (x ⊘ hundred)).minus) n.0 n.1 n.2 m.1 m.2 t.not_above_lem;
+        not_above = product_turned (under x) (over x) (under (x ⊘ hundred)) (over (x ⊘ hundred)) (number x).minus (number x).plus (number x).under (number (x ⊘ hundred)).minus (number (x ⊘ hundred)).plus (number (x ⊘ hundred)).under _ _ hundredths.E (add (number (x ⊘ hundred)).plus (number (x ⊘ hundred)).minus) (add' (number (x ⊘ hundred)).plus (number (x ⊘ hundred)).minus) n.0 n.2 n.1 m.2 m.1 t.not_below;
+        not_below = product_turned (over x) (under x) (over (x ⊘ hundred)) (under (x ⊘ hundred)) (number x).plus (number x).minus (number x).under (number (x ⊘ hundred)).plus (number (x ⊘ hundred)).minus (number (x ⊘ hundred)).under _ _ hundredths.E (add' (number (x ⊘ hundred)).plus (number (x ⊘ hundred)).minus) (add (number (x ⊘ hundred)).plus (number (x ⊘ hundred)).minus) n.0 n.1 n.2 m.1 m.2 t.not_above;
       }
     where
       add : (P Q : ℕ) → P * 0 + Q * 100 ≡ Q * 100

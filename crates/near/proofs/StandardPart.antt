@@ -90,7 +90,7 @@ module _ (lo hi : Float) (w : Window) where
     rounded = power 60 (exponent_of pressure_power) (lowest h ⊘ decimal "288.15")
 
     tracks-rounded : (p : Spec.PressureRatio (number h)) → Tracks power_bounds_lem rounded (of p.ratio)
-    tracks-rounded p = tracks-constant-power pressure_power w (test tests 12 passed) at-ends (lowest h ⊘ decimal "288.15") (Spec.base (number h)) tracks-ratio p.ratio p.is-ratio
+    tracks-rounded p = tracks-constant-power pressure_power w (test tests 12 passed) at-ends (lowest h ⊘ decimal "288.15") (Spec.base (number h)) tracks-ratio p.ratio p.is_ratio
 
     kelvins_are : (standard_air 60 h).temperature_k ≡ lowest h
     kelvins_are = temperature-is h h-kept H-kept below
@@ -106,7 +106,7 @@ module _ (lo hi : Float) (w : Window) where
           celsius-near = subst (λ (z : Float). IsNear 42 (z ⊖ ice_point) (Spec.exact_temperature (number h) ⊟ the "273.15")) (sym kelvins_are) (near_of 42 _ _ (leb→le ((of-altitude celsius).E * 2 ^ 42) N (test tests 9 passed)) tracks-t);
           pressure-near = λ p. subst (λ (z : Float). IsNear 31 z (Spec.exact_pressure p)) (sym pascals_are) (near_of 31 _ _ (leb→le ((of-power pascals).E * 2 ^ 31) N (test tests 14 passed)) (tracks (tracks-rounded p also none) pascals (test tests 13 passed)));
           hectopascals-near = λ p. subst (λ (z : Float). IsNear 37 (z ⊘ hundred) (Spec.exact_pressure p ÷ the "100")) (sym pascals_are) (near_of 37 _ _ (leb→le ((of-power hectopascals).E * 2 ^ 37) N (test tests 16 passed)) (tracks (tracks-rounded p also none) hectopascals (test tests 15 passed)));
-          ratio-exists = let r = power-exists pressure_power w (test tests 12 passed) (lowest h ⊘ decimal "288.15") (Spec.base (number h)) tracks-ratio in record { ratio = r.0; is-ratio = r.1 };
+          ratio-exists = let r = power-exists pressure_power w (test tests 12 passed) (lowest h ⊘ decimal "288.15") (Spec.base (number h)) tracks-ratio in record { ratio = r.0; is_ratio = r.1 };
         }
 
     pub ordinary : T (all ordinary-tests) → Ordinary h

@@ -1,5 +1,5 @@
 -- The lowest layer: its formulas, and what the standard air is at an altitude that lies in it. Assumes nothing.
-use Rattle.near.proofs.Kit.{◌≡◌, refl, ap, ◌∙◌, ℕ, ◌<◌, arith, T, Float, lt, of_bits, odd, of_fields, neg, mul, div, round, units, span, climb, size, decimal, ◌⊕◌, ◌⊖◌, ◌⊗◌, ◌⊘◌, under, Exponent, of_double, pressure_exponent, power, geopotential_height, standard_height, lowest_height, highest_height, layers, layer_at, layer_air, layer_pressure, standard_air, clamp_double, abs_double, Exact, ◌⊞◌, ◌⊠◌, ◌÷◌, the, Between, Bounds, Tracks, Term, given, ◌plus◌, ◌minus◌, ◌times◌, ◌by◌, tracks_same, taken, clamp_kept, Power, exponent_of}
+use Rattle.near.proofs.Kit.{◌≡◌, refl, ap, ◌∙◌, ℕ, ◌<◌, arith, T, Float, lt, of_bits, odd, of_fields, neg, mul, div, round, units, span, climb, size, decimal, ◌⊕◌, ◌⊖◌, ◌⊗◌, ◌⊘◌, Exponent, of_double, pressure_exponent, power, geopotential_height, standard_height, lowest_height, highest_height, layers, layer_at, layer_air, layer_pressure, standard_air, clamp_double, abs_double, Exact, ◌⊞◌, ◌⊠◌, ◌÷◌, the, Between, Bounds, Tracks, Term, given, ◌plus◌, ◌minus◌, ◌times◌, ◌by◌, tracks_same, taken, clamp_kept, Power, exponent_of}
 use Rattle.atmosphere.specs.declared.layers.StandardAir.{StandardAir}
 use Rattle.exact.proofs.Terms.{num}
 use Rattle.near.specs.Troposphere as Spec

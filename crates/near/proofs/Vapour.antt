@@ -12,10 +12,10 @@ below_one : {b : Bounds} (x : Float) (X : Exact) → Tracks b x X → b.H ≤ ov
 unfolding above beneath of_bits fits
 below_one {b} x X t most =
     not_taken one x (lt one x)
-    (λ (l : T (lt one x)). not_le-of-less one x l (le-of-sides x one (itself x t.double t.is_finite_lem) (itself one tt tt) (order (over x) (under x) (over one) b.H b.J most t.high)))
+    (λ (l : T (lt one x)). not_le-of-less one x l (le-of-sides x one (itself x t.double t.is_finite) (itself one tt tt) (order (over x) (under x) (over one) b.H b.J most t.high)))
   where
     itself : (z : Float) → T (fits binary64 z) → T (finite z) → Small (units_of z) z
-    itself z f k = record { is_finite_lem = k; double = f; size = le_refl (units_of z) }
+    itself z f k = record { is_finite = k; double = f; size = le_refl (units_of z) }
 
     order : (o u p H J : ℕ) → H ≤ p → o + J ≤ u + H → o + 0 ≤ p + u
     order o u p H J a c = omega (arith, a, c)
@@ -120,12 +120,12 @@ module _ (Tb tb pb : Bounds) (q : Part) where
     unfolding Spec.exact_mole_fraction
     tracks-x = subst (λ (X : Exact). Tracks vapour-bounds x (X ÷ pX)) (times-assoc _ (the "220640" ⊠ of s.ratio) (the "100")) (tracked fraction (passed 1))
 
-    is_fraction_lem : capped (mole_fraction_of (saturation_pressure 60 T'') t'' p'' (clamp_double h nought hundred)) ≡ x
-    is_fraction_lem =
+    is-fraction : capped (mole_fraction_of (saturation_pressure 60 T'') t'' p'' (clamp_double h nought hundred)) ≡ x
+    is-fraction =
         ap capped
         (ap (λ (z : Float). mole_fraction_of z t'' p'' (clamp_double h nought hundred)) (sym (is-pressure Tb q (passed 0) below T'' TX tracks-T s))
-        ∙ moist (decimal "220640" ⊗ r) (enhancement_factor p'' t'') (divisor p'') (positive-tested _ _ (tracked saturation (passed 5)) (passed 6)) (positive-tested _ _ (tracked factor (passed 3)) (passed 4)) (positive-tested _ _ (tracked by' (passed 7)) (passed 8)) h tracks-h.is_finite_lem h-range)
+        ∙ moist (decimal "220640" ⊗ r) (enhancement_factor p'' t'') (divisor p'') (positive-tested _ _ (tracked saturation (passed 5)) (passed 6)) (positive-tested _ _ (tracked factor (passed 3)) (passed 4)) (positive-tested _ _ (tracked by' (passed 7)) (passed 8)) h tracks-h.is_finite h-range)
         ∙ below_one x _ tracks-x (leb→le vapour-bounds.H (over one) (passed 2))
 
     pub tracks-vapour : Tracks vapour-bounds (capped (mole_fraction_of (saturation_pressure 60 T'') t'' p'' (clamp_double h nought hundred))) (Spec.exact_mole_fraction (number h ÷ the "100") pX tX (exact_saturation s ⊠ the "100"))
-    tracks-vapour = rw is_fraction_lem tracks-x
+    tracks-vapour = rw is-fraction tracks-x

@@ -25,7 +25,7 @@ density_ratio ρ = ρ ÷ sea_level
 -- a fraction that stands for (ρ / ρ_0) ^ (1 / n)
 pub record RaisedDensity (ρ : Exact) : Type 0 where
   pub power : Fraction
-  pub is-power : IsPower (positive_part (density_ratio ρ)) height_exponent power
+  pub is_power : IsPower (positive_part (density_ratio ρ)) height_exponent power
 
 -- in m
 abbrev pub matched_altitude : {ρ : Exact} → RaisedDensity ρ → Exact

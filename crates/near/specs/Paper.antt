@@ -13,8 +13,8 @@ units j negative n = record { plus = cond negative 0 n; minus = cond negative n 
 pub record IsPrinted (j k : ℕ) (text : List ℕ) (X : Exact) : Type 0 where
   pub negative : Bool
   pub n : ℕ
-  pub is-text : text ≡ count_text j negative n
-  pub not_above_lem : let d = units j negative n ⊟ X in d.plus * (2 * 10 ^ j * 2 ^ k) ≤ d.minus * (2 * 10 ^ j * 2 ^ k) + d.under * (2 ^ k + 2 * 10 ^ j)
+  pub is_text : text ≡ count_text j negative n
+  pub not_above : let d = units j negative n ⊟ X in d.plus * (2 * 10 ^ j * 2 ^ k) ≤ d.minus * (2 * 10 ^ j * 2 ^ k) + d.under * (2 ^ k + 2 * 10 ^ j)
   pub not_below : let d = units j negative n ⊟ X in d.minus * (2 * 10 ^ j * 2 ^ k) ≤ d.plus * (2 * 10 ^ j * 2 ^ k) + d.under * (2 ^ k + 2 * 10 ^ j)
 
 -- ---- the trim class: the count of the limits, each as its double, that are at or below the exact density

@@ -11,7 +11,7 @@ pressure_ratio p = p ÷ the "1013.25"
 -- a fraction that stands for (p / 1013.25) ^ 0.190284
 pub record RaisedPressure (p : Exact) : Type 0 where
   pub power : Fraction
-  pub is-power : IsPower (positive_part (pressure_ratio p)) (the "0.190284") power
+  pub is_power : IsPower (positive_part (pressure_ratio p)) (the "0.190284") power
 
 -- in m
 abbrev pub exact_nws_altitude : {p : Exact} → RaisedPressure p → Exact

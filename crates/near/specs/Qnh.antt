@@ -20,9 +20,9 @@ reduced_ratio h s = the "1" ⊞ the "-0.0065" ⊠ geopotential h ÷ the "288.15"
 -- fractions that stand for the two powers, (P0 / QNH) ^ n and (1 + (L H / T0) (P0 / QNH) ^ n) ^ (1 / n)
 pub record Reduction (qnh h : Exact) : Type 0 where
   pub inner : Fraction
-  pub is-inner : IsPower (positive_part (setting qnh)) setting_exponent inner
+  pub is_inner : IsPower (positive_part (setting qnh)) setting_exponent inner
   pub outer : Fraction
-  pub is-outer : IsPower (positive_part (reduced_ratio h inner)) exponent outer
+  pub is_outer : IsPower (positive_part (reduced_ratio h inner)) exponent outer
 
 -- station = QNH (1 + (L H / T0) (P0 / QNH) ^ n) ^ (1 / n), in hPa
 abbrev pub station_hpa : {qnh h : Exact} → Reduction qnh h → Exact

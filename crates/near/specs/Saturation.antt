@@ -16,18 +16,18 @@ reduced T = the "1" ⊟ T ÷ the "647.096"
 unfoldable pub exact_log_ratio : Exact → Fraction → Exact
 exact_log_ratio T k =
     the "647.096" ÷ T
-    ⊠ (the "-7.85951783" ⊠ reduced T ⊞ the "1.84408259" ⊠ of (k toThe 3) ⊞ the "-11.7866497" ⊠ of (k toThe 6) ⊞ the "22.6807411" ⊠ of (k toThe 7) ⊞ the "-15.9618719" ⊠ of (k toThe 8) ⊞ the "1.80122502" ⊠ of (k toThe 15))
+    ⊠ (the "-7.85951783" ⊠ reduced T ⊞ the "1.84408259" ⊠ of (k to_the 3) ⊞ the "-11.7866497" ⊠ of (k to_the 6) ⊞ the "22.6807411" ⊠ of (k to_the 7) ⊞ the "-15.9618719" ⊠ of (k to_the 8) ⊞ the "1.80122502" ⊠ of (k to_the 15))
 
 -- p / p_c at T, with the fractions that stand for √τ, e and the power of e
 pub record Saturation (T : Exact) : Type 0 where
   pub root : Fraction
-  pub is-root : IsRoot root (reduced T)
+  pub is_root : IsRoot root (reduced T)
   pub e : Fraction
-  pub e-proper : 0 < e.under
-  pub e-least : e_below isAtMost e
-  pub e-most : e isAtMost e_above
+  pub e_proper : 0 < e.under
+  pub e_least : e_below is_at_most e
+  pub e_most : e is_at_most e_above
   pub ratio : Fraction
-  pub is-ratio : IsPower e (exact_log_ratio T root) ratio
+  pub is_ratio : IsPower e (exact_log_ratio T root) ratio
 
 -- p in hPa, with p_c = 22.064 MPa
 abbrev pub exact_saturation : {T : Exact} → Saturation T → Exact

@@ -24,7 +24,7 @@ base h = the "1" ⊞ the "-0.0065" ÷ the "288.15" ⊠ (geopotential h ⊟ the "
 -- a fraction that stands for the power
 pub record PressureRatio (h : Exact) : Type 0 where
   pub ratio : Fraction
-  pub is-ratio : IsPower (positive_part (base h)) exponent ratio
+  pub is_ratio : IsPower (positive_part (base h)) exponent ratio
 
 -- p = p_b (1 + β / T_b (H - H_b)) ^ (-g₀ / (β R)), in Pa
 abbrev pub exact_pressure : {h : Exact} → PressureRatio h → Exact

@@ -15,12 +15,9 @@ use Rattle.notes.specs.declared.given.Given.{Given}
 use Rattle.notes.specs.Words.{Note, note, figured}
 
 -- ---- humidity-fraction
-abbrev pub is_fraction : Given → Bool
-is_fraction g = g.humidity && lt nought g.humidity_percent && le g.humidity_percent one
-
 unfoldable pub fraction : Given → Note
 fraction g =
-    note (is_fraction g)
+    note (g.humidity && lt nought g.humidity_percent && le g.humidity_percent one)
     (figured "note: humidity " 3 g.humidity_percent " percent is nearly dry air:"
     ++ figured " type humidity=" 3 (hundred ⊗ g.humidity_percent) " if it was a fraction\n")
 
@@ -33,12 +30,9 @@ limit_of class = get_or class_densities (class % 6) nan
 unfoldable pub are_alike : Float → Float → Bool
 are_alike x y = same (in_sixteen (decimal_text 4 x)).bytes (in_sixteen (decimal_text 4 y)).bytes
 
-abbrev pub is_at_limit : Float → ℕ → Bool
-is_at_limit d class = ltb class 6 && are_alike d (limit_of class)
-
 abbrev pub at_limit_of : Float → ℕ → Note
 at_limit_of d class =
-    note (is_at_limit d class)
+    note (ltb class 6 && are_alike d (limit_of class))
     (figured "note: the density is below " 4 (limit_of class) " kg/m3 by less than four decimals show: its class is " ++ number_text class ++ ascii "\n")
 
 unfoldable pub at_limit : Float → Note

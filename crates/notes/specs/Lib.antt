@@ -6,5 +6,4 @@ pub mod Pressures
 pub mod Ranges
 pub mod Doubts
 pub mod Notes
-pub mod Held
 pub mod Laws

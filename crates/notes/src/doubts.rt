@@ -3,7 +3,7 @@
 ghost use Rattle.std.specs.Prelude.{◌≡◌};
 ghost use Rattle.pages.specs.Pages.{Appended};
 ghost use Rattle.notes.specs.Words.{when, printed};
-ghost use Rattle.notes.specs.Doubts.{limit_of, are_alike, is_fraction, fraction, is_at_limit, at_limit_of, at_limit, doubt_notes};
+ghost use Rattle.notes.specs.Doubts.{limit_of, are_alike, fraction, at_limit_of, at_limit, doubt_notes};
 
 use crate::given::Given;
 use crate::words::{put_figured, put_figured_if, put_if};
@@ -30,20 +30,7 @@ fn are_alike(x: f64, y: f64) -> bool
     let b = decimal_text(y, 4);
     let first = a.bytes;
     let second = b.bytes;
-    check::same(&first, &second)
-}
-
-pub(crate) fn is_fraction(given: Given) -> bool
-    ensures { result ≡ is_fraction given }
-{
-    let percent = given.humidity_percent;
-    given.humidity & (percent > 0.0) & (percent <= 1.0)
-}
-
-pub(crate) fn is_at_limit(density_kg_m3: f64, class: u8) -> bool
-    ensures { result ≡ is_at_limit density_kg_m3 class }
-{
-    (class < 6) & are_alike(density_kg_m3, limit_of(class))
+    pages::scan::same(&first, &second)
 }
 
 // Each puts notes on the page from `at` on, where they hold, and answers the position after them.
@@ -51,7 +38,7 @@ fn put_fraction(page: &mut [u8], at: usize, given: Given) -> usize
     ensures { Appended page.old at (when (fraction given).holds (fraction given).line) page.new result }
 {
     let percent = given.humidity_percent;
-    if is_fraction(given) {
+    if given.humidity & (percent > 0.0) & (percent <= 1.0) {
         let read = put_figured(
             page,
             at,
@@ -75,12 +62,13 @@ fn put_fraction(page: &mut [u8], at: usize, given: Given) -> usize
 fn put_limit(page: &mut [u8], at: usize, density_kg_m3: f64, class: u8) -> usize
     ensures { Appended page.old at (when (at_limit_of density_kg_m3 class).holds (at_limit_of density_kg_m3 class).line) page.new result }
 {
-    if is_at_limit(density_kg_m3, class) {
+    let limit = limit_of(class);
+    if (class < 6) & are_alike(density_kg_m3, limit) {
         let below = put_figured(
             page,
             at,
             b"note: the density is below ",
-            limit_of(class),
+            limit,
             4,
             b" kg/m3 by less than four decimals show: its class is ",
         );

@@ -8,7 +8,7 @@ use fields::fields::{
 use record::entries::{Readings, entry_of, is_present, value_or_zero};
 
 // Whether each reading is given, and its value, 0 where it is not.
-#[derive(Drop)]
+#[derive(Clone, Copy)]
 pub struct Given {
     pub altitude: bool,
     pub altitude_m: f64,

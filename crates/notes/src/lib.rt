@@ -1,7 +1,8 @@
 // The notes of a report: what was used in place of what was given, and what can hardly have been meant.
+#![tactic(auto)]
+
 mod doubts;
 mod given;
-pub mod held;
 mod pressures;
 mod ranges;
 mod used;

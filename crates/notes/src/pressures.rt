@@ -11,7 +11,7 @@ use atmosphere::plausibility::{StationPressurePlausibility, station_pressure_pla
 use atmosphere::resolvers::reduce_qnh_to_station_pressure;
 use refusal::judge::Figures;
 
-pub(crate) fn beside(pressure_hpa: f64, altitude_m: f64) -> StationPressurePlausibility
+fn beside(pressure_hpa: f64, altitude_m: f64) -> StationPressurePlausibility
     ensures { result ≡ beside pressure_hpa altitude_m }
 {
     station_pressure_plausibility(100.0 * pressure_hpa, altitude_m)

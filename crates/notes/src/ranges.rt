@@ -21,13 +21,13 @@ fn is_compared_altitude(altitude_m: f64) -> bool
     (-500.0 <= altitude_m) & (altitude_m <= 5000.0)
 }
 
-pub(crate) fn is_outside_temperatures(temperature_c: f64) -> bool
+fn is_outside_temperatures(temperature_c: f64) -> bool
     ensures { result ≡ is_outside_temperatures temperature_c }
 {
     (temperature_c < -40.0) | (temperature_c > 50.0)
 }
 
-pub(crate) fn is_outside_altitudes(altitude_m: f64) -> bool
+fn is_outside_altitudes(altitude_m: f64) -> bool
     ensures { result ≡ is_outside_altitudes altitude_m }
 {
     (altitude_m < -500.0) | (altitude_m > 5000.0)

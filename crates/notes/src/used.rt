@@ -48,7 +48,7 @@ fn is_far(altitude_m: f64) -> bool
     abs(altitude_m) > 1.0
 }
 
-pub(crate) fn is_temperature_default(given: Given, altitude_m: f64) -> bool
+fn is_temperature_default(given: Given, altitude_m: f64) -> bool
     ensures { result ≡ is_temperature_default given altitude_m }
 {
     !given.density_altitude
@@ -57,7 +57,7 @@ pub(crate) fn is_temperature_default(given: Given, altitude_m: f64) -> bool
         & is_far(altitude_m)
 }
 
-pub(crate) fn is_pressure_default(given: Given, altitude_m: f64) -> bool
+fn is_pressure_default(given: Given, altitude_m: f64) -> bool
     ensures { result ≡ is_pressure_default given altitude_m }
 {
     !given.density_altitude

@@ -78,11 +78,11 @@ module _ (page : List ℕ) (at : ℕ) (more : List ℕ) (h : at ≤ length page)
           sets_out (sets page at part) (at + length part) (drop room more) (omega (arith, length-sets page at part, length-take room more))
 
   -- the page's rest after the copy begins with the part
-  pub put-part : {source rest last : List ℕ} → source ≡ take (length page - at) more → rest ≡ drop at page
+  pub put_part : {source rest last : List ℕ} → source ≡ take (length page - at) more → rest ≡ drop at page
       → last ≡ take (length source) source ++ drop (length source) rest
       → Appended page at more (put_mid at (length page - at) page last) (at + length source)
   unfolding placed after room part
-  put-part {source} {rest} {last} e f l =
+  put_part {source} {rest} {last} e f l =
       let short : length part ≤ room = omega (arith, length-take room more) in
       let begins : last ≡ part ++ drop (at + length part) page =
       l ∙ ap₂ (λ (s d : List ℕ). take (length s) s ++ drop (length s) d) e f ∙ ap₂ (λ (s d : List ℕ). s ++ d) (take-length part) (drop-drop (length part) at page) in

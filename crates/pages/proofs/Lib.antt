@@ -3,3 +3,4 @@ pub mod Growing
 pub mod Short
 pub mod Filled
 pub mod Same
+pub mod Sought

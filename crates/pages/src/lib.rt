@@ -1,5 +1,8 @@
 // Pieces of a text on a page, one after the other. A page that is full takes no more.
+#![tactic(auto)]
+
 pub mod digits;
+pub mod scan;
 
 ghost use Rattle.std.specs.Prelude.{◌≡◌, ◌%◌, take};
 ghost use Rattle.pages.specs.Characters.{hex_digit, hex, number_text, refusal_line};
@@ -24,7 +27,7 @@ pub fn put(page: &mut [u8], at: usize, piece: &[u8]) -> usize
         return at;
     }
     let fitting = fitting(piece, page.len() - at);
-    bytes::copy(fitting, &mut page[at..]);
+    scan::copy(fitting, &mut page[at..]);
     at + fitting.len()
 }
 

@@ -1,4 +1,6 @@
 // Prints the air of a park, or its setting sheet, for the readings that its words give.
-fn main() {
-    park_reply::reply();
+#![tactic(auto)]
+
+fn main(rt: HostRuntime) {
+    park_reply::reply(&rt);
 }

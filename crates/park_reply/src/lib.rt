@@ -1,16 +1,15 @@
 // What the program `park` does, for it and for the programs that try it on other words. No contract can
 // say what is read or written, so this is all that stands outside of one.
-mod table_run;
+#![tactic(auto)]
 
 ghost use Rattle.std.specs.Prelude.{◌≡◌, length};
-ghost use Rattle.io.specs.Counts.{IsPrefixLen};
+ghost use Rattle.park_reply.specs.Counts.{IsPrefixLen};
 ghost use Rattle.pages.specs.Pages.{Holds};
 ghost use Rattle.park_text.specs.Words.{arguments};
 ghost use Rattle.park_text.specs.ParkText.{too_long_text, park_text};
 
-use libc::STDOUT_FILENO;
-use park_text::typed_readings::{nth_word, word_start};
 use park_text::{put_park_text, put_too_long};
+use std::env::{Env, FillError};
 
 // The bytes of all words together, each with a newline after it.
 const ROOM: usize = 4096;
@@ -18,25 +17,28 @@ const ROOM: usize = 4096;
 // No text that is printed has more bytes.
 const PAGE: usize = 4096;
 
+// Whether the program was started with so many words after its own name.
+fn has_word<E: Env>(env: &E, i: usize) -> bool {
+    !matches!(env.arg(i, &mut []), Err(FillError::NotPresent))
+}
+
 // The words that the program was started with, each ended by a newline; how many bytes that is, and 0 where
 // they are too long: what would be left of them might be other readings. An argument with a newline in it is
 // as many words.
-fn gather(words: &mut [u8]) -> usize
+fn gather<E: Env>(env: &E, words: &mut [u8]) -> usize
     ensures { IsPrefixLen result words.new }
 {
-    let count = os::arg_count();
     let mut at = 0;
     let mut i = 1;
-    while i < count {
+    while has_word(env, i) {
         if at >= words.len() {
-            return io::count(0, words);
+            return 0;
         }
-        let n = os::arg(i, &mut words[at..]);
-        if os::errno() != 0 {
-            return io::count(0, words);
-        }
+        let Ok(n) = env.arg(i, &mut words[at..]) else {
+            return 0;
+        };
         if n >= words.len() - at {
-            return io::count(0, words);
+            return 0;
         }
         words[at + n] = b'\n';
         at = at + n + 1;
@@ -60,31 +62,17 @@ fn put_cut(page: &mut [u8]) -> usize
     put_too_long(page, 0)
 }
 
-// Writes the first bytes of a page; whether it could.
-fn write_text(fd: i32, page: &[u8], n: usize) -> bool {
-    if page.len() < n {
-        return false;
-    }
-    io::write_all(fd, &page[..n])
-}
-
-// Writes what is printed for the words, or the table of figures where the first is `table`. Each has a byte at least, its newline, so that some words of no bytes
-// are too long.
-pub fn reply() {
+// Writes what is printed for the words. Each has a byte at least, its newline, so that some words of no bytes
+// are too long. Where the output fails, nothing is said.
+pub fn reply<R: Env + Print>(rt: &R) {
     let mut words = [0u8; ROOM];
-    let n = gather(&mut words);
+    let n = gather(rt, &mut words);
     let mut page = [0u8; PAGE];
-    if n == 0 && os::arg_count() > 1 {
+    if n == 0 && has_word(rt, 1) {
         let len = put_cut(&mut page);
-        io::write_all(STDOUT_FILENO, &page[..len]);
+        let _ = rt.write_all(&page[..len]);
         return;
     }
-    let text = &words[..n];
-    if check::same(nth_word(text, 0), b"table") {
-        let rest = word_start(text, 1);
-        table_run::run(&text[rest..]);
-        return;
-    }
-    let len = put_text(&mut page, text);
-    io::write_all(STDOUT_FILENO, &page[..len]);
+    let len = put_text(&mut page, &words[..n]);
+    let _ = rt.write_all(&page[..len]);
 }

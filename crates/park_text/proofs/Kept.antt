@@ -9,7 +9,7 @@ use Rattle.thousandths.proofs.Words.{twos_complement_lem}
 use Rattle.thousandths.proofs.Laws.{count_of-double, double_of-count}
 use Rattle.decimals.specs.declared.typed.Typed.{Typed}
 use Rattle.decimals.specs.declared.typed.Typed.TheVariants as typed-as
-use Rattle.decimals.specs.Typed.{digits_in, scaled_to, answer, in_counts, with_decimals, after_whole, after_sign, typed_by, typed}
+use Rattle.decimals.specs.Typed.{digits_in, scaled_to, answer, in_counts, with_decimals, after_whole, after_sign, typed}
 use Rattle.fields.specs.declared.fields.Value.TheVariants as value
 use Rattle.fields.specs.Fields.{double_of}
 use Rattle.writer.specs.Laws.{IsHeld}
@@ -65,17 +65,17 @@ module _ (n : ℤ) where
       by-test (eqb (length d) 0) no_number
       (by-test (eqb (digits_in d) (length d)) (by-test (leb (length d) k) (in_counts_lem negative (scaled_to k whole d)) too_many) no_number)
 
-  after_whole_lem : (k : ℕ) (negative : Bool) (whole d : List ℕ) → Ranged (after_whole 46 k negative whole d)
+  after_whole_lem : (k : ℕ) (negative : Bool) (whole d : List ℕ) → Ranged (after_whole k negative whole d)
   unfolding after_whole
   after_whole_lem k negative whole [] = in_counts_lem negative (scaled_to k whole [])
   after_whole_lem k negative whole (b ∷ d) = by-test (eqb b 46) (with_decimals_lem k negative whole d) no_number
 
-  after_sign_lem : (k : ℕ) (negative : Bool) (t : List ℕ) → Ranged (after_sign 46 k negative t)
+  after_sign_lem : (k : ℕ) (negative : Bool) (t : List ℕ) → Ranged (after_sign k negative t)
   unfolding after_sign
   after_sign_lem k negative t = by-test (eqb (digits_in t) 0) no_number (after_whole_lem k negative (take (digits_in t) t) (drop (digits_in t) t))
 
   in_range_lem : (k : ℕ) (d : List ℕ) → Ranged (typed k d)
-  unfolding typed_by
+  unfolding typed
   in_range_lem k [] = no_number
   in_range_lem k (b ∷ s) = by-test (eqb b 45) (after_sign_lem k true s) (by-test (eqb b 43) (after_sign_lem k false s) (after_sign_lem k false (b ∷ s)))
 

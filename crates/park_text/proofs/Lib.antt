@@ -1,7 +1,7 @@
 -- What is printed for words, and how long it is.
 pub mod Short
 pub mod Said
-mod AtPlace
+pub mod Chosen
 pub mod Numerators
 pub mod OneWord
 pub mod Split

@@ -1,6 +1,6 @@
 -- How long the lines are at most. Assumes nothing.
 use Rattle.arithmetic.proofs.Kit.{◌||◌, List, [], ◌∷◌, ◌++◌, ℕ, zero, suc, ◌+◌, ◌*◌, ◌≤◌, zero-le, arith, ltb, eqb, lit≤, Float, length, get_or, take, drop, length-append, length-take, length-drop}
-use Rattle.bytes.specs.Bytes.{index_of}
+use Rattle.pages.specs.Scan.{index_of}
 use Rattle.decimals.proofs.Places.{shown-short}
 use Rattle.arithmetic.specs.Ascii.{ascii}
 use Rattle.fields.specs.Fields.{temperature, humidity}

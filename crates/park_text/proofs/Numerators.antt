@@ -1,5 +1,5 @@
 -- The numerators of readings are whole numbers below 2 ^ 53 in size, so that they are doubles exactly. Assumes nothing.
-use Rattle.arithmetic.proofs.Kit.{◌≡◌, refl, Bool, true, false, cond, ℕ, zero, suc, ◌+◌, ◌-◌, ◌*◌, ◌^◌, ◌≤◌, ◌<◌, zero-le, le_trans, lt_of_le_of_lt, mul-le-mul, arith, ltb, lit<, lit≤, ℤ, pos, negsuc}
+use Rattle.arithmetic.proofs.Kit.{Bool, true, false, cond, ℕ, zero, suc, ◌-◌, ◌*◌, ◌^◌, ◌≤◌, ◌<◌, zero-le, le_trans, lt_of_le_of_lt, mul-le-mul, arith, ltb, lit<, lit≤, ℤ, pos, negsuc}
 use lib.IntN.{neg_ℤ, ◌*ℤ◌, ◌-ℤ◌}
 use lib.Signed.{mag}
 use Rattle.park_text.specs.declared.units.Unit.{Unit}

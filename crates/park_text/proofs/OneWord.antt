@@ -1,9 +1,9 @@
 -- What a word says and what is read of it: a name, `=`, a number and a unit are read as the reading of the number's count, and nothing else is.
 -- Assumes nothing.
-use Rattle.arithmetic.proofs.Kit.{◌≡◌, refl, sym, ap, ap₂, ◌∙◌, Bool, true, false, cond, List, [], ◌∷◌, ◌++◌, ℕ, zero, suc, ◌+◌, ◌≤◌, ◌<◌, add-one, arith, ltb-true, lt-ltb, le-ltb, eqb-true, ltb, eqb, ℤ, Float, length, get_or, take, drop, length-append, take-append-drop, length-take-le}
+use Rattle.arithmetic.proofs.Kit.{◌≡◌, refl, sym, ap, ap₂, ◌∙◌, Bool, true, false, cond, List, [], ◌∷◌, ◌++◌, ℕ, zero, suc, ◌+◌, ◌≤◌, ◌<◌, add-one, arith, ltb-true, lt-ltb, le-ltb, eqb-true, ltb, eqb, ℤ, Float, length, get_or, take, drop, take-append-drop, length-take-le}
 use lib.Seq.{split_at, take-append_seam, drop-append-add, drop_at}
 use Rattle.arithmetic.specs.Ascii.{ascii}
-use Rattle.bytes.specs.Bytes.{index_of, index_after}
+use Rattle.pages.specs.Scan.{index_of, index_after}
 use Rattle.pages.specs.Characters.{same}
 use Rattle.pages.proofs.Same.{is_same}
 use Rattle.decimals.specs.declared.typed.Typed.{Typed}
@@ -146,9 +146,9 @@ module _ (m : ℕ) (d w : List ℕ) {k : ℕ} {x : Float} {written point : Bool}
 
 -- behind the tests that come before the number's
 module _ {k : ℕ} {x : Float} {written point : Bool} where
-  past-test : (b : Bool) (p : Problem) {v : Word} → cond b (Wrong p) v ≡ Reading k x written point → v ≡ Reading k x written point
-  past-test true p h = let z : ◌≡◌ {A = ℕ} 0 1 = cc in absurd (omega arith)
-  past-test false p h = h
+  past_test : (b : Bool) (p : Problem) {v : Word} → cond b (Wrong p) v ≡ Reading k x written point → v ≡ Reading k x written point
+  past_test true p h = let z : ◌≡◌ {A = ℕ} 0 1 = cc in absurd (omega arith)
+  past_test false p h = h
 
   past_name : (b : Bool) (p : Problem) {v : Word} → cond b v (Wrong p) ≡ Reading k x written point → (b ≡ true) × (v ≡ Reading k x written point)
   past_name true p h = (refl, h)
@@ -165,7 +165,7 @@ spoken-named w {m} {x} {written} {point} is = go (has 61 w) refl is
         let n : ℕ = number_length v in
         let within : index_of 61 w < length w = ltb-true (index_of 61 w) (length w) h in
         let by_name = past_name (ltb k meanings) UnknownWord e in
-        let number = past-test (is_minus_sign v) MinusSign (past-test (has 44 v) Comma (past-test (has 32 v) Blank by_name.1)) in
+        let number = past_test (is_minus_sign v) MinusSign (past_test (has 44 v) Comma (past_test (has 32 v) Blank by_name.1)) in
         let value = valued k (take n v) (drop n v) number in
         let named-k : k < meanings = ltb-true k meanings by_name.0 in
         record {
@@ -186,9 +186,9 @@ spoken-named w {m} {x} {written} {point} is = go (has 61 w) refl is
           reading = value.reading;
         }
     go false h e =
-        let none = past-test (ltb (meaning_named w) meanings) (NameAlone (meaning_named w)) e in
+        let none = past_test (ltb (meaning_named w) meanings) (NameAlone (meaning_named w)) e in
         let z : ◌≡◌ {A = ℕ} 0 1 = cc in absurd (omega arith)
 
 pub spoken : (w : List ℕ) {m : ℕ} {x : Float} {written point : Bool} → read_word w ≡ Reading m x written point → Spoken w m x
 unfolding read_word
-spoken w is = spoken-named w (past-test (same w (ascii "record")) (NameAlone meanings) (past-test (is_record w) RecordBeside is))
+spoken w is = spoken-named w (past_test (same w (ascii "record")) (NameAlone meanings) (past_test (is_record w) RecordBeside is))

@@ -1,5 +1,5 @@
 -- What is printed for words, by the code's answer on them and by the first word. Assumes nothing.
-use Rattle.arithmetic.proofs.Kit.{◌≡◌, refl, sym, ap, ◌∙◌, Bool, true, false, cond, List, [], ◌∷◌, ℕ, ◌<◌, arith, length, get_or, drop}
+use Rattle.arithmetic.proofs.Kit.{◌≡◌, refl, sym, ap, ◌∙◌, Bool, cond, List, [], ◌∷◌, ℕ, ◌<◌, arith, length, get_or, drop}
 use Rattle.record.specs.declared.entries.Readings.{Readings}
 use Rattle.arithmetic.specs.Ascii.{ascii}
 use Rattle.park_text.specs.declared.typed_word.Problem.{Problem}

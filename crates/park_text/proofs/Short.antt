@@ -1,10 +1,10 @@
 -- No text that is printed has more than 4,096 bytes. Assumes nothing.
-use Rattle.arithmetic.proofs.Kit.{◌≡◌, refl, Bool, true, false, cond, List, [], ◌∷◌, ◌++◌, ℕ, ◌*◌, ◌/◌, ◌≤◌, min, zero-le, arith, lit≤, ltb, Float, length, get_or, drop, length-append}
+use Rattle.arithmetic.proofs.Kit.{◌≡◌, refl, List, [], ◌∷◌, ℕ, ◌*◌, ◌/◌, ◌≤◌, min, zero-le, arith, lit≤, ltb, length, get_or, drop, length-append}
 use Rattle.record.specs.declared.entries.Readings.{Readings}
 use Rattle.arithmetic.specs.Ascii.{ascii}
 use Rattle.pages.specs.Characters.{same}
 use Rattle.pages.proofs.Filled.{length-up_to}
-use Rattle.pages.proofs.Short.{Within, whole, both, either}
+use Rattle.pages.proofs.Short.{either}
 use Rattle.report.specs.declared.Origin.TheVariants.{Words}
 use Rattle.report.specs.Report.{report_text}
 use Rattle.report.proofs.Short.{report_short, record_text-short}

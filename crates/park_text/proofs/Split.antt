@@ -1,6 +1,6 @@
 -- The words of a text one after the other: the first one ends at the first newline, and the others are those of what follows it. Assumes nothing.
 use Rattle.arithmetic.proofs.Kit.{◌≡◌, refl, sym, ap, ap₂, ◌∙◌, Bool, true, false, not, List, [], ◌∷◌, ℕ, suc, ◌+◌, ◌-◌, ◌≤◌, ◌<◌, min, arith, T, eqb, leb, leb→le, nleb→lt, length, take, drop, length-drop, drop_of_length-le, drop-drop}
-use Rattle.bytes.specs.Bytes.{index_of, index_after, slice}
+use Rattle.pages.specs.Scan.{index_of, index_after, slice}
 use Rattle.questions.proofs.Found.{found}
 use Rattle.park_text.specs.Words.{before, arguments}
 

@@ -1,7 +1,7 @@
 -- Lines that the program `park` prints: what is wrong with a word and what is expected, and the reading of a word in a unit.
 -- Definitions only.
 use Rattle.std.specs.Prelude.{ℕ, ◌+◌, ◌||◌, cond, List, [], ◌∷◌, ◌++◌, eqb, ltb, Float, get_or, take, drop}
-use Rattle.bytes.specs.Bytes.{index_of}
+use Rattle.pages.specs.Scan.{index_of}
 use Rattle.decimals.specs.Shown.{shown}
 use Rattle.arithmetic.specs.Ascii.{ascii}
 use Rattle.pages.specs.Characters.{hex}

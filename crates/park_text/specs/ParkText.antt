@@ -20,7 +20,6 @@ unfoldable pub usage_text : List ℕ
 usage_text =
     ascii "usage: park altitude=1586 temperature=24 qnh=1019.3 humidity=32\n" ++
     ascii "       park sheet altitude=1586 pressure=841.9 humidity=32\n" ++
-    ascii "       park table altitude=1586 <readings.csv >figures.csv\n" ++
     ascii "       park record=11000400183350\n" ++
     ascii "words in any order, each a number with up to three decimals and, if you like,\n" ++
     ascii "its unit, the first of these where none is written:\n" ++
@@ -34,7 +33,6 @@ usage_text =
     ascii "  density-altitude=  m, ft; in place of altitude and pressure\n" ++
     ascii "a temperature from 14.9 to 15.1 C counts as the standard one; a note says so\n" ++
     ascii "sheet prints a page of densities to pin up, for one of the three pressures\n" ++
-    ascii "table reads a CSV whose columns have these names, as time,temperature [F],qnh\n" ++
     ascii "record= prints the report of a record that was kept, in hex digits\n"
 
 -- ---- a command line that is not read

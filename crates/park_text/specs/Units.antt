@@ -1,27 +1,28 @@
 -- The units of typed numbers: their names by the meaning of the reading, how many decimals a number in them has, and the reading of a number's count, the
 -- double nearest to its exact value. Definitions only.
-use Rattle.std.specs.Prelude.{ℕ, Bool, ◌||◌, cond, List, [], ◌∷◌, eqb, Float, ℤ, pos, ◌*ℤ◌, ◌-ℤ◌, length, get_or}
+use Rattle.std.specs.Prelude.{ℕ, Bool, ◌||◌, cond, List, eqb, Float, ℤ, pos, ◌*ℤ◌, ◌-ℤ◌, length}
 use Rattle.arithmetic.specs.Ascii.{ascii}
 use Rattle.arithmetic.specs.Nearest.{nearest_ratio}
 use Rattle.fields.specs.Fields.{altitude, temperature, humidity, density_altitude}
-use Rattle.questions.specs.Words.{line_parts, place_in}
+use Rattle.pages.specs.Characters.{same}
 use Rattle.park_text.specs.declared.units.Unit.{Unit}
 use Rattle.park_text.specs.declared.units.Unit.TheVariants.{Plain, Foot, Fahrenheit, Kelvin, Kilopascal, InchOfMercury}
 use Rattle.park_text.specs.declared.units.Named.{Named}
 use Rattle.park_text.specs.declared.units.Named.TheVariants.{Known, Unknown}
 
--- ---- names, and the unit at the place of each
+-- ---- names
 abbrev pub length_unit : List ℕ → Named
-length_unit w = get_or (Known Plain ∷ Known Foot ∷ []) (place_in (line_parts (ascii "m ft")) w) Unknown
+length_unit w = cond (same w (ascii "m")) (Known Plain) (cond (same w (ascii "ft")) (Known Foot) Unknown)
 
 abbrev pub temperature_unit : List ℕ → Named
-temperature_unit w = get_or (Known Plain ∷ Known Fahrenheit ∷ Known Kelvin ∷ []) (place_in (line_parts (ascii "C F K")) w) Unknown
+temperature_unit w = cond (same w (ascii "C")) (Known Plain) (cond (same w (ascii "F")) (Known Fahrenheit) (cond (same w (ascii "K")) (Known Kelvin) Unknown))
 
 abbrev pub pressure_unit : List ℕ → Named
-pressure_unit w = get_or (Known Plain ∷ Known Kilopascal ∷ Known InchOfMercury ∷ []) (place_in (line_parts (ascii "hPa kPa inHg")) w) Unknown
+pressure_unit w =
+    cond (same w (ascii "hPa")) (Known Plain) (cond (same w (ascii "kPa")) (Known Kilopascal) (cond (same w (ascii "inHg")) (Known InchOfMercury) Unknown))
 
 abbrev pub humidity_unit : List ℕ → Named
-humidity_unit w = get_or (Known Plain ∷ Known Plain ∷ []) (place_in (line_parts (ascii "percent %")) w) Unknown
+humidity_unit w = cond (same w (ascii "percent")) (Known Plain) (cond (same w (ascii "%")) (Known Plain) Unknown)
 
 -- by meaning, for a value for each of length, temperature, humidity and pressure
 abbrev pub is_length : ℕ → Bool

@@ -1,6 +1,6 @@
 -- What one word of a command line says, as `altitude=1586` or `altitude=5203ft`. A word is the list of its bytes. Definitions only.
 use Rattle.std.specs.Prelude.{ℕ, suc, ◌+◌, ◌<◌, ◌≡◌, Bool, ◌&&◌, ◌||◌, cond, List, [], ◌∷◌, ◌++◌, eqb, leb, ltb, ℤ, nat_abs, length, get_or, take, drop}
-use Rattle.bytes.specs.Bytes.{index_of}
+use Rattle.pages.specs.Scan.{index_of}
 use Rattle.arithmetic.specs.Ascii.{ascii}
 use Rattle.pages.specs.Characters.{same}
 use Rattle.decimals.specs.declared.typed.Typed.{Typed}

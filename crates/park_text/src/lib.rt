@@ -1,9 +1,11 @@
 // What the program `park` prints for its words. Each function that puts a text puts it on the page from
 // `at` on, as far as the page reaches, and answers the position after it.
-pub mod park_lines;
-pub mod typed_readings;
-pub mod typed_word;
-pub mod units;
+#![tactic(auto)]
+
+mod park_lines;
+mod typed_readings;
+mod typed_word;
+mod units;
 
 ghost use Rattle.std.specs.Prelude.{◌<◌, ◌≡◌, [], length, get_or, drop};
 ghost use Rattle.pages.specs.Pages.{Appended};
@@ -15,8 +17,8 @@ ghost use Rattle.park_text.specs.ParkText.{usage_text, too_long_text, is_help, u
 use crate::park_lines::{later_bytes, put_problem, put_unit_line};
 use crate::typed_readings::{WordCheck, after_newline, nth_word, read_words, word_start};
 use crate::typed_word::{Problem, Word, is_record, read_word};
-use bytes::scan::find;
 use pages::put;
+use pages::scan::find;
 use questions::digits::{are_hex, read_bytes};
 use record::entries::Readings;
 use report::{Origin, put_record_report, put_report};
@@ -98,7 +100,7 @@ fn put_usage(page: &mut [u8], at: usize) -> usize
     put(
         page,
         at,
-        b"usage: park altitude=1586 temperature=24 qnh=1019.3 humidity=32\n       park sheet altitude=1586 pressure=841.9 humidity=32\n       park table altitude=1586 <readings.csv >figures.csv\n       park record=11000400183350\nwords in any order, each a number with up to three decimals and, if you like,\nits unit, the first of these where none is written:\n  altitude=          m, ft\n  temperature=       C, F, K\n  pressure=          hPa, kPa, inHg; measured at the station\n  station-pressure=  hPa, kPa, inHg; of a mast that sends 1013.25 until it is set\n                     up: 1012.75 to 1013.75 counts as the standard pressure\n  qnh=               hPa, kPa, inHg\n  humidity=          percent, %; dry air where it is absent\n  density-altitude=  m, ft; in place of altitude and pressure\na temperature from 14.9 to 15.1 C counts as the standard one; a note says so\nsheet prints a page of densities to pin up, for one of the three pressures\ntable reads a CSV whose columns have these names, as time,temperature [F],qnh\nrecord= prints the report of a record that was kept, in hex digits\n",
+        b"usage: park altitude=1586 temperature=24 qnh=1019.3 humidity=32\n       park sheet altitude=1586 pressure=841.9 humidity=32\n       park record=11000400183350\nwords in any order, each a number with up to three decimals and, if you like,\nits unit, the first of these where none is written:\n  altitude=          m, ft\n  temperature=       C, F, K\n  pressure=          hPa, kPa, inHg; measured at the station\n  station-pressure=  hPa, kPa, inHg; of a mast that sends 1013.25 until it is set\n                     up: 1012.75 to 1013.75 counts as the standard pressure\n  qnh=               hPa, kPa, inHg\n  humidity=          percent, %; dry air where it is absent\n  density-altitude=  m, ft; in place of altitude and pressure\na temperature from 14.9 to 15.1 C counts as the standard one; a note says so\nsheet prints a page of densities to pin up, for one of the three pressures\nrecord= prints the report of a record that was kept, in hex digits\n",
     )
 }
 
@@ -117,7 +119,9 @@ pub fn put_too_long(page: &mut [u8], at: usize) -> usize
 fn is_help(word: &[u8]) -> bool
     ensures { result ≡ is_help word.now }
 {
-    check::same(word, b"help") | check::same(word, b"--help") | check::same(word, b"-h")
+    pages::scan::same(word, b"help")
+        | pages::scan::same(word, b"--help")
+        | pages::scan::same(word, b"-h")
 }
 
 // The sheet where the first word is `sheet`, or else the report. The text is left as it was.
@@ -126,7 +130,7 @@ fn put_words(page: &mut [u8], at: usize, text: &[u8]) -> usize
     ensures appended { Appended page.old at (words_text (get_or (arguments text.now) 0 []) (drop 1 (arguments text.now))) page.new result }
     ensures kept { text.now ≡ text.now }
 {
-    if check::same(nth_word(text, 0), b"sheet") {
+    if pages::scan::same(nth_word(text, 0), b"sheet") {
         let rest = word_start(text, 1);
         return put_sheet_words(page, at, &text[rest..]);
     }

@@ -6,14 +6,16 @@ ghost use Rattle.park_text.specs.ParkLines.{byte_with, typed_with, as_typed, quo
 
 use crate::typed_word::{Problem, Word};
 use crate::units::is_length;
-use bytes::scan::find;
 use decimals::figures::put_shown;
-use fields::fields::{HUMIDITY, TEMPERATURE};
+use fields::fields::{
+    ALTITUDE, DENSITY_ALTITUDE, HUMIDITY, MEANINGS, MEASURED_PRESSURE, QNH, STATION_PRESSURE,
+    TEMPERATURE,
+};
+use pages::scan::find;
 use pages::{put, put_hex};
-use questions::words::nth_word;
 
 // The first bytes of a word.
-pub fn first_bytes(word: &[u8], n: usize) -> &[u8]
+pub(crate) fn first_bytes(word: &[u8], n: usize) -> &[u8]
     ensures { result.now ≡ take n word.now }
 {
     if word.len() <= n {
@@ -23,7 +25,7 @@ pub fn first_bytes(word: &[u8], n: usize) -> &[u8]
 }
 
 // And those after them.
-pub fn later_bytes(word: &[u8], n: usize) -> &[u8]
+pub(crate) fn later_bytes(word: &[u8], n: usize) -> &[u8]
     ensures { result.now ≡ drop n word.now }
 {
     let end = word.len();
@@ -51,7 +53,7 @@ fn put_byte(page: &mut [u8], at: usize, byte: u8, old: u8, new: &[u8]) -> usize
 }
 
 // A word with `new` in the place of each byte `old`. The word is left as it was.
-pub fn put_with(page: &mut [u8], at: usize, word: &[u8], old: u8, new: &[u8]) -> usize
+fn put_with(page: &mut [u8], at: usize, word: &[u8], old: u8, new: &[u8]) -> usize
     ensures appended { Appended page.old at (typed_with old new.now word.now) page.new result }
     ensures kept { word.now ≡ word.now }
 {
@@ -100,9 +102,31 @@ fn put_for(
 fn put_example(page: &mut [u8], at: usize, meaning: usize) -> usize
     ensures { Appended page.old at (example_of meaning) page.new result }
 {
-    let examples =
-        b"altitude=1586\n temperature=24\n station-pressure=841.9\n qnh=1019.3\n humidity=32\n density-altitude=2100\n pressure=841.9\n record=11000400183350\n";
-    put(page, at, nth_word(examples, meaning))
+    if meaning == ALTITUDE {
+        return put(page, at, b"altitude=1586\n");
+    }
+    if meaning == TEMPERATURE {
+        return put(page, at, b"temperature=24\n");
+    }
+    if meaning == STATION_PRESSURE {
+        return put(page, at, b"station-pressure=841.9\n");
+    }
+    if meaning == QNH {
+        return put(page, at, b"qnh=1019.3\n");
+    }
+    if meaning == HUMIDITY {
+        return put(page, at, b"humidity=32\n");
+    }
+    if meaning == DENSITY_ALTITUDE {
+        return put(page, at, b"density-altitude=2100\n");
+    }
+    if meaning == MEASURED_PRESSURE {
+        return put(page, at, b"pressure=841.9\n");
+    }
+    if meaning == MEANINGS {
+        return put(page, at, b"record=11000400183350\n");
+    }
+    at
 }
 
 fn put_alone(page: &mut [u8], at: usize, meaning: usize) -> usize
@@ -238,7 +262,7 @@ pub(crate) fn put_quoted(page: &mut [u8], at: usize, word: &[u8]) -> usize
 }
 
 // The line on a word that is not understood.
-pub fn put_problem(page: &mut [u8], at: usize, word: &[u8], problem: Problem) -> usize
+pub(crate) fn put_problem(page: &mut [u8], at: usize, word: &[u8], problem: Problem) -> usize
     ensures { Appended page.old at (problem_line word.now problem) page.new result }
 {
     let told = put_quoted(page, at, word);

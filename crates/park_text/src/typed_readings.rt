@@ -6,21 +6,21 @@ ghost use Rattle.park_text.specs.Words.{arguments, ArgumentStarts};
 ghost use Rattle.park_text.specs.Understood.{value_of, problem, with_typed, understand, answer_for};
 
 use crate::typed_word::{Problem, Word, read_word};
-use bytes::scan::find;
 use fields::fields::Value;
+use pages::scan::find;
 use record::entries::{Readings, entry_of, is_present, no_readings, with_value};
 use thousandths::{Counted, count_of, word_from};
 
 // Whether all words were understood, or what is wrong with the first that was not, and its number,
 // counted from 0.
-#[derive(Drop)]
+#[derive(Clone, Copy)]
 pub enum WordCheck {
     Passed,
     Wrong(Problem, usize),
 }
 
 // Readings, where the check is passed; none where it is not.
-#[derive(Drop)]
+#[derive(Clone, Copy)]
 pub struct TypedReadings {
     pub check: WordCheck,
     pub readings: Readings,
@@ -37,7 +37,7 @@ fn wrong(what: Problem, number: usize) -> TypedReadings
 }
 
 // A reading as it is kept: the count of thousandths whose double it is, where there is one.
-pub fn value_of(x: f64) -> Value
+fn value_of(x: f64) -> Value
     ensures { result ≡ value_of x }
 {
     match count_of(x) {

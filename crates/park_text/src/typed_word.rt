@@ -5,13 +5,15 @@ ghost use Rattle.park_text.specs.Word.{meaning_named, is_number_byte, number_len
 
 use crate::park_lines::first_bytes;
 use crate::units::{Named, Unit, places, reading_in, unit_named};
-use bytes::scan::find;
 use decimals::typed::{Typed, read_decimal};
-use fields::fields::{ALTITUDE, MEANINGS};
-use questions::words::place;
+use fields::fields::{
+    ALTITUDE, DENSITY_ALTITUDE, HUMIDITY, MEANINGS, MEASURED_PRESSURE, QNH, STATION_PRESSURE,
+    TEMPERATURE,
+};
+use pages::scan::find;
 
 // What is wrong with a word, in the order of the checks of one word.
-#[derive(Drop)]
+#[derive(Clone, Copy)]
 pub enum Problem {
     // `record=` among other words
     RecordBeside,
@@ -38,20 +40,38 @@ pub enum Problem {
 
 // A word: a meaning and its reading, whether its unit was written, and whether its point may have been
 // meant for thousands; or what is wrong.
-#[derive(Drop)]
+#[derive(Clone, Copy)]
 pub enum Word {
     Reading(usize, f64, bool, bool),
     Wrong(Problem),
 }
 
-// The meaning that a name has, its place among them, and MEANINGS where it has none.
-pub fn meaning_named(name: &[u8]) -> usize
+// The meaning that a name has, and MEANINGS where it has none.
+fn meaning_named(name: &[u8]) -> usize
     ensures { result ≡ meaning_named name.now }
 {
-    place(
-        name,
-        b"altitude temperature station-pressure qnh humidity density-altitude pressure",
-    )
+    if pages::scan::same(name, b"altitude") {
+        return ALTITUDE;
+    }
+    if pages::scan::same(name, b"temperature") {
+        return TEMPERATURE;
+    }
+    if pages::scan::same(name, b"station-pressure") {
+        return STATION_PRESSURE;
+    }
+    if pages::scan::same(name, b"qnh") {
+        return QNH;
+    }
+    if pages::scan::same(name, b"humidity") {
+        return HUMIDITY;
+    }
+    if pages::scan::same(name, b"density-altitude") {
+        return DENSITY_ALTITUDE;
+    }
+    if pages::scan::same(name, b"pressure") {
+        return MEASURED_PRESSURE;
+    }
+    MEANINGS
 }
 
 fn is_number_byte(byte: u8) -> bool
@@ -144,7 +164,7 @@ fn read_number(meaning: usize, number: &[u8], name: &[u8]) -> Word
 }
 
 // Whether a byte stands in a text.
-pub fn has(text: &[u8], byte: u8) -> bool
+fn has(text: &[u8], byte: u8) -> bool
     ensures { result ≡ has byte text.now }
 {
     find(text, 0, text.len(), byte) < text.len()
@@ -155,7 +175,7 @@ fn is_minus_sign(text: &[u8]) -> bool
     ensures { result ≡ is_minus_sign text.now }
 {
     let sign = [0xE2u8, 0x88, 0x92];
-    check::same(first_bytes(text, 3), &sign)
+    pages::scan::same(first_bytes(text, 3), &sign)
 }
 
 // What stands behind the `=`.
@@ -207,7 +227,7 @@ pub(crate) fn is_record(word: &[u8]) -> bool
     ensures answered { result ≡ is_record word.now }
     ensures kept { word.now ≡ word.now }
 {
-    check::same(first_bytes(word, 7), b"record=")
+    pages::scan::same(first_bytes(word, 7), b"record=")
 }
 
 // One word among others, or the only one that is no record. It is left as it was.
@@ -218,7 +238,7 @@ pub fn read_word(word: &[u8]) -> Word
     if is_record(word) {
         return Word::Wrong(Problem::RecordBeside);
     }
-    if check::same(word, b"record") {
+    if pages::scan::same(word, b"record") {
         return Word::Wrong(Problem::NameAlone(MEANINGS));
     }
     read_named(word)

@@ -6,10 +6,9 @@ ghost use Rattle.std.proofs.Common.{SFits};
 ghost use Rattle.park_text.specs.Units.{length_unit, temperature_unit, pressure_unit, humidity_unit, is_length, unit_named, places_of, numerator_of, denominator_of, reading_in};
 
 use fields::fields::{ALTITUDE, DENSITY_ALTITUDE, HUMIDITY, TEMPERATURE};
-use questions::words::place;
 
 // What a number counts: the unit in which its reading is kept (m, C, hPa or percent), or another one.
-#[derive(Drop)]
+#[derive(Clone, Copy)]
 pub enum Unit {
     Plain,
     Foot,
@@ -19,7 +18,7 @@ pub enum Unit {
     InchOfMercury,
 }
 
-#[derive(Drop)]
+#[derive(Clone, Copy)]
 pub enum Named {
     Known(Unit),
     Unknown,
@@ -28,43 +27,55 @@ pub enum Named {
 fn length_unit(name: &[u8]) -> Named
     ensures { result ≡ length_unit name.now }
 {
-    match place(name, b"m ft") {
-        0 => Named::Known(Unit::Plain),
-        1 => Named::Known(Unit::Foot),
-        _ => Named::Unknown,
+    if pages::scan::same(name, b"m") {
+        return Named::Known(Unit::Plain);
     }
+    if pages::scan::same(name, b"ft") {
+        return Named::Known(Unit::Foot);
+    }
+    Named::Unknown
 }
 
 fn temperature_unit(name: &[u8]) -> Named
     ensures { result ≡ temperature_unit name.now }
 {
-    match place(name, b"C F K") {
-        0 => Named::Known(Unit::Plain),
-        1 => Named::Known(Unit::Fahrenheit),
-        2 => Named::Known(Unit::Kelvin),
-        _ => Named::Unknown,
+    if pages::scan::same(name, b"C") {
+        return Named::Known(Unit::Plain);
     }
+    if pages::scan::same(name, b"F") {
+        return Named::Known(Unit::Fahrenheit);
+    }
+    if pages::scan::same(name, b"K") {
+        return Named::Known(Unit::Kelvin);
+    }
+    Named::Unknown
 }
 
 fn pressure_unit(name: &[u8]) -> Named
     ensures { result ≡ pressure_unit name.now }
 {
-    match place(name, b"hPa kPa inHg") {
-        0 => Named::Known(Unit::Plain),
-        1 => Named::Known(Unit::Kilopascal),
-        2 => Named::Known(Unit::InchOfMercury),
-        _ => Named::Unknown,
+    if pages::scan::same(name, b"hPa") {
+        return Named::Known(Unit::Plain);
     }
+    if pages::scan::same(name, b"kPa") {
+        return Named::Known(Unit::Kilopascal);
+    }
+    if pages::scan::same(name, b"inHg") {
+        return Named::Known(Unit::InchOfMercury);
+    }
+    Named::Unknown
 }
 
 fn humidity_unit(name: &[u8]) -> Named
     ensures { result ≡ humidity_unit name.now }
 {
-    match place(name, b"percent %") {
-        0 => Named::Known(Unit::Plain),
-        1 => Named::Known(Unit::Plain),
-        _ => Named::Unknown,
+    if pages::scan::same(name, b"percent") {
+        return Named::Known(Unit::Plain);
     }
+    if pages::scan::same(name, b"%") {
+        return Named::Known(Unit::Plain);
+    }
+    Named::Unknown
 }
 
 pub(crate) fn is_length(meaning: usize) -> bool
@@ -74,7 +85,7 @@ pub(crate) fn is_length(meaning: usize) -> bool
 }
 
 // The unit of a meaning that a name stands for, and no name for the unit of the reading.
-pub fn unit_named(meaning: usize, name: &[u8]) -> Named
+pub(crate) fn unit_named(meaning: usize, name: &[u8]) -> Named
     ensures { result ≡ unit_named meaning name.now }
 {
     if name.len() == 0 {
@@ -93,7 +104,7 @@ pub fn unit_named(meaning: usize, name: &[u8]) -> Named
 }
 
 // How many decimals a number has at most.
-pub fn places(unit: Unit) -> usize
+pub(crate) fn places(unit: Unit) -> usize
     ensures { result ≡ places_of unit }
 {
     match unit {
@@ -149,7 +160,7 @@ fn denominator(unit: Unit) -> u32
 
 // The reading of a count of a unit's last decimal. Its numerator and denominator are doubles exactly, so
 // that the quotient is rounded once.
-pub fn reading_in(unit: Unit, count: i32) -> f64
+pub(crate) fn reading_in(unit: Unit, count: i32) -> f64
     ensures { result ≡ reading_in unit count }
 {
     numerator(unit, count) as f64 / denominator(unit) as f64

@@ -1,5 +1,5 @@
 -- The proof of the page: each promise by its proof below. Assumes nothing.
-use Rattle.arithmetic.proofs.Kit.{◌≡◌, refl, ap, ◌∙◌, T, lit≤, true, false, zero, suc, ◌≤ℤ◌, Float, nan, inf, fin, of_bits, fits, is_nan, le, lt, positive}
+use Rattle.arithmetic.proofs.Kit.{◌≡◌, refl, ap, ◌∙◌, T, lit≤, true, false, zero, suc, ◌≤ℤ◌, Float, nan, inf, fin, of_bits, fits, le, lt, positive}
 use Rattle.antilog.specs.Log.{log_word}
 use Rattle.arithmetic.specs.Places.{places}
 use Rattle.atmosphere.specs.declared.given.Reading.{Reading}
@@ -103,22 +103,22 @@ document_01 = record {
   cases = cases.cases_hold;
   not_refused_always = cases.rejects_refusal_always;
   record_caused = mast.caused;
-  inverse-caused = inverse.caused places;
-  of-readings = strict.of-readings;
-  field-order = (checks.order-of-checks).fields;
-  order-without_06 = (checks.order-of-checks).without_06;
+  inverse_caused = inverse.caused places;
+  of_readings = strict.of-readings;
+  field_order = (checks.order-of-checks).fields;
+  order_without_06 = (checks.order-of-checks).without_06;
   order_with_06 = (checks.order-of-checks).with_06;
-  first-bytes = records.first-bytes-judged;
+  first_bytes = records.first-bytes-judged;
   any_order = records.any_order;
-  nothing-after = records.nothing-after-judged;
+  nothing_after = records.nothing-after-judged;
   cut_record = (text.samples).cut;
   empty_record = (text.samples).empty;
-  sea_level_lem = (text.samples).sea_level_lem;
+  sea_level = (text.samples).sea_level_lem;
   too_hot = (text.samples).hot;
-  sqrt-nearest-below = λ x f g. (nearest_root_lem x f g).lower_is_farther;
-  sqrt-nearest-above = λ x f g. (nearest_root_lem x f g).higher_is_farther;
-  exponents-whole = computed.exponents-whole;
-  same-air = overrides.same-air places;
+  sqrt_nearest_below = λ x f g. (nearest_root_lem x f g).lower_is_farther;
+  sqrt_nearest_above = λ x f g. (nearest_root_lem x f g).higher_is_farther;
+  exponents_whole = computed.exponents-whole;
+  same_air = overrides.same-air places;
   not_14_with_06 = dry.not_with_06;
 }
 
@@ -143,18 +143,18 @@ asked_with_one = record { given = tt; doubles = (tt, (tt, tt)); from = tt; to = 
 
 demand_3 : Demand3
 demand_3 = record {
-  asked-of-one = asked-of-one;
+  asked_of_one = asked-of-one;
   asked_with_none = asked_with_none;
   asked_with_one = asked_with_one;
   accepted = λ t d₁ d d₂ a. (demand t d₁ d d₂ a).accepted;
-  altitude-to-d = λ t d₁ d d₂ a. (demand t d₁ d d₂ a).lower.altitudes;
-  altitude-from-d = λ t d₁ d d₂ a. (demand t d₁ d d₂ a).upper.altitudes;
-  pressure-to-d = λ t d₁ d d₂ a. (demand t d₁ d d₂ a).lower.pressures;
-  pressure-from-d = λ t d₁ d d₂ a. (demand t d₁ d d₂ a).upper.pressures;
-  temperature-to-d = λ d₁ d d₂ a. (demand FromLayer d₁ d d₂ a).lower.temperatures tt;
-  temperature-from-d = λ d₁ d d₂ a. (demand FromLayer d₁ d d₂ a).upper.temperatures tt;
-  altitude-strictly = λ t d₁ d d₂ a r₁ r₂ metre mild. ((demand t d₁ d d₂ a).strictly r₁ r₂ metre mild).altitudes;
-  pressure-strictly = λ t d₁ d d₂ a r₁ r₂ metre mild. ((demand t d₁ d d₂ a).strictly r₁ r₂ metre mild).pressures;
+  altitude_to_d = λ t d₁ d d₂ a. (demand t d₁ d d₂ a).lower.altitudes;
+  altitude_from_d = λ t d₁ d d₂ a. (demand t d₁ d d₂ a).upper.altitudes;
+  pressure_to_d = λ t d₁ d d₂ a. (demand t d₁ d d₂ a).lower.pressures;
+  pressure_from_d = λ t d₁ d d₂ a. (demand t d₁ d d₂ a).upper.pressures;
+  temperature_to_d = λ d₁ d d₂ a. (demand FromLayer d₁ d d₂ a).lower.temperatures tt;
+  temperature_from_d = λ d₁ d d₂ a. (demand FromLayer d₁ d d₂ a).upper.temperatures tt;
+  altitude_strictly = λ t d₁ d d₂ a r₁ r₂ metre mild. ((demand t d₁ d d₂ a).strictly r₁ r₂ metre mild).altitudes;
+  pressure_strictly = λ t d₁ d d₂ a r₁ r₂ metre mild. ((demand t d₁ d d₂ a).strictly r₁ r₂ metre mild).pressures;
   rejects_wrong_inverses = wrong.rejected;
 }
 
@@ -165,9 +165,9 @@ k1 = record {
   each_row = λ h p u room text e. ((good.good_sheet).rows_of h p u room text e).each;
   rising = (good.good_sheet).rising;
   halves_away = ((rounded.samples).half-of_an_even, (rounded.samples).half-below-zero);
-  zero-unsigned = ((rounded.samples).minus-zero, (rounded.samples).nearly-zero);
+  zero_unsigned = ((rounded.samples).minus-zero, (rounded.samples).nearly-zero);
   record_row = of_record.record_row;
-  sea_level-row = of_record.sea_level-row;
+  sea_level_row = of_record.sea_level-row;
   any_altitude = λ h k p u room finite also. of_record.any_altitude h k p u finite also room;
   sheet_caused = sheets.caused;
   sheet_order = sheets.order-of-checks;
@@ -179,7 +179,7 @@ unfolding layer_at lt le of_bits
 nan_in_0 = refl
 
 k2 : K2
-k2 = record { nan_in_0 = nan_in_0; one-range = layers.one-range; unmoved = layers.former }
+k2 = record { nan_in_0 = nan_in_0; one_range = layers.one-range; unmoved = layers.former }
 
 k3 : K3
 k3 = record {
@@ -192,8 +192,8 @@ k4 : K4
 k4 = record {
   alike = (strict.strict).same_where_rising;
   or_19 = (strict.strict).same_or_falling;
-  only-rising = λ s f. ((strict.strict).accepted_where_rising s f).only;
-  written-again = (strict.strict).written-again;
+  only_rising = λ s f. ((strict.strict).accepted_where_rising s f).only;
+  written_again = (strict.strict).written-again;
   read_back = writer.read_back;
   writer_caused = λ r. written.caused (record_of r);
 }
@@ -201,49 +201,49 @@ k4 = record {
 k5 : K5
 k5 = record {
   count_gives = (thousandths.count_of-double).gives_the_double;
-  count-found = (thousandths.count_of-double).is_found;
-  word_of_count_lem = λ n h. ((words.twos_complement_lem).word_in_range n h, (words.twos_complement_lem).count_of_word n h);
-  greatest-count = computed.greatest-count;
-  least-count = computed.least-count;
-  minus-zero = computed.minus-zero;
+  count_found = (thousandths.count_of-double).is_found;
+  word_of_count = λ n h. ((words.twos_complement_lem).word_in_range n h, (words.twos_complement_lem).count_of_word n h);
+  greatest_count = computed.greatest-count;
+  least_count = computed.least-count;
+  minus_zero = computed.minus-zero;
   doubles_come_back = (back.come_back).wholly_in_doubles;
   counts_come_back = (back.come_back).wholly_in_counts;
-  judged-alike = converted.judged-alike;
-  never_20_to-doubles = counts.only-to-counts;
+  judged_alike = converted.judged-alike;
+  never_20_to_doubles = counts.only-to-counts;
   conversion_caused = conversions.caused;
   conversion_order = conversions.order-of-checks;
 }
 
 k6 : K6
 k6 = record {
-  first-output = (outputs.published).first;
-  third-output = (outputs.published).third;
+  first_output = (outputs.published).first;
+  third_output = (outputs.published).third;
   five_each = stepping.stepping;
   in_ranges = λ n. (load.every_record n).counts;
-  judged_as_air_lem = λ strict n. (load.every_record n).judged_as_air strict;
+  judged_as_air = λ strict n. (load.every_record n).judged_as_air strict;
 }
 
 k7 : K7
 k7 = record {
   middle = middle.voted-by-meaning;
-  first-mast = λ a b c number values. (vote.masts_in_order a b c number values).mast_1;
-  second-mast = λ a b c number values. (vote.masts_in_order a b c number values).mast_2;
-  third-mast = λ a b c number values. (vote.masts_in_order a b c number values).mast_3;
+  first_mast = λ a b c number values. (vote.masts_in_order a b c number values).mast_1;
+  second_mast = λ a b c number values. (vote.masts_in_order a b c number values).mast_2;
+  third_mast = λ a b c number values. (vote.masts_in_order a b c number values).mast_3;
   three_equal = λ s f e. vote.three_equal s ∙ ap (λ (o : Outcome Figures). after_mast 1 o (λ g. by_no_mast (accepted g))) e;
   two_equal = λ s t r q f e k same j. (vote.two_equal s t r q f e k same j).first;
   no_mast = votes.no_mast-named;
-  first-mast-because = λ a b c number values. (votes.masts_named a b c number values).mast_1;
-  second-mast-because = λ a b c number values. (votes.masts_named a b c number values).mast_2;
-  third-mast-because = λ a b c number values. (votes.masts_named a b c number values).mast_3;
-  vote-caused = votes.caused;
+  first_mast_because = λ a b c number values. (votes.masts_named a b c number values).mast_1;
+  second_mast_because = λ a b c number values. (votes.masts_named a b c number values).mast_2;
+  third_mast_because = λ a b c number values. (votes.masts_named a b c number values).mast_3;
+  vote_caused = votes.caused;
   by_21 = λ a b c m p q r one low high. (votes.field-missing a b c).refused_where p q r (m, (one, (low, high)));
-  because_21 = λ a b c. (votes.field-missing a b c).refused-because;
-  zeros-after-negative = (three.zeros-in_order).after-negative;
-  zeros-before-positive = (three.zeros-in_order).before-positive;
-  two-minus-zeros = (three.zeros-in_order).of-minus-zeros;
-  two-plus-zeros = (three.zeros-in_order).of-plus-zeros;
-  first-exchange = λ a b c f e. (vote.exchange-of_masts a b c f e).bac;
-  last-exchange = λ a b c f e. (vote.exchange-of_masts a b c f e).acb;
+  because_21 = λ a b c. (votes.field-missing a b c).refused_because;
+  zeros_after_negative = (three.zeros-in_order).after-negative;
+  zeros_before_positive = (three.zeros-in_order).before-positive;
+  two_minus_zeros = (three.zeros-in_order).of-minus-zeros;
+  two_plus_zeros = (three.zeros-in_order).of-plus-zeros;
+  first_exchange = λ a b c f e. (vote.exchange-of_masts a b c f e).bac;
+  last_exchange = λ a b c f e. (vote.exchange-of_masts a b c f e).acb;
 }
 
 warmed : (d t₁ t t₂ : Float) → Warmed d t₁ t t₂ → InBetween (station places d (Given t₁)) (station places d (Given t)) (station places d (Given t₂))
@@ -259,30 +259,30 @@ warmed-from-the-least = record { doubles = (tt, (tt, tt)); from = tt; to = tt; c
 
 k8 : K8
 k8 = record {
-  warmed-to-itself = warmed-to-itself;
-  warmed-from-the-least = warmed-from-the-least;
+  warmed_to_itself = warmed-to-itself;
+  warmed_from_the_least = warmed-from-the-least;
   accepted = λ d t₁ t t₂ a. (warmed d t₁ t t₂ a).accepted;
-  altitude-to-t = λ d t₁ t t₂ a. (warmed d t₁ t t₂ a).colder.altitudes;
-  altitude-from-t = λ d t₁ t t₂ a. (warmed d t₁ t t₂ a).warmer.altitudes;
-  pressure-to-t = λ d t₁ t t₂ a. (warmed d t₁ t t₂ a).colder.pressures;
-  pressure-from-t = λ d t₁ t t₂ a. (warmed d t₁ t t₂ a).warmer.pressures;
-  faa-never-falls = λ p t₁ t₂ f f₁ f₂. warmth.faa-in_order p t₁ t₂ f f₁ f₂ refl refl;
+  altitude_to_t = λ d t₁ t t₂ a. (warmed d t₁ t t₂ a).colder.altitudes;
+  altitude_from_t = λ d t₁ t t₂ a. (warmed d t₁ t t₂ a).warmer.altitudes;
+  pressure_to_t = λ d t₁ t t₂ a. (warmed d t₁ t t₂ a).colder.pressures;
+  pressure_from_t = λ d t₁ t t₂ a. (warmed d t₁ t t₂ a).warmer.pressures;
+  faa_never_falls = λ p t₁ t₂ f f₁ f₂. warmth.faa-in_order p t₁ t₂ f f₁ f₂ refl refl;
   rejects_wrong_answers = wrong.rejected-by-warmth;
 }
 
 k9 : K9
 k9 = record {
   smallest = λ bytes s t a. (trim.smallest-change bytes s a).turns t;
-  up-before-down = (places.in_their_order).up-before-down;
-  temperature-first = (places.in_their_order).temperature-first;
+  up_before_down = (places.in_their_order).up-before-down;
+  temperature_first = (places.in_their_order).temperature-first;
   smaller_first = (places.in_their_order).smaller_first;
-  none-because = λ bytes s a. (trim.smallest-change bytes s a).none-because;
+  none_because = λ bytes s a. (trim.smallest-change bytes s a).none-because;
   none_where = λ bytes s a. (trim.smallest-change bytes s a).none_where;
-  own-refusal = λ bytes. (trim.refusals-first bytes).own;
+  own_refusal = λ bytes. (trim.refusals-first bytes).own;
   by_22 = λ bytes. (trim.refusals-first bytes).no_reading;
   trim_caused = classes.caused;
   answered = classes.never-refused;
-  class-counts = classes.class-counts;
+  class_counts = classes.class-counts;
 }
 
 k13 : K13
@@ -294,15 +294,15 @@ k13 = record {
 
 k14 : K14
 k14 = record {
-  word-at_most = λ n l h x f g. ((near.how_near n l h).logarithm x f g).never_too_great;
-  word-near = λ n l h x f g. ((near.how_near n l h).logarithm x f g).less_than_two_too_small;
-  antilog-at_most = λ n l h f g. ((near.how_near n l h).antilogarithm f g).never_too_great;
-  antilog-near = λ n l h f g. ((near.how_near n l h).antilogarithm f g).less_than_four_too_small;
+  word_at_most = λ n l h x f g. ((near.how_near n l h).logarithm x f g).never_too_great;
+  word_near = λ n l h x f g. ((near.how_near n l h).logarithm x f g).less_than_two_too_small;
+  antilog_at_most = λ n l h f g. ((near.how_near n l h).antilogarithm f g).never_too_great;
+  antilog_near = λ n l h f g. ((near.how_near n l h).antilogarithm f g).less_than_four_too_small;
   word_needs_two = near.log_needs_two;
   antilog_needs_two = near.antilog_needs_two;
-  power-near = (functions.functions_near_60).power;
-  exp-near = (functions.functions_near_60).exponential;
-  ln-near = (functions.functions_near_60).logarithm;
+  power_near = (functions.functions_near_60).power;
+  exp_near = (functions.functions_near_60).exponential;
+  ln_near = (functions.functions_near_60).logarithm;
 }
 
 word-rises : (x y : Float) → IsDouble x → IsDouble y → T (positive x) → T (positive y) → T (le x y) → log_word 60 x ≤ℤ log_word 60 y
@@ -319,57 +319,57 @@ word-rises (fin false (suc m) e) (fin false zero d) f g px py h = absurd py
 k10 : K10
 unfolding of_bits
 k10 = record {
-  word-rises = word-rises;
-  antilog-rises = λ P Q h. ordered.antilog_mono 60 h;
-  exp-rises = exps.exp-rises 60;
-  ln-rises = rises.ln-rises 60;
-  power-rises = rises.power-rises 60;
-  power-falls = rises.power-falls 60;
-  cube-rises = rises.cube-rises 60;
+  word_rises = word-rises;
+  antilog_rises = λ P Q h. ordered.antilog_mono 60 h;
+  exp_rises = exps.exp-rises 60;
+  ln_rises = rises.ln-rises 60;
+  power_rises = rises.power-rises 60;
+  power_falls = rises.power-falls 60;
+  cube_rises = rises.cube-rises 60;
 }
 
 k11 : K11
 k11 = record {
-  marked-because = moisture.marked-because;
+  marked_because = moisture.marked-because;
   marked_where = λ r f e t₁ t₂ p₁ p₂. moisture.marked_where r f e (t₁, t₂, p₁, p₂);
-  fraction-capped = moisture.fraction-capped;
+  fraction_capped = moisture.fraction-capped;
   density_uses_it = moisture.density_of-fraction;
 }
 
 near_formulas : Near
 near_formulas = record {
-  density-near = densities.density-near;
-  dry-density-near = densities.dry-density-near;
-  fraction-near = densities.fraction-near;
-  sound-near = sound.sound-near;
-  saturation-near = saturation.saturation-near;
-  saturation-nearly = saturation.saturation-nearly;
-  saturation-exists = exists.saturation-exists;
-  saturation-exists-celsius = exists.saturation-exists-celsius;
+  density_near = densities.density-near;
+  dry_density_near = densities.dry-density-near;
+  fraction_near = densities.fraction-near;
+  sound_near = sound.sound-near;
+  saturation_near = saturation.saturation-near;
+  saturation_nearly = saturation.saturation-nearly;
+  saturation_exists = exists.saturation-exists;
+  saturation_exists_celsius = exists.saturation-exists-celsius;
   speed_exists = sound.speed_exists;
   record_density = near-records.record_density-near;
   record_fraction = near-records.record_fraction-near;
   record_sound = near-records.record_sound-near;
-  printed-near = paper.printed-near;
-  class-near = paper.class-near;
-  sqrt-rises = sound-rises.sqrt-rises;
-  dry-sound-rises = sound-rises.dry-sound-rises;
-  dry-density-falls = falls.dry-density-falls;
+  printed_near = paper.printed-near;
+  class_near = paper.class-near;
+  sqrt_rises = sound-rises.sqrt-rises;
+  dry_sound_rises = sound-rises.dry-sound-rises;
+  dry_density_falls = falls.dry-density-falls;
   dry_sheet_falls = near-sheets.dry_sheet_falls;
 }
 
 altitudes-near : AltitudesNear
 altitudes-near = record {
-  standard_temperature_lem = λ h r. ((standard.standard_air-near).kelvins h r, (standard.standard_air-near).degrees h r);
-  standard_pressure_lem = λ h r p. ((standard.standard_air-near).pascals h r p, (standard.standard_air-near).shown_pressure_lem h r p);
+  standard_temperature = λ h r. ((standard.standard_air-near).kelvins h r, (standard.standard_air-near).degrees h r);
+  standard_pressure = λ h r p. ((standard.standard_air-near).pascals h r p, (standard.standard_air-near).shown_pressure_lem h r p);
   standard_in_scope = λ altitude h r s. record { temperature = (standard.standard_air-near).degrees-in_range altitude r; pressure = (standard.standard_air-near).pressure-in_range altitude r; humidity = s };
-  qnh-near = (reduced.qnh-near).reduced;
-  pressure_altitude-near = (of-pressure.pressure_altitude-near).metres;
-  density_altitude-near = (of-density.density_altitude-near).metres;
-  pressure_ratio-exists = (standard.standard_air-near).ratios;
-  reduction-exists = (reduced.qnh-near).reductions;
-  raised-pressure-exists = (of-pressure.pressure_altitude-near).powers;
-  raised-density-exists = (of-density.density_altitude-near).powers;
+  qnh_near = (reduced.qnh-near).reduced;
+  pressure_altitude_near = (of-pressure.pressure_altitude-near).metres;
+  density_altitude_near = (of-density.density_altitude-near).metres;
+  pressure_ratio_exists = (standard.standard_air-near).ratios;
+  reduction_exists = (reduced.qnh-near).reductions;
+  raised_pressure_exists = (of-pressure.pressure_altitude-near).powers;
+  raised_density_exists = (of-density.density_altitude-near).powers;
   record_temperature = λ r f e. (altitudes-of-records.records-near r f e).layer_temperature_lem;
   record_pressure = λ r f e. (altitudes-of-records.records-near r f e).layer_pressure_lem;
   record_qnh = λ r f e. (altitudes-of-records.records-near r f e).qnh-pressure;
@@ -379,32 +379,32 @@ altitudes-near = record {
 
 at-the_park : AtThePark
 at-the_park = record {
-  typed-decimals = computed.typed-decimals;
-  typed-ends = computed.typed-ends;
+  typed_decimals = computed.typed-decimals;
+  typed_ends = computed.typed-ends;
   typed_badly = computed.typed_badly;
-  report_at-sea_level = (report.samples).sea_level_lem;
-  word-is_reading = λ ws r e. (tied.typed-is_judged ws r e).is_reading;
+  report_at_sea_level = (report.samples).sea_level_lem;
+  word_is_reading = λ ws r e. (tied.typed-is_judged ws r e).is_reading;
   no_other = λ ws r e. (tied.typed-is_judged ws r e).was_typed;
   record_judged = λ ws r e. (tied.typed-is_judged ws r e).is_judged;
-  typed-count_kept = kept.count_kept;
+  typed_count_kept = kept.count_kept;
   notes_are_lines = λ point r f. unfold note_lines in (exactly.exactly (notes point r f)).text;
-  note-has_its_row = λ point r f. (exactly.exactly (notes point r f)).because;
-  row-has_its_note = λ point r f. (exactly.exactly (notes point r f)).wherever;
+  note_has_its_row = λ point r f. (exactly.exactly (notes point r f)).because;
+  row_has_its_note = λ point r f. (exactly.exactly (notes point r f)).wherever;
 }
 
 reports : Reports
 reports = record {
   named = named.named;
-  named-alone = named.named-alone;
+  named_alone = named.named-alone;
   named_11 = named.named_11;
   named_12 = named.named_12;
 }
 
 arrays : Arrays
 arrays = record {
-  written_of-read = interface.written_of-read;
+  written_of_read = interface.written_of-read;
   same_bytes = interface.same_bytes;
-  read_of-written = interface.read_of-written;
+  read_of_written = interface.read_of-written;
   read_as = interface.read_as;
 }
 
@@ -413,7 +413,7 @@ decimals = record {
   reads = (refl, refl, refl, refl);
   nearest = decimal-texts.decimal_rounds;
   no_number = decimal-texts.no_decimal;
-  none-of_these = decimal-texts.not_read;
+  none_of_these = decimal-texts.not_read;
 }
 
 pub promises : Promises
@@ -431,12 +431,12 @@ promises = record {
   k9 = k9;
   k10 = k10;
   k11 = k11;
-  k12 = record { same-station = λ r q h f g e k. let same = humidity.humidity_leaves_the-station r q h f g e k in (same.altitudes, (same.temperatures, same.pressures)) };
+  k12 = record { same_station = λ r q h f g e k. let same = humidity.humidity_leaves_the-station r q h f g e k in (same.altitudes, (same.temperatures, same.pressures)) };
   k13 = k13;
   k14 = k14;
   near = near_formulas;
-  altitudes-near = altitudes-near;
-  at-the_park = at-the_park;
+  altitudes_near = altitudes-near;
+  at_the_park = at-the_park;
   reports = reports;
   arrays = arrays;
   decimals = decimals;

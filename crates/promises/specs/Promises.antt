@@ -47,7 +47,7 @@ use Rattle.station.specs.Figures.{shown_celsius, shown_hectopascals, figures_of}
 use Rattle.mast.specs.Judge.{resolved, reading_rows, record_rows, judged, judge_by, judge, judge_strictly, air_outcome}
 use Rattle.mast.specs.Laws.{without}
 use Rattle.mast.specs.Checks.{has}
-use Rattle.sheet.specs.Row.{station_of_row as rowStation, row_outcome, figures_outcome}
+use Rattle.sheet.specs.Row.{station_of_row as row_station, row_outcome, figures_outcome}
 use Rattle.sheet.specs.Sheet.{celsius_of_row, rows, setting_sheet, sheet_input_rows}
 use Rattle.sheet.specs.Laws.{HandedOut, lines_rows, lines_text, repeated}
 use Rattle.writer.specs.Records.{record_of}
@@ -140,37 +140,37 @@ pub record Document01 : Type 0 where
   pub not_refused_always : (inverse : Float → Reading → Outcome Station) → RefusesAlways inverse → Hold (table_of inverse) → ⊥
   -- "each number has exactly its cause": of a record, to both readers, and of a density altitude
   pub record_caused : (strict : Bool) (s : List ℕ) → ExactlyCaused (record_rows strict s) (figures_of (resolved (readings s))) (judge_by strict s)
-  pub inverse-caused : (d : Float) (t : Reading) → ExactlyCaused (station_rows places d t) (resolve places d t) (station places d t)
+  pub inverse_caused : (d : Float) (t : Reading) → ExactlyCaused (station_rows places d t) (resolve places d t) (station places d t)
   -- what is said below of readings holds of a record that is accepted: its figures are those of its readings
-  pub of-readings : (strict : Bool) (s : List ℕ) (f : Figures) → judge_by strict s ≡ accepted f → judged (readings s) ≡ accepted f
+  pub of_readings : (strict : Bool) (s : List ℕ) (f : Figures) → judge_by strict s ≡ accepted f → judged (readings s) ≡ accepted f
   -- the order of the checks, as the numbers in a line. "Order per field: cut header, 6, 7, cut data, 8", and to the strict reader 19
-  pub field-order : (strict : Bool) (s : List ℕ) → numbers (read_rows strict s) ≡ flat_map (λ _. 5 ∷ 6 ∷ 7 ∷ 5 ∷ 8 ∷ 19 ∷ []) (tags s)
+  pub field_order : (strict : Bool) (s : List ℕ) → numbers (read_rows strict s) ≡ flat_map (λ _. 5 ∷ 6 ∷ 7 ∷ 5 ∷ 8 ∷ 19 ∷ []) (tags s)
   -- "then 9, 10; then values field by field by rising tag, in each field not finite first .. then 14, 15", with every field but 06
-  pub order-without_06 : (r : Readings) → has r density_altitude ≡ false → ((m : ℕ) → m < meanings → m ≢ density_altitude → has r m ≡ true)
+  pub order_without_06 : (r : Readings) → has r density_altitude ≡ false → ((m : ℕ) → m < meanings → m ≢ density_altitude → has r m ≡ true)
       → numbers (reading_rows r) ≡ 9 ∷ 10 ∷ 11 ∷ 2 ∷ 3 ∷ 11 ∷ 12 ∷ 11 ∷ 12 ∷ 11 ∷ 13 ∷ 11 ∷ 12 ∷ 14 ∷ 15 ∷ []
   -- "with 06, its value (1), the temperature (2, 3), then 4", then humidity's 11 and 13, then 14 and 15, with every field
   pub order_with_06 : (r : Readings) → ((m : ℕ) → m < meanings → has r m ≡ true) → numbers (reading_rows r) ≡ 9 ∷ 1 ∷ 2 ∷ 3 ∷ 4 ∷ 11 ∷ 13 ∷ 14 ∷ 15 ∷ []
   -- "judged by its first 256 bytes"
-  pub first-bytes : (s : List ℕ) → judge (take 256 s) ≡ judge s
+  pub first_bytes : (s : List ℕ) → judge (take 256 s) ≡ judge s
   -- "any tag order": two fields f and g that follow each other, after whole fields s and before any t
   pub any_order : (s f g t : List ℕ) (r q : Readings) → read_record false s ≡ accepted r → length f ≡ size_of f → length g ≡ size_of g
       → read_record false (s ++ (f ++ (g ++ t))) ≡ accepted q → judge (s ++ (g ++ (f ++ t))) ≡ judge (s ++ (f ++ (g ++ t)))
   -- "order per field": a refusal 6, 7 or 8 stays whatever follows
-  pub nothing-after : (number : ℕ) (values : List Float) → 6 ≤ number → number ≤ 8 → (s t : List ℕ) → judge s ≡ refused number values → judge (s ++ t) ≡ refused number values
+  pub nothing_after : (number : ℕ) (values : List Float) → 6 ≤ number → number ≤ 8 → (s t : List ℕ) → judge s ≡ refused number values → judge (s ++ t) ≡ refused number values
   -- what the program prints: a cut record, "an empty record is 10", the first line of 01 with 0 m, and "at 1,000 °C and 50 percent, 1013.5 hPa, 0 m: 15"
   pub cut_record : answer_text (judge (big_endian 3 0x070008)) ≡ ascii "refused 5\n"
   pub empty_record : answer_text (judge []) ≡ ascii "refused 10\n"
-  pub sea_level_lem : take 59 (answer_text (judge (big_endian 11 0x0100080000000000000000))) ≡ ascii "station 0000000000000000 402E000000000000 408FAA0000000000\n"
+  pub sea_level : take 59 (answer_text (judge (big_endian 11 0x0100080000000000000000))) ≡ ascii "station 0000000000000000 402E000000000000 408FAA0000000000\n"
   pub too_hot : answer_text (judge (double_field 1 (decimal "0") ++ double_field 2 (decimal "1000") ++ double_field 3 (decimal "1013.5") ++ double_field 5 (decimal "50"))) ≡ ascii "refused 15\n"
   -- "`sqrt` is correctly rounded, here too": of every other double, the point half way to it lies on its own side of the root
-  pub sqrt-nearest-below : (x : Float) → IsDouble x → T (positive x) → (n : ℕ) (e : ℤ) → IsDouble (fin false n e) → units_of (fin false n e) < units_of (sqrt x)
+  pub sqrt_nearest_below : (x : Float) → IsDouble x → T (positive x) → (n : ℕ) (e : ℤ) → IsDouble (fin false n e) → units_of (fin false n e) < units_of (sqrt x)
       → twice_midpoint_squared (fin false n e) (sqrt x) < twice_root_squared x
-  pub sqrt-nearest-above : (x : Float) → IsDouble x → T (positive x) → (n : ℕ) (e : ℤ) → IsDouble (fin false n e) → units_of (sqrt x) < units_of (fin false n e)
+  pub sqrt_nearest_above : (x : Float) → IsDouble x → T (positive x) → (n : ℕ) (e : ℤ) → IsDouble (fin false n e) → units_of (sqrt x) < units_of (fin false n e)
       → twice_root_squared x < twice_midpoint_squared (fin false n e) (sqrt x)
   -- "every exponent q is a constant of the source, and q × 2^58 is whole": the magnitude that stands in the table
-  pub exponents-whole : (i : ℕ) → i < 27 → num (get_or exponents i nan) * 2 ^ 58 ≡ (exponent_at i).magnitude * den (get_or exponents i nan)
+  pub exponents_whole : (i : ℕ) → i < 27 → num (get_or exponents i nan) * 2 ^ 58 ≡ (exponent_at i).magnitude * den (get_or exponents i nan)
   -- "with both overrides given, two altitudes give the same pair", and the same fraction
-  pub same-air : (altitude other t p h : Float) → atmosphere places altitude (Given t) (Given p) h ≡ atmosphere places other (Given t) (Given p) h
+  pub same_air : (altitude other t p h : Float) → atmosphere places altitude (Given t) (Given p) h ≡ atmosphere places other (Given t) (Given p) h
   -- "14 (not with 06)"
   pub not_14_with_06 : (r : Readings) → has r density_altitude ≡ true → has r humidity ≡ false → judged r ≡ (without 14 (reading_rows r) then accepted (figures_of (resolved r)))
 
@@ -185,23 +185,23 @@ pub record Asked (t : Reading) (d₁ d d₂ : Float) : Type 0 where
 
 pub record Demand3 : Type 0 where
   -- it is asked of equal density altitudes and of distant ones, with a temperature and with none
-  pub asked-of-one : Asked (Given (decimal "15")) (decimal "0") (decimal "0") (decimal "0")
+  pub asked_of_one : Asked (Given (decimal "15")) (decimal "0") (decimal "0") (decimal "0")
   pub asked_with_none : Asked FromLayer (decimal "-5e62") (decimal "0") (decimal "44283")
   pub asked_with_one : Asked (Given (decimal "15")) (decimal "-6e62") (decimal "0") (decimal "54852")
   -- "if d1 and d2 are accepted, then d is accepted"
   pub accepted : (t : Reading) (d₁ d d₂ : Float) → Asked t d₁ d d₂ → Accepted (station places d t)
   -- "altitude never falls and pressure never rises, from d1 to d and from d to d2"
-  pub altitude-to-d : (t : Reading) (d₁ d d₂ : Float) → Asked t d₁ d d₂ → T (le (altitude_found (station places d₁ t)) (altitude_found (station places d t)))
-  pub altitude-from-d : (t : Reading) (d₁ d d₂ : Float) → Asked t d₁ d d₂ → T (le (altitude_found (station places d t)) (altitude_found (station places d₂ t)))
-  pub pressure-to-d : (t : Reading) (d₁ d d₂ : Float) → Asked t d₁ d d₂ → T (le (pressure_found (station places d t)) (pressure_found (station places d₁ t)))
-  pub pressure-from-d : (t : Reading) (d₁ d d₂ : Float) → Asked t d₁ d d₂ → T (le (pressure_found (station places d₂ t)) (pressure_found (station places d t)))
+  pub altitude_to_d : (t : Reading) (d₁ d d₂ : Float) → Asked t d₁ d d₂ → T (le (altitude_found (station places d₁ t)) (altitude_found (station places d t)))
+  pub altitude_from_d : (t : Reading) (d₁ d d₂ : Float) → Asked t d₁ d d₂ → T (le (altitude_found (station places d t)) (altitude_found (station places d₂ t)))
+  pub pressure_to_d : (t : Reading) (d₁ d d₂ : Float) → Asked t d₁ d d₂ → T (le (pressure_found (station places d t)) (pressure_found (station places d₁ t)))
+  pub pressure_from_d : (t : Reading) (d₁ d d₂ : Float) → Asked t d₁ d d₂ → T (le (pressure_found (station places d₂ t)) (pressure_found (station places d t)))
   -- "nor does the temperature rise where none was given"
-  pub temperature-to-d : (d₁ d d₂ : Float) → Asked FromLayer d₁ d d₂ → T (le (temperature_found (station places d FromLayer)) (temperature_found (station places d₁ FromLayer)))
-  pub temperature-from-d : (d₁ d d₂ : Float) → Asked FromLayer d₁ d d₂ → T (le (temperature_found (station places d₂ FromLayer)) (temperature_found (station places d FromLayer)))
+  pub temperature_to_d : (d₁ d d₂ : Float) → Asked FromLayer d₁ d d₂ → T (le (temperature_found (station places d FromLayer)) (temperature_found (station places d₁ FromLayer)))
+  pub temperature_from_d : (d₁ d d₂ : Float) → Asked FromLayer d₁ d d₂ → T (le (temperature_found (station places d₂ FromLayer)) (temperature_found (station places d FromLayer)))
   -- "if also d1 and d2 lie in −500 to 3,000 m, at least 1 m apart, and a given temperature in −40 to 50 °C, altitude strictly rises and pressure strictly falls"
-  pub altitude-strictly : (t : Reading) (d₁ d d₂ : Float) → Asked t d₁ d d₂ → InRange d₁ → InRange d₂ → OneMetreApart d₁ d₂ → Temperate t
+  pub altitude_strictly : (t : Reading) (d₁ d d₂ : Float) → Asked t d₁ d d₂ → InRange d₁ → InRange d₂ → OneMetreApart d₁ d₂ → Temperate t
       → T (lt (altitude_found (station places d₁ t)) (altitude_found (station places d₂ t)))
-  pub pressure-strictly : (t : Reading) (d₁ d d₂ : Float) → Asked t d₁ d d₂ → InRange d₁ → InRange d₂ → OneMetreApart d₁ d₂ → Temperate t
+  pub pressure_strictly : (t : Reading) (d₁ d d₂ : Float) → Asked t d₁ d d₂ → InRange d₁ → InRange d₂ → OneMetreApart d₁ d₂ → Temperate t
       → T (lt (pressure_found (station places d₂ t)) (pressure_found (station places d₁ t)))
   -- "contracts reject .. an inverse echoing the height .., one set of air for all": at both ends of the ranges
   pub rejects_wrong_inverses : Rejected
@@ -216,12 +216,12 @@ pub record K1 : Type 0 where
   pub rising : (m n : ℕ) → m < n → n < 51 → T (lt (celsius_of_row m) (celsius_of_row n))
   -- "the double's exact value rounded to nearest, halves away from zero; one that rounds to zero has no sign"
   pub halves_away : (decimal_text 0 (decimal "2.5") ≡ ascii "3") × (decimal_text 0 (decimal "-2.5") ≡ ascii "-3")
-  pub zero-unsigned : (decimal_text 1 (decimal "-0") ≡ ascii "0.0") × (decimal_text 1 (decimal "-0.04") ≡ ascii "0.0")
+  pub zero_unsigned : (decimal_text 1 (decimal "-0") ≡ ascii "0.0") × (decimal_text 1 (decimal "-0.04") ≡ ascii "0.0")
   -- "temperature and pressure count as given, with no default band, so the 15 °C row is 15 °C": each row but row 25, of 15 °C, which is in the band, is that of
   -- the record of its altitude, temperature, humidity and measured pressure; and each row is that of such a record at sea level, where nothing is a default
   pub record_row : (h p u : Float) (n : ℕ) → n < 51 → n ≢ 25 → NoneHolds (sheet_input_rows h p u)
       → row_outcome h p u (celsius_of_row n) ≡ (judged (with_entry (with_entry (with_entry (with_entry no_readings meaning.altitude h) meaning.temperature (celsius_of_row n)) humidity u) meaning.measured_pressure p) ⟫ figures_outcome (celsius_of_row n))
-  pub sea_level-row : (h p u : Float) (n : ℕ) → n < 51 → NoneHolds (sheet_input_rows h p u)
+  pub sea_level_row : (h p u : Float) (n : ℕ) → n < 51 → NoneHolds (sheet_input_rows h p u)
       → row_outcome h p u (celsius_of_row n) ≡ (judged (with_entry (with_entry (with_entry (with_entry no_readings meaning.altitude nought) meaning.temperature (celsius_of_row n)) humidity u) meaning.measured_pressure p) ⟫ figures_outcome (celsius_of_row n))
   -- and the sheet does not depend on the altitude
   pub any_altitude : (h k p u : Float) (room : ℕ) → is_finite h ≡ true → is_finite k ≡ true → setting_sheet h p u room ≡ setting_sheet k p u room
@@ -236,7 +236,7 @@ pub record K1 : Type 0 where
 pub record K2 : Type 0 where
   -- "NaN still goes to layer 0", "every other double lies in exactly one range"
   pub nan_in_0 : layer_at nan ≡ 0
-  pub one-range : (H : Float) → IsDouble H → is_nan H ≡ false → OnlyRange (layer_at H) H
+  pub one_range : (H : Float) → IsDouble H → is_nan H ≡ false → OnlyRange (layer_at H) H
   -- "no answer moves": it is the highest layer whose base is at most the height, as before
   pub unmoved : (H : Float) → IsDouble H → layer_at H ≡ highest_up_to 6 H
 
@@ -256,9 +256,9 @@ pub record K4 : Type 0 where
   pub alike : (s : List ℕ) → Rising (tags s) → judge_strictly s ≡ judge s
   pub or_19 : (s : List ℕ) → (judge_strictly s ≡ judge s) ⊎ (judge_strictly s ≡ refused 19 [])
   -- "a strict reader that takes only rising tags"
-  pub only-rising : (s : List ℕ) (f : Figures) → judge_strictly s ≡ accepted f → (judge s ≡ accepted f) × Rising (tags s)
+  pub only_rising : (s : List ℕ) (f : Figures) → judge_strictly s ≡ accepted f → (judge s ≡ accepted f) × Rising (tags s)
   -- "every record that the strict reader accepts is byte for byte what the writer makes of its fields"
-  pub written-again : (s : List ℕ) (f : Figures) → AreBytes s → judge_strictly s ≡ accepted f → s ≡ record_of (readings s)
+  pub written_again : (s : List ℕ) (f : Figures) → AreBytes s → judge_strictly s ≡ accepted f → s ≡ record_of (readings s)
   -- and it reads back what is written
   pub read_back : (r : Readings) → AreHeld r → read_record true (record_of r) ≡ accepted r
   -- "18: the writer's buffer is shorter than the record", "answers its length"
@@ -268,19 +268,19 @@ pub record K4 : Type 0 where
 pub record K5 : Type 0 where
   -- "no count in the signed 32-bit range gives exactly this double": the count of a double is found wherever there is one
   pub count_gives : (x : Float) (n : ℤ) → IsDouble x → count_for x ≡ counted.Count n → T (in_range n) × (thousandths n ≡ x)
-  pub count-found : (x : Float) (n : ℤ) → T (in_range n) → thousandths n ≡ x → count_for x ≡ counted.Count n
+  pub count_found : (x : Float) (n : ℤ) → T (in_range n) → thousandths n ≡ x → count_for x ≡ counted.Count n
   -- "a signed count of thousandths in four bytes, two's complement", from one end of the range to the other, and "minus zero has none"
-  pub word_of_count_lem : (n : ℤ) → T (in_range n) → twos_complement n < 2 ^ 32 × (count_of (twos_complement n) ≡ n)
-  pub greatest-count : (count_of 0x7FFFFFFF ≡ pos 2147483647) × (thousandths (pos 2147483647) ≡ decimal "2147483.647")
-  pub least-count : (count_of 0x80000000 ≡ negsuc 2147483647) × (thousandths (negsuc 2147483647) ≡ decimal "-2147483.648")
-  pub minus-zero : count_for (decimal "-0") ≡ counted.Missing
+  pub word_of_count : (n : ℤ) → T (in_range n) → twos_complement n < 2 ^ 32 × (count_of (twos_complement n) ≡ n)
+  pub greatest_count : (count_of 0x7FFFFFFF ≡ pos 2147483647) × (thousandths (pos 2147483647) ≡ decimal "2147483.647")
+  pub least_count : (count_of 0x80000000 ≡ negsuc 2147483647) × (thousandths (negsuc 2147483647) ≡ decimal "-2147483.648")
+  pub minus_zero : count_for (decimal "-0") ≡ counted.Missing
   -- "a record wholly in doubles that converts comes back with the same bytes", "and so does one wholly in counts"
   pub doubles_come_back : (s t : List ℕ) → AreBytes s → AllIn false (fields_of s) → converted true s ≡ accepted t → converted false t ≡ accepted s
   pub counts_come_back : (s t : List ℕ) → AreBytes s → AllIn true (fields_of s) → converted false s ≡ accepted t → converted true t ≡ accepted s
   -- "to the first reader figures and refusals are the same before and after"
-  pub judged-alike : (counts : Bool) (s t : List ℕ) → AreBytes s → converted counts s ≡ accepted t → judge t ≡ judge s
+  pub judged_alike : (counts : Bool) (s t : List ℕ) → AreBytes s → converted counts s ≡ accepted t → judge t ≡ judge s
   -- "20: converting to counts"
-  pub never_20_to-doubles : (s buffer : List ℕ) (values : List Float) → length_converted false s buffer ≡ refused 20 values → ⊥
+  pub never_20_to_doubles : (s buffer : List ℕ) (values : List Float) → length_converted false s buffer ≡ refused 20 values → ⊥
   -- "checked after the field checks 5 to 8 of the whole record. Last, an output too short is 18"
   pub conversion_caused : (counts : Bool) (s buffer : List ℕ)
       → ExactlyCaused ((read_rows false s ++ count_rows counts (fields_of s)) ++ row (ltb (length buffer) (length (record_in counts s))) 18 [] ∷ []) (length (record_in counts s)) (length_converted counts s buffer)
@@ -291,45 +291,45 @@ pub record K5 : Type 0 where
 -- ---- K6, a load for the acceptance bench
 pub record K6 : Type 0 where
   -- "SplitMix64 from state 0": its published outputs; "five outputs make one record"
-  pub first-output : output 0 ≡ 0xE220A8397B1DCDAF
-  pub third-output : output 2 ≡ 0x06C45D188009454F
+  pub first_output : output 0 ≡ 0xE220A8397B1DCDAF
+  pub third_output : output 2 ≡ 0x06C45D188009454F
   pub five_each : (n : ℕ) → drawn (state_after (5 * n)) ≡ record { counts = load_counts n; state = state_after (5 * (n + 1)) }
   -- "altitude −500 to 3,000 m ..": every record's counts lie in their ranges; both readers take it, and no check of a field refuses it
   pub in_ranges : (n : ℕ) → IsOfTheLoad (load_readings n)
-  pub judged_as_air_lem : (strict : Bool) (n : ℕ) → judge_by strict (load_record n) ≡ air_outcome (ordinary (load_readings n))
+  pub judged_as_air : (strict : Bool) (n : ℕ) → judge_by strict (load_record n) ≡ air_outcome (ordinary (load_readings n))
 
 -- ---- K7, three masts, one reading
 pub record K7 : Type 0 where
   -- "each field takes the middle of the three values"
   pub middle : (a b c : Readings) (m : ℕ) → m < meanings → entry_of (voted a b c) m ≡ middle_entry (entry_of a m) (entry_of b m) (entry_of c m)
   -- "the first that isn't gives its refusal and its mast"
-  pub first-mast : (a b c : List ℕ) (number : ℕ) (values : List Float) → judge a ≡ refused number values → vote a b c ≡ by_mast 1 (refused number values)
-  pub second-mast : (a b c : List ℕ) (number : ℕ) (values : List Float) → Accepts a → judge b ≡ refused number values → vote a b c ≡ by_mast 2 (refused number values)
-  pub third-mast : (a b c : List ℕ) (number : ℕ) (values : List Float) → Accepts a → Accepts b → judge c ≡ refused number values → vote a b c ≡ by_mast 3 (refused number values)
+  pub first_mast : (a b c : List ℕ) (number : ℕ) (values : List Float) → judge a ≡ refused number values → vote a b c ≡ by_mast 1 (refused number values)
+  pub second_mast : (a b c : List ℕ) (number : ℕ) (values : List Float) → Accepts a → judge b ≡ refused number values → vote a b c ≡ by_mast 2 (refused number values)
+  pub third_mast : (a b c : List ℕ) (number : ℕ) (values : List Float) → Accepts a → Accepts b → judge c ≡ refused number values → vote a b c ≡ by_mast 3 (refused number values)
   pub no_mast : (a b c : List ℕ) → Accepts a → Accepts b → Accepts c → (vote a b c).mast ≡ 0
   -- and only that one
-  pub first-mast-because : (a b c : List ℕ) (number : ℕ) (values : List Float) → vote a b c ≡ by_mast 1 (refused number values) → judge a ≡ refused number values
-  pub second-mast-because : (a b c : List ℕ) (number : ℕ) (values : List Float) → vote a b c ≡ by_mast 2 (refused number values) → Accepts a × (judge b ≡ refused number values)
-  pub third-mast-because : (a b c : List ℕ) (number : ℕ) (values : List Float) → vote a b c ≡ by_mast 3 (refused number values) → Accepts a × (Accepts b × (judge c ≡ refused number values))
+  pub first_mast_because : (a b c : List ℕ) (number : ℕ) (values : List Float) → vote a b c ≡ by_mast 1 (refused number values) → judge a ≡ refused number values
+  pub second_mast_because : (a b c : List ℕ) (number : ℕ) (values : List Float) → vote a b c ≡ by_mast 2 (refused number values) → Accepts a × (judge b ≡ refused number values)
+  pub third_mast_because : (a b c : List ℕ) (number : ℕ) (values : List Float) → vote a b c ≡ by_mast 3 (refused number values) → Accepts a × (Accepts b × (judge c ≡ refused number values))
   -- the masts' refusals, then 21, then "the voted record is then judged as any record is": each number has exactly its cause
-  pub vote-caused : (a b c : List ℕ) → let q = voted (readings a) (readings b) (readings c) in
+  pub vote_caused : (a b c : List ℕ) → let q = voted (readings a) (readings b) (readings c) in
       ExactlyCaused (record_rows false a ++ (record_rows false b ++ (record_rows false c ++ (shared_rows (readings a) (readings b) (readings c) ++ reading_rows q)))) (figures_of (resolved q)) (vote a b c).outcome
   -- "21: a field, by meaning and in either form, is in one or two of the three records; checked after the masts and before the vote"
   pub by_21 : (a b c : List ℕ) (m : ℕ) → Accepts a → Accepts b → Accepts c → m < meanings → 1 ≤ in_how_many a b c m → in_how_many a b c m ≤ 2 → vote a b c ≡ by_no_mast (refused 21 [])
   pub because_21 : (a b c : List ℕ) (values : List Float) → (vote a b c).outcome ≡ refused 21 values
       → (Accepts a × (Accepts b × Accepts c)) × ((m : ℕ) × ((m < meanings) × ((1 ≤ in_how_many a b c m) × (in_how_many a b c m ≤ 2))))
   -- "minus zero before plus zero"
-  pub zeros-after-negative : (x : Float) → T (lt x (decimal "0")) → three.middle x (decimal "0") (decimal "-0") ≡ decimal "-0"
-  pub zeros-before-positive : (x : Float) → T (lt (decimal "0") x) → three.middle x (decimal "0") (decimal "-0") ≡ decimal "0"
-  pub two-minus-zeros : three.middle (decimal "-0") (decimal "0") (decimal "-0") ≡ decimal "-0"
-  pub two-plus-zeros : three.middle (decimal "0") (decimal "0") (decimal "-0") ≡ decimal "0"
+  pub zeros_after_negative : (x : Float) → T (lt x (decimal "0")) → three.middle x (decimal "0") (decimal "-0") ≡ decimal "-0"
+  pub zeros_before_positive : (x : Float) → T (lt (decimal "0") x) → three.middle x (decimal "0") (decimal "-0") ≡ decimal "0"
+  pub two_minus_zeros : three.middle (decimal "-0") (decimal "0") (decimal "-0") ≡ decimal "-0"
+  pub two_plus_zeros : three.middle (decimal "0") (decimal "0") (decimal "-0") ≡ decimal "0"
   -- so three equal records vote as the one, and two equal ones outvote a third with the same fields
   pub three_equal : (s : List ℕ) (f : Figures) → judge s ≡ accepted f → vote s s s ≡ by_no_mast (accepted f)
   pub two_equal : (s t : List ℕ) (r q : Readings) (f : Figures) → accepted_readings s ≡ accepted r → accepted_readings t ≡ accepted q → SameFields r q → judge s ≡ accepted f
       → vote t s s ≡ by_no_mast (accepted f)
   -- "exchanging the masts changes no accepted figures"
-  pub first-exchange : (a b c : List ℕ) (f : Figures) → vote a b c ≡ by_no_mast (accepted f) → vote b a c ≡ by_no_mast (accepted f)
-  pub last-exchange : (a b c : List ℕ) (f : Figures) → vote a b c ≡ by_no_mast (accepted f) → vote a c b ≡ by_no_mast (accepted f)
+  pub first_exchange : (a b c : List ℕ) (f : Figures) → vote a b c ≡ by_no_mast (accepted f) → vote b a c ≡ by_no_mast (accepted f)
+  pub last_exchange : (a b c : List ℕ) (f : Figures) → vote a b c ≡ by_no_mast (accepted f) → vote a c b ≡ by_no_mast (accepted f)
 
 -- ---- K8, warmer means lower: "between two accepted given temperatures"
 pub record Warmed (d t₁ t t₂ : Float) : Type 0 where
@@ -341,17 +341,17 @@ pub record Warmed (d t₁ t t₂ : Float) : Type 0 where
 
 pub record K8 : Type 0 where
   -- it is asked of equal temperatures and of distant ones, from the least that is accepted
-  pub warmed-to-itself : Warmed (decimal "0") (decimal "15") (decimal "15") (decimal "15")
-  pub warmed-from-the-least : Warmed (decimal "0") (decimal "-273.1499999999999") (decimal "0") (decimal "1e55")
+  pub warmed_to_itself : Warmed (decimal "0") (decimal "15") (decimal "15") (decimal "15")
+  pub warmed_from_the_least : Warmed (decimal "0") (decimal "-273.1499999999999") (decimal "0") (decimal "1e55")
   -- "every temperature is accepted"
   pub accepted : (d t₁ t t₂ : Float) → Warmed d t₁ t t₂ → Accepted (station places d (Given t))
   -- "the resolved altitude never rises with warmth and the pressure never falls"
-  pub altitude-to-t : (d t₁ t t₂ : Float) → Warmed d t₁ t t₂ → T (le (altitude_found (station places d (Given t))) (altitude_found (station places d (Given t₁))))
-  pub altitude-from-t : (d t₁ t t₂ : Float) → Warmed d t₁ t t₂ → T (le (altitude_found (station places d (Given t₂))) (altitude_found (station places d (Given t))))
-  pub pressure-to-t : (d t₁ t t₂ : Float) → Warmed d t₁ t t₂ → T (le (pressure_found (station places d (Given t₁))) (pressure_found (station places d (Given t))))
-  pub pressure-from-t : (d t₁ t t₂ : Float) → Warmed d t₁ t t₂ → T (le (pressure_found (station places d (Given t))) (pressure_found (station places d (Given t₂))))
+  pub altitude_to_t : (d t₁ t t₂ : Float) → Warmed d t₁ t t₂ → T (le (altitude_found (station places d (Given t))) (altitude_found (station places d (Given t₁))))
+  pub altitude_from_t : (d t₁ t t₂ : Float) → Warmed d t₁ t t₂ → T (le (altitude_found (station places d (Given t₂))) (altitude_found (station places d (Given t))))
+  pub pressure_to_t : (d t₁ t t₂ : Float) → Warmed d t₁ t t₂ → T (le (pressure_found (station places d (Given t₁))) (pressure_found (station places d (Given t))))
+  pub pressure_from_t : (d t₁ t t₂ : Float) → Warmed d t₁ t t₂ → T (le (pressure_found (station places d (Given t))) (pressure_found (station places d (Given t₂))))
   -- "`faa_rule_density_altitude_ft` never falls with temperature, for finite temperatures and a finite pressure of at least 0"
-  pub faa-never-falls : (p t₁ t₂ : Float) → IsDouble p → IsDouble t₁ → IsDouble t₂ → T (is_finite p) → T (le nought p) → T (is_finite t₁) → T (is_finite t₂) → T (le t₁ t₂)
+  pub faa_never_falls : (p t₁ t₂ : Float) → IsDouble p → IsDouble t₁ → IsDouble t₂ → T (is_finite p) → T (le nought p) → T (is_finite t₁) → T (is_finite t₂) → T (le t₁ t₂)
       → T (le (faa_density_altitude places p t₁) (faa_density_altitude places p t₂))
   pub rejects_wrong_answers : RejectedByWarmth
 
@@ -361,14 +361,14 @@ pub record K9 : Type 0 where
   pub smallest : (bytes : List ℕ) (s : Start) (t : Turn) → Asks bytes s → next_trim_class bytes ≡ accepted (record { class = s.class; turn = found.Turn t })
       → FirstToGive s t.change t.class
   -- "equal k: temperature before pressure, up before down", and every k before the next
-  pub up-before-down : (q : Quantity) (k : ℕ) → place (change q Up k) < place (change q Down k)
-  pub temperature-first : (k : ℕ) → place (change Temperature Down k) < place (change MeasuredPressure Up k)
+  pub up_before_down : (q : Quantity) (k : ℕ) → place (change q Up k) < place (change q Down k)
+  pub temperature_first : (k : ℕ) → place (change Temperature Down k) < place (change MeasuredPressure Up k)
   pub smaller_first : (k : ℕ) → place (change MeasuredPressure Down k) < place (change Temperature Up (k + 1))
   -- "the answer 'no change within 200' comes only if none of the 800 does it"
-  pub none-because : (bytes : List ℕ) (s : Start) → Asks bytes s → next_trim_class bytes ≡ accepted (record { class = s.class; turn = found.Nothing }) → NoneGives s
+  pub none_because : (bytes : List ℕ) (s : Start) → Asks bytes s → next_trim_class bytes ≡ accepted (record { class = s.class; turn = found.Nothing }) → NoneGives s
   pub none_where : (bytes : List ℕ) (s : Start) → Asks bytes s → NoneGives s → next_trim_class bytes ≡ accepted (record { class = s.class; turn = found.Nothing })
   -- "22: no temperature or no measured pressure in an otherwise accepted record"
-  pub own-refusal : (bytes : List ℕ) (number : ℕ) (values : List Float) → judge bytes ≡ refused number values → next_trim_class bytes ≡ refused number values
+  pub own_refusal : (bytes : List ℕ) (number : ℕ) (values : List Float) → judge bytes ≡ refused number values → next_trim_class bytes ≡ refused number values
   pub by_22 : (bytes : List ℕ) (r : Readings) (f : Figures) → read_record false bytes ≡ accepted r → judged r ≡ accepted f
       → (entry_of r meaning.temperature ≡ Absent) ⊎ (entry_of r meaning.measured_pressure ≡ Absent) → next_trim_class bytes ≡ refused 22 []
   -- each number has exactly its cause: those of the record, then 22
@@ -378,30 +378,30 @@ pub record K9 : Type 0 where
   pub answered : (bytes : List ℕ) (f : Figures) (t p : Float) → judge bytes ≡ accepted f → entry_of (readings bytes) meaning.temperature ≡ Present t
       → entry_of (readings bytes) meaning.measured_pressure ≡ Present p → (n : Next) × (next_trim_class bytes ≡ accepted n)
   -- "the count of these densities at or below the figure: 1.00, 1.05, 1.10, 1.15, 1.20, 1.25 kg/m³"
-  pub class-counts : (r : Readings) (f : Figures) → judged r ≡ accepted f → let d = f.density_kg_m3 in
+  pub class_counts : (r : Readings) (f : Figures) → judged r ≡ accepted f → let d = f.density_kg_m3 in
       class_of r ≡ accepted (cond (le (decimal "1.00") d) 1 0 + cond (le (decimal "1.05") d) 1 0 + cond (le (decimal "1.10") d) 1 0 + cond (le (decimal "1.15") d) 1 0 + cond (le (decimal "1.20") d) 1 0 + cond (le (decimal "1.25") d) 1 0)
 
 -- ---- K10, sixty places
 pub record K10 : Type 0 where
   -- "a greater input still never gives a smaller word or antilog"
-  pub word-rises : (x y : Float) → IsDouble x → IsDouble y → T (positive x) → T (positive y) → T (le x y) → log_word 60 x ≤ℤ log_word 60 y
-  pub antilog-rises : (P Q : ℤ) → P ≤ℤ Q → T (le (antilog 60 P) (antilog 60 Q))
-  pub exp-rises : (x y : Float) → IsDouble x → IsDouble y → T (le x y) → T (le (exp 60 x) (exp 60 y))
+  pub word_rises : (x y : Float) → IsDouble x → IsDouble y → T (positive x) → T (positive y) → T (le x y) → log_word 60 x ≤ℤ log_word 60 y
+  pub antilog_rises : (P Q : ℤ) → P ≤ℤ Q → T (le (antilog 60 P) (antilog 60 Q))
+  pub exp_rises : (x y : Float) → IsDouble x → IsDouble y → T (le x y) → T (le (exp 60 x) (exp 60 y))
   -- nor a smaller ln or power, from 0 up; a power with a negative exponent never rises, and the power 3 never falls over all doubles
-  pub ln-rises : (x y : Float) → IsDouble x → IsDouble y → T (le nought x) → T (le x y) → T (le (ln 60 x) (ln 60 y))
-  pub power-rises : (q : Exponent) → q.negative ≡ false → (x y : Float) → IsDouble x → IsDouble y → T (le nought x) → T (le x y) → T (le (power 60 q x) (power 60 q y))
-  pub power-falls : (q : Exponent) → q.negative ≡ true → (x y : Float) → IsDouble x → IsDouble y → T (le nought x) → T (le x y) → T (le (power 60 q y) (power 60 q x))
-  pub cube-rises : (q : Exponent) → is_three q ≡ true → (x y : Float) → IsDouble x → IsDouble y → T (le x y) → T (le (power 60 q x) (power 60 q y))
+  pub ln_rises : (x y : Float) → IsDouble x → IsDouble y → T (le nought x) → T (le x y) → T (le (ln 60 x) (ln 60 y))
+  pub power_rises : (q : Exponent) → q.negative ≡ false → (x y : Float) → IsDouble x → IsDouble y → T (le nought x) → T (le x y) → T (le (power 60 q x) (power 60 q y))
+  pub power_falls : (q : Exponent) → q.negative ≡ true → (x y : Float) → IsDouble x → IsDouble y → T (le nought x) → T (le x y) → T (le (power 60 q y) (power 60 q x))
+  pub cube_rises : (q : Exponent) → is_three q ≡ true → (x y : Float) → IsDouble x → IsDouble y → T (le x y) → T (le (power 60 q x) (power 60 q y))
 
 -- ---- K11, moisture and range in the answer
 pub record K11 : Type 0 where
   -- "the mark is set exactly if the shown temperature is 15 to 27 °C and the pressure 600 to 1,100 hPa, ends included"
-  pub marked-because : (r : Readings) (f : Figures) → judged r ≡ accepted f → f.in_cipm_range ≡ true
+  pub marked_because : (r : Readings) (f : Figures) → judged r ≡ accepted f → f.in_cipm_range ≡ true
       → T (le (decimal "15") f.temperature_c) × T (le f.temperature_c (decimal "27")) × T (le (decimal "600") f.pressure_hpa) × T (le f.pressure_hpa (decimal "1100"))
   pub marked_where : (r : Readings) (f : Figures) → judged r ≡ accepted f → T (le (decimal "15") f.temperature_c) → T (le f.temperature_c (decimal "27"))
       → T (le (decimal "600") f.pressure_hpa) → T (le f.pressure_hpa (decimal "1100")) → f.in_cipm_range ≡ true
   -- "the capped vapour mole fraction that the density uses", both of the resolved temperature and pressure by K and Pa
-  pub fraction-capped : (r : Readings) (f : Figures) → judged r ≡ accepted f → let a = resolved r in
+  pub fraction_capped : (r : Readings) (f : Figures) → judged r ≡ accepted f → let a = resolved r in
       f.vapor_mole_fraction ≡ capped (mole_fraction_celsius places (kelvins places a.altitude_m a.temperature ⊖ ice_point) (pascals places a.altitude_m a.pressure ⊘ hundred) (clamp_double a.humidity_percent nought hundred))
   pub density_uses_it : (r : Readings) (f : Figures) → judged r ≡ accepted f → let a = resolved r in
       f.density_kg_m3 ≡ air_density_at (kelvins places a.altitude_m a.temperature ⊖ ice_point) (pascals places a.altitude_m a.pressure ⊘ hundred) f.vapor_mole_fraction
@@ -409,7 +409,7 @@ pub record K11 : Type 0 where
 -- ---- K12, humid density altitudes
 pub record K12 : Type 0 where
   -- "two records that differ only in humidity resolve to the same first three figures where both are accepted"
-  pub same-station : (r q : Readings) → ((m : ℕ) → m ≢ humidity → entry_of r m ≡ entry_of q m) → (f g : Figures) → judged r ≡ accepted f → judged q ≡ accepted g
+  pub same_station : (r q : Readings) → ((m : ℕ) → m ≢ humidity → entry_of r m ≡ entry_of q m) → (f g : Figures) → judged r ≡ accepted f → judged q ≡ accepted g
       → (f.altitude_m ≡ g.altitude_m) × ((f.temperature_c ≡ g.temperature_c) × (f.pressure_hpa ≡ g.pressure_hpa))
 
 -- ---- K13, quicker roots
@@ -423,22 +423,22 @@ pub record K13 : Type 0 where
 -- ---- K14, how near is near: "over any number of places from 1 to 60"
 pub record K14 : Type 0 where
   -- "2 to the L is at most x to the 2^60, and that is less than 2 to the (L + 2)"
-  pub word-at_most : (n : ℕ) → 1 ≤ n → n ≤ 60 → (x : Float) → IsDouble x → T (positive x) → two_to_the (log_word n x) isAtMost exact_value x toThe (2 ^ n)
-  pub word-near : (n : ℕ) → 1 ≤ n → n ≤ 60 → (x : Float) → IsDouble x → T (positive x) → exact_value x toThe (2 ^ n) isBelow two_to_the (log_word n x +ℤ pos 2)
+  pub word_at_most : (n : ℕ) → 1 ≤ n → n ≤ 60 → (x : Float) → IsDouble x → T (positive x) → two_to_the (log_word n x) is_at_most exact_value x to_the (2 ^ n)
+  pub word_near : (n : ℕ) → 1 ≤ n → n ≤ 60 → (x : Float) → IsDouble x → T (positive x) → exact_value x to_the (2 ^ n) is_below two_to_the (log_word n x +ℤ pos 2)
   -- "Y to the 2^60 is at most 2 to the (62 × 2^60 + f), and that is less than (Y + 4) to the 2^60"
-  pub antilog-at_most : (n : ℕ) → 1 ≤ n → n ≤ 60 → (f : ℕ) → f < 2 ^ n → antilog_root n f ^ 2 ^ n ≤ 2 ^ (62 * 2 ^ n + f)
-  pub antilog-near : (n : ℕ) → 1 ≤ n → n ≤ 60 → (f : ℕ) → f < 2 ^ n → 2 ^ (62 * 2 ^ n + f) < (antilog_root n f + 4) ^ 2 ^ n
+  pub antilog_at_most : (n : ℕ) → 1 ≤ n → n ≤ 60 → (f : ℕ) → f < 2 ^ n → antilog_root n f ^ 2 ^ n ≤ 2 ^ (62 * 2 ^ n + f)
+  pub antilog_near : (n : ℕ) → 1 ≤ n → n ≤ 60 → (f : ℕ) → f < 2 ^ n → 2 ^ (62 * 2 ^ n + f) < (antilog_root n f + 4) ^ 2 ^ n
   -- fewer than two units, and than four, are too few
-  pub word_needs_two : let x = fin false 3614860327554031 (pos 1) in (exact_value x toThe (2 ^ 12) isBelow two_to_the (log_word 12 x +ℤ pos 1)) → ⊥
+  pub word_needs_two : let x = fin false 3614860327554031 (pos 1) in (exact_value x to_the (2 ^ 12) is_below two_to_the (log_word 12 x +ℤ pos 1)) → ⊥
   pub antilog_needs_two : 2 ^ (62 * 2 ^ 4 + 7) < (antilog_root 4 7 + 1) ^ 2 ^ 4 → ⊥
   -- and what it makes of the 27 powers, in units of 2^-60: half a unit in the double's last place is 2^7 of them
-  pub power-near : (i : ℕ) → i < 27 → (x : Float) → IsDouble x → T (positive x) → Normal (power_at 60 i x)
+  pub power_near : (i : ℕ) → i < 27 → (x : Float) → IsDouble x → T (positive x) → Normal (power_at 60 i x)
       → InBounds (2 ^ 7 + 5 + 2 * ((exponent_at i).magnitude / 2 ^ 58)) 60 (power_at 60 i x) (2 ^ 58) (raised (exponent_at i) (exact_value x))
   -- of exp, for every b that lies as near to e as 21 decimals tell
-  pub exp-near : (b : Fraction) → 0 < b.under → e_below isAtMost b → b isAtMost e_above → (x : Float) → IsDouble x → T (finite x) → Normal (exp 60 x)
+  pub exp_near : (b : Fraction) → 0 < b.under → e_below is_at_most b → b is_at_most e_above → (x : Float) → IsDouble x → T (finite x) → Normal (exp 60 x)
       → InBounds (2 ^ 7 + 6 + num x / (4 * den x)) 60 (exp 60 x) (den x) (raised_by x b)
   -- and of ln, which rounds F / 2^60
-  pub ln-near : (b : Fraction) → 0 < b.under → e_below isAtMost b → b isAtMost e_above → (x : Float) → IsDouble x → T (positive x)
+  pub ln_near : (b : Fraction) → 0 < b.under → e_below is_at_most b → b is_at_most e_above → (x : Float) → IsDouble x → T (positive x)
       → LnWithin 60 b x (floor_div (log_word 60 x *ℤ pos ln2) (2 ^ 62))
 
 -- ---- how near the figures are to the documents' formulas in exact numbers, at -40 to 50 °C, 500 to 1,100 hPa and 0 to 100 percent (`InScope t p h`). `IsNear 45 x X`
@@ -446,22 +446,22 @@ pub record K14 : Type 0 where
 -- temperature and of a pressure that are given or the standard atmosphere's. Roots and powers of e are no fractions: each promise holds for all fractions that stand for them.
 pub record Near : Type 0 where
   -- the density, CIPM-2007, equation (1), with the saturation pressure of the IAPWS release: within 2^-45 kg/m³, which is 2.8e-14, and of dry air 2^-47
-  pub density-near : (altitude : Float) (t₀ p₀ : Reading) (h : Float) → let t = shown_celsius t₀ altitude in let p = shown_hectopascals p₀ altitude in InScope t p h → (s : Saturation (kelvin t))
+  pub density_near : (altitude : Float) (t₀ p₀ : Reading) (h : Float) → let t = shown_celsius t₀ altitude in let p = shown_hectopascals p₀ altitude in InScope t p h → (s : Saturation (kelvin t))
       → IsNear 45 (atmosphere places altitude t₀ p₀ h).density_kg_m3 (exact_density (pascal p) (kelvin t) (vapour t p h s))
-  pub dry-density-near : (altitude : Float) (t₀ p₀ : Reading) → let t = shown_celsius t₀ altitude in let p = shown_hectopascals p₀ altitude in InScope t p nought
+  pub dry_density_near : (altitude : Float) (t₀ p₀ : Reading) → let t = shown_celsius t₀ altitude in let p = shown_hectopascals p₀ altitude in InScope t p nought
       → IsNear 47 (atmosphere places altitude t₀ p₀ nought).density_kg_m3 (exact_density (pascal p) (kelvin t) (the "0"))
   -- the mole fraction of water vapour, x_v = h f p_sv / p: within 2^-44
-  pub fraction-near : (altitude : Float) (t₀ p₀ : Reading) (h : Float) → let t = shown_celsius t₀ altitude in let p = shown_hectopascals p₀ altitude in InScope t p h → (s : Saturation (kelvin t))
+  pub fraction_near : (altitude : Float) (t₀ p₀ : Reading) (h : Float) → let t = shown_celsius t₀ altitude in let p = shown_hectopascals p₀ altitude in InScope t p h → (s : Saturation (kelvin t))
       → IsNear 44 (atmosphere places altitude t₀ p₀ h).vapor_mole_fraction (vapour t p h s)
   -- the speed of sound, c^2 = γ R T: within 2^-37 m/s, which is 7.3e-12
-  pub sound-near : (altitude : Float) (t₀ p₀ : Reading) (h : Float) → let t = shown_celsius t₀ altitude in let p = shown_hectopascals p₀ altitude in InScope t p h → (s : Saturation (kelvin t))
+  pub sound_near : (altitude : Float) (t₀ p₀ : Reading) (h : Float) → let t = shown_celsius t₀ altitude in let p = shown_hectopascals p₀ altitude in InScope t p h → (s : Saturation (kelvin t))
       → (c : Fraction) → IsRoot c (squared_speed (kelvin t) (vapour t p h s)) → IsNear 37 (atmosphere places altitude t₀ p₀ h).speed_of_sound_mps (of c)
   -- the saturation pressure, IAPWS SR1-86(1992), equation (1): within 2^-35 hPa, and within one part in 2^41 of itself
-  pub saturation-near : (T : Float) → Between (decimal "233.15") (decimal "323.15") T → (s : Saturation (number T)) → IsNear 35 (saturation_pressure places T) (pressure_of s)
-  pub saturation-nearly : (T : Float) → Between (decimal "233.15") (decimal "323.15") T → (s : Saturation (number T)) → IsNearly 41 (saturation_pressure places T) (pressure_of s)
+  pub saturation_near : (T : Float) → Between (decimal "233.15") (decimal "323.15") T → (s : Saturation (number T)) → IsNear 35 (saturation_pressure places T) (pressure_of s)
+  pub saturation_nearly : (T : Float) → Between (decimal "233.15") (decimal "323.15") T → (s : Saturation (number T)) → IsNearly 41 (saturation_pressure places T) (pressure_of s)
   -- there are such fractions everywhere, so none of this is said of nothing
-  pub saturation-exists : (T : Float) → Between (decimal "233.15") (decimal "323.15") T → Saturation (number T)
-  pub saturation-exists-celsius : (t : Float) → Between (decimal "-40") (decimal "50") t → Saturation (kelvin t)
+  pub saturation_exists : (T : Float) → Between (decimal "233.15") (decimal "323.15") T → Saturation (number T)
+  pub saturation_exists_celsius : (t : Float) → Between (decimal "-40") (decimal "50") t → Saturation (kelvin t)
   pub speed_exists : (t p h : Float) → InScope t p h → (s : Saturation (kelvin t)) → (c : Fraction) × IsRoot c (squared_speed (kelvin t) (vapour t p h s))
   -- so the figures of every accepted record that shows a temperature and a pressure of these ranges, measured, of a QNH or of the standard atmosphere
   pub record_density : (r : Readings) (f : Figures) → judged r ≡ accepted f → let t = f.temperature_c in let p = f.pressure_hpa in let h = (resolved r).humidity_percent in InScope t p h
@@ -472,41 +472,41 @@ pub record Near : Type 0 where
       → (s : Saturation (kelvin t)) (c : Fraction) → IsRoot c (squared_speed (kelvin t) (vapour t p h s)) → IsNear 37 f.speed_of_sound_mps (of c)
   -- what is printed with j decimals lies within half a unit of the last of them and 2^-k of the number to which the figure is near: the density on the sheet and in
   -- the report, with four decimals, within 0.00005 and 2^-45 kg/m³ of the formula
-  pub printed-near : (j k : ℕ) (x : Float) (X : Exact) → IsDouble x → IsNear k x X → IsPrinted j k (decimal_text j x) X
+  pub printed_near : (j k : ℕ) (x : Float) (X : Exact) → IsDouble x → IsNear k x X → IsPrinted j k (decimal_text j x) X
   -- the trim class is that of the exact density, the count of the limits at or below it, unless it lies within 2^-45 kg/m³ of a limit
-  pub class-near : (r : Readings) (f : Figures) → judged r ≡ accepted f → let t = f.temperature_c in let p = f.pressure_hpa in let h = (resolved r).humidity_percent in InScope t p h
+  pub class_near : (r : Readings) (f : Figures) → judged r ≡ accepted f → let t = f.temperature_c in let p = f.pressure_hpa in let h = (resolved r).humidity_percent in InScope t p h
       → (s : Saturation (kelvin t)) → let ρ = exact_density (pascal p) (kelvin t) (vapour t p h s) in FarFromEach 45 ρ class_densities → class_of r ≡ accepted (exact_count class_densities ρ)
   -- the root of a greater number is no less, and so the speed of sound in dry air never falls where the temperature rises, at any two altitudes and pressures
-  pub sqrt-rises : (x y : Float) → IsDouble x → IsDouble y → T (positive x) → T (positive y) → T (le x y) → T (le (sqrt x) (sqrt y))
-  pub dry-sound-rises : (altitude altitude' t u p q : Float) → InScope t p nought → InScope u q nought → T (le t u)
+  pub sqrt_rises : (x y : Float) → IsDouble x → IsDouble y → T (positive x) → T (positive y) → T (le x y) → T (le (sqrt x) (sqrt y))
+  pub dry_sound_rises : (altitude altitude' t u p q : Float) → InScope t p nought → InScope u q nought → T (le t u)
       → T (le (atmosphere places altitude (Given t) (Given p) nought).speed_of_sound_mps (atmosphere places altitude' (Given u) (Given q) nought).speed_of_sound_mps)
   -- and the density of dry air at one pressure falls with every degree, and so down a dry sheet of any pressure from 500 to 1,100 hPa, over its 51 rows
-  pub dry-density-falls : (altitude altitude' t u p : Float) → InScope t p nought → InScope u p nought → T (is_not_above (number t ⊞ the "1") (number u))
+  pub dry_density_falls : (altitude altitude' t u p : Float) → InScope t p nought → InScope u p nought → T (is_not_above (number t ⊞ the "1") (number u))
       → T (lt (atmosphere places altitude' (Given u) (Given p) nought).density_kg_m3 (atmosphere places altitude (Given t) (Given p) nought).density_kg_m3)
   pub dry_sheet_falls : (altitude p : Float) → Between (decimal "500") (decimal "1100") p → (m n : ℕ) → m < n → n < 51
-      → T (lt (figures_of (rowStation altitude p nought (celsius_of_row n))).density_kg_m3 (figures_of (rowStation altitude p nought (celsius_of_row m))).density_kg_m3)
+      → T (lt (figures_of (row_station altitude p nought (celsius_of_row n))).density_kg_m3 (figures_of (row_station altitude p nought (celsius_of_row m))).density_kg_m3)
 
 -- ---- how near the standard atmosphere, the pressure of a QNH and the altitudes are to their formulas, in the same way; powers are no fractions either
 pub record AltitudesNear : Type 0 where
   -- the standard temperature, ICAO Doc 7488, T = T_b + β (H - H_b) with H = r h / (r + h): within 2^-42 K, which is 2.3e-13, in K and as it is shown
-  pub standard_temperature_lem : (h : Float) → Between (decimal "-500") (decimal "11000") h
+  pub standard_temperature : (h : Float) → Between (decimal "-500") (decimal "11000") h
       → IsNear 42 (standard_air places h).temperature_k (troposphere.exact_temperature (number h)) × IsNear 42 (shown_celsius FromLayer h) (troposphere.exact_temperature (number h) ⊟ the "273.15")
   -- the standard pressure, p = p_b (1 + β / T_b (H - H_b)) ^ (-g₀ / (β R)): within 2^-31 Pa, which is 4.7e-10, and as it is shown within 2^-37 hPa
-  pub standard_pressure_lem : (h : Float) → Between (decimal "-500") (decimal "11000") h → (p : troposphere.PressureRatio (number h))
+  pub standard_pressure : (h : Float) → Between (decimal "-500") (decimal "11000") h → (p : troposphere.PressureRatio (number h))
       → IsNear 31 (standard_air places h).pressure_pa (troposphere.exact_pressure p) × IsNear 37 (shown_hectopascals FromLayer h) (troposphere.exact_pressure p ÷ the "100")
   -- up to 5,000 m the standard air lies in these ranges
   pub standard_in_scope : (altitude h : Float) → Between (decimal "-500") (decimal "5000") altitude → Between (decimal "0") (decimal "100") h → InScope (shown_celsius FromLayer altitude) (shown_hectopascals FromLayer altitude) h
   -- a QNH reduced to the station, QNH (1 + (L H / T0) (P0 / QNH) ^ n) ^ (1 / n) with n = -L R / g: within 2^-37 hPa, which is 7.3e-12
-  pub qnh-near : (qnh h : Float) → Between (decimal "500") (decimal "1100") qnh → Between (decimal "-500") (decimal "5000") h → (r : reduction.Reduction (number qnh) (number h)) → IsNear 37 (reduced_qnh places qnh h) (reduction.station_hpa r)
+  pub qnh_near : (qnh h : Float) → Between (decimal "500") (decimal "1100") qnh → Between (decimal "-500") (decimal "5000") h → (r : reduction.Reduction (number qnh) (number h)) → IsNear 37 (reduced_qnh places qnh h) (reduction.station_hpa r)
   -- the pressure altitude, National Weather Service, 145366.45 ft (1 - (p / 1013.25) ^ 0.190284): within 2^-36 m, which is 1.5e-11
-  pub pressure_altitude-near : (p : Float) → Between (decimal "500") (decimal "1100") p → (r : nws.RaisedPressure (number p)) → IsNear 36 (pressure_altitude places p) (nws.exact_nws_altitude r)
+  pub pressure_altitude_near : (p : Float) → Between (decimal "500") (decimal "1100") p → (r : nws.RaisedPressure (number p)) → IsNear 36 (pressure_altitude places p) (nws.exact_nws_altitude r)
   -- the density-matched altitude, T_0 / -β (1 - (ρ / ρ_0) ^ (1 / n)) with n = -g₀ / (β R) - 1, at the exact density: within 2^-30 m, which is 9.3e-10
-  pub density_altitude-near : (t p h : Float) → InScope t p h → (s : Saturation (kelvin t)) (r : matched.RaisedDensity (matched.exact_air_density t p h s)) → IsNear 30 (density_matched_altitude places t p h) (matched.matched_altitude r)
+  pub density_altitude_near : (t p h : Float) → InScope t p h → (s : Saturation (kelvin t)) (r : matched.RaisedDensity (matched.exact_air_density t p h s)) → IsNear 30 (density_matched_altitude places t p h) (matched.matched_altitude r)
   -- there are such fractions everywhere
-  pub pressure_ratio-exists : (h : Float) → Between (decimal "-500") (decimal "11000") h → troposphere.PressureRatio (number h)
-  pub reduction-exists : (qnh h : Float) → Between (decimal "500") (decimal "1100") qnh → Between (decimal "-500") (decimal "5000") h → reduction.Reduction (number qnh) (number h)
-  pub raised-pressure-exists : (p : Float) → Between (decimal "500") (decimal "1100") p → nws.RaisedPressure (number p)
-  pub raised-density-exists : (t p h : Float) → InScope t p h → (s : Saturation (kelvin t)) → matched.RaisedDensity (matched.exact_air_density t p h s)
+  pub pressure_ratio_exists : (h : Float) → Between (decimal "-500") (decimal "11000") h → troposphere.PressureRatio (number h)
+  pub reduction_exists : (qnh h : Float) → Between (decimal "500") (decimal "1100") qnh → Between (decimal "-500") (decimal "5000") h → reduction.Reduction (number qnh) (number h)
+  pub raised_pressure_exists : (p : Float) → Between (decimal "500") (decimal "1100") p → nws.RaisedPressure (number p)
+  pub raised_density_exists : (t p h : Float) → InScope t p h → (s : Saturation (kelvin t)) → matched.RaisedDensity (matched.exact_air_density t p h s)
   -- so every accepted record whose temperature or pressure comes from the layer
   pub record_temperature : (r : Readings) (f : Figures) → judged r ≡ accepted f → (resolved r).temperature ≡ FromLayer → let h = f.altitude_m in Between (decimal "-500") (decimal "11000") h
       → IsNear 42 f.temperature_c (troposphere.exact_temperature (number h) ⊟ the "273.15")
@@ -523,40 +523,40 @@ pub record AltitudesNear : Type 0 where
 -- ---- typed at the park
 pub record AtThePark : Type 0 where
   -- decimals as they are typed, and whole reports
-  pub typed-decimals : (typed 3 (ascii "1586") ≡ typed-as.Count (pos 1586000)) × (typed 3 (ascii "-15.25") ≡ typed-as.Count (negsuc 15249)) × (typed 3 (ascii "-0") ≡ typed-as.Count (pos 0))
-  pub typed-ends : (typed 3 (ascii "2147483.647") ≡ typed-as.Count (pos 2147483647)) × (typed 3 (ascii "2147483.648") ≡ typed-as.OutOfRange) × (typed 3 (ascii "1.2345") ≡ typed-as.TooManyDecimals)
+  pub typed_decimals : (typed 3 (ascii "1586") ≡ typed-as.Count (pos 1586000)) × (typed 3 (ascii "-15.25") ≡ typed-as.Count (negsuc 15249)) × (typed 3 (ascii "-0") ≡ typed-as.Count (pos 0))
+  pub typed_ends : (typed 3 (ascii "2147483.647") ≡ typed-as.Count (pos 2147483647)) × (typed 3 (ascii "2147483.648") ≡ typed-as.OutOfRange) × (typed 3 (ascii "1.2345") ≡ typed-as.TooManyDecimals)
   pub typed_badly : (typed 3 (ascii "") ≡ typed-as.NotANumber) × (typed 3 (ascii ".5") ≡ typed-as.NotANumber) × (typed 3 (ascii "5.") ≡ typed-as.NotANumber) × (typed 3 (ascii "1e3") ≡ typed-as.NotANumber)
-  pub report_at-sea_level : report_text Record (with_entry (with_entry no_readings meaning.altitude nought) meaning.temperature (decimal "21.1"))
+  pub report_at_sea_level : report_text Record (with_entry (with_entry no_readings meaning.altitude nought) meaning.temperature (decimal "21.1"))
       ≡ ascii "altitude                             0.0 m\ntemperature                        21.10 C\nstation pressure                1013.250 hPa\ndensity                           1.2000 kg/m3, the reference for the trim table\nspeed of sound                     343.9 m/s\npressure altitude                    0.0 m\ndensity-matched altitude           218.3 m\nvapour mole fraction            0.000000 mol/mol\ntrim class 5\nnext class 4 at 0.1 C warmer\nin the range for which CIPM-2007 states its formula\nnote: no pressure is given: the standard atmosphere's 1013.250 hPa is used\nnote: no humidity is given: dry air is used\nnote: the next class is searched from the temperature and the station pressure above\nrecord 0100080000000000000000020008403519999999999A\n"
   -- each reading is the double nearest to the exact value of its typed number in its unit, and there is no other; the record that a new mast would send is judged as the readings are
-  pub word-is_reading : (ws : List (List ℕ)) (r : Readings) → understand ws ≡ given r → (w : List ℕ) (m : ℕ) (u : TypedUnit) (d : List ℕ) → Memᴰ w ws → Says w m u d → Nearest r m u d
+  pub word_is_reading : (ws : List (List ℕ)) (r : Readings) → understand ws ≡ given r → (w : List ℕ) (m : ℕ) (u : TypedUnit) (d : List ℕ) → Memᴰ w ws → Says w m u d → Nearest r m u d
   pub no_other : (ws : List (List ℕ)) (r : Readings) → understand ws ≡ given r → (m : ℕ) (x : Float) → entry_of r m ≡ Present x → Typed ws m
   pub record_judged : (ws : List (List ℕ)) (r : Readings) → understand ws ≡ given r → judge (record_of r) ≡ judged r
   -- a number in a reading's own unit is kept as its count, so that the record has the digits that were typed
-  pub typed-count_kept : (d : List ℕ) (n : ℤ) → typed 3 d ≡ typed-as.Count n → value_of (reading_in Plain n) ≡ value_as.Count (twos_complement n)
+  pub typed_count_kept : (d : List ℕ) (n : ℤ) → typed 3 d ≡ typed-as.Count n → value_of (reading_in Plain n) ≡ value_as.Count (twos_complement n)
   -- what a report notes is the lines of the rows that hold: a line is printed exactly if a row with it holds
   pub notes_are_lines : (point : Bool) (r : Readings) (f : Figures) → note_lines point r f ≡ noted.joined (noted.lines (notes point r f))
-  pub note-has_its_row : (point : Bool) (r : Readings) (f : Figures) (l : List ℕ) → Memᴰ l (noted.lines (notes point r f)) → noted.Holds (notes point r f) l
-  pub row-has_its_note : (point : Bool) (r : Readings) (f : Figures) (l : List ℕ) → noted.Holds (notes point r f) l → Memᴰ l (noted.lines (notes point r f))
+  pub note_has_its_row : (point : Bool) (r : Readings) (f : Figures) (l : List ℕ) → Memᴰ l (noted.lines (notes point r f)) → noted.Holds (notes point r f) l
+  pub row_has_its_note : (point : Bool) (r : Readings) (f : Figures) (l : List ℕ) → noted.Holds (notes point r f) l → Memᴰ l (noted.lines (notes point r f))
 
 -- ---- the report of refused readings: the reading that it names
 pub record Reports : Type 0 where
   -- "number, value": it is the one whose value the refusal hands out first
   pub named : (r : Readings) (number : ℕ) (v : Float) (values : List Float) → judged r ≡ refused number (v ∷ values) → entry_of r (reading_about r number) ≡ Present v
   -- of 1 and 4 the density altitude, of 2 and 3 the temperature, of 13 the humidity; of 11 and 12 one of those that they check
-  pub named-alone : (r : Readings) → (reading_about r 1 ≡ density_altitude) × (reading_about r 2 ≡ meaning.temperature) × (reading_about r 3 ≡ meaning.temperature) × (reading_about r 4 ≡ density_altitude) × (reading_about r 13 ≡ humidity)
+  pub named_alone : (r : Readings) → (reading_about r 1 ≡ density_altitude) × (reading_about r 2 ≡ meaning.temperature) × (reading_about r 3 ≡ meaning.temperature) × (reading_about r 4 ≡ density_altitude) × (reading_about r 13 ≡ humidity)
   pub named_11 : (r : Readings) → Memᴰ (reading_about r 11) (meaning.altitude ∷ meaning.station_pressure ∷ meaning.qnh ∷ humidity ∷ meaning.measured_pressure ∷ [])
   pub named_12 : (r : Readings) → Memᴰ (reading_about r 12) (meaning.station_pressure ∷ meaning.qnh ∷ meaning.measured_pressure ∷ [])
 
 -- ---- from C: a record's readings as arrays of forms, values and counts
 pub record Arrays : Type 0 where
   -- what was read is written as the record of its readings, so by the strict reader, where none is NaN, as the same bytes
-  pub written_of-read : (strict : Bool) (forms : List ℕ) (values : List Float) (counts s : List ℕ) (r : Readings) → read_in strict forms values counts s ≡ accepted r
+  pub written_of_read : (strict : Bool) (forms : List ℕ) (values : List Float) (counts s : List ℕ) (r : Readings) → read_in strict forms values counts s ≡ accepted r
       → written_of forms values counts r ≡ accepted (record_of (readings s))
   pub same_bytes : (forms : List ℕ) (values : List Float) (counts s : List ℕ) (r : Readings) → AreBytes s → NoneIsNan r
       → read_in true forms values counts s ≡ accepted r → written_of forms values counts r ≡ accepted s
   -- what was written is read by either reader, in the same forms, with the values of the doubles and the counts of the counts
-  pub read_of-written : (forms : List ℕ) (values : List Float) (counts s : List ℕ)
+  pub read_of_written : (forms : List ℕ) (values : List Float) (counts s : List ℕ)
       → AreNumbers values counts → array_record forms values counts ≡ accepted s → (strict : Bool) → read_record strict s ≡ accepted (array_readings meanings forms values counts)
   pub read_as : (forms : List ℕ) (values : List Float) (counts s : List ℕ) → AreNumbers values counts → array_record forms values counts ≡ accepted s
       → ReadAs forms values counts (array_readings meanings forms values counts)
@@ -569,7 +569,7 @@ pub record Decimals : Type 0 where
   pub nearest : (t : String) → let f = fraction t in f.is_number ≡ true → f.numerator * 2 ^ 1074 / f.denominator < 2 ^ 2 ^ 12 → decimal t ≡ round binary64 f.negative f.numerator f.denominator
   -- any other text is NaN: nothing, a minus alone, a letter for a digit, no digit before or after the point or in the power, a second point or minus, a plus, a blank
   pub no_number : (t : String) → (fraction t).is_number ≡ false → decimal t ≡ nan
-  pub none-of_these : map decimal ("" ∷ "-" ∷ "1.O5" ∷ ".5" ∷ "1." ∷ "1e" ∷ "1e-" ∷ "1.2.3" ∷ "--1" ∷ "+1" ∷ " 1" ∷ []) ≡ replicate 11 nan
+  pub none_of_these : map decimal ("" ∷ "-" ∷ "1.O5" ∷ ".5" ∷ "1." ∷ "1e" ∷ "1e-" ∷ "1.2.3" ∷ "--1" ∷ "+1" ∷ " 1" ∷ []) ≡ replicate 11 nan
 
 pub record Promises : Type 0 where
   pub document_01 : Document01
@@ -589,8 +589,8 @@ pub record Promises : Type 0 where
   pub k13 : K13
   pub k14 : K14
   pub near : Near
-  pub altitudes-near : AltitudesNear
-  pub at-the_park : AtThePark
+  pub altitudes_near : AltitudesNear
+  pub at_the_park : AtThePark
   pub reports : Reports
   pub arrays : Arrays
   pub decimals : Decimals

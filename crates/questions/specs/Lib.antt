@@ -1,6 +1,5 @@
--- What the contracts of `questions` cite: input as lines and what is kept of it, a line as words, digits, the forms of arguments, and what they say.
+-- What the contracts of `questions` cite: input as lines, a line as words, digits, the forms of arguments, and what they say.
 pub mod Lines
-pub mod Kept
 pub mod Words
 pub mod Digits
 pub mod Forms

@@ -1,7 +1,7 @@
 -- Input as lines. A line ends with a newline, 10; a carriage return, 13, before it belongs to the line's end; the last line may lack its newline. Definitions
 -- only.
-use Rattle.std.specs.Prelude.{ℕ, zero, suc, ◌+◌, ◌-◌, min, ◌≡◌, Bool, true, ◌&&◌, ◌||◌, cond, List, [], ◌++◌, ltb, eqb, length, get_or, take, drop}
-use Rattle.bytes.specs.Bytes.{index_of}
+use Rattle.std.specs.Prelude.{ℕ, ◌+◌, ◌-◌, min, Bool, ◌&&◌, ◌||◌, cond, List, ltb, eqb, length, get_or, take}
+use Rattle.pages.specs.Scan.{index_of}
 use Rattle.questions.specs.declared.line_ends.Found.{Found}
 use Rattle.questions.specs.declared.line_ends.Found.TheVariants.{Line, Nothing}
 
@@ -26,16 +26,3 @@ has_line ended s = ltb (index_of 10 s) (length s) || (ended && ltb 0 (length s))
 
 unfoldable pub found_line : Bool → List ℕ → Found
 found_line ended s = cond (has_line ended s) (Line (line_end s) (next_line s)) Nothing
-
--- ---- the first n lines: what is left of the input after them, that each is whole, and the texts that they give, one after the other
-unfoldable pub lines_after : ℕ → List ℕ → List ℕ
-lines_after zero s = s
-lines_after (suc n) s = let t = lines_after n s in drop (next_line t) t
-
-unfoldable pub AreWhole : Bool → ℕ → List ℕ → Type 0
-AreWhole ended zero s = Unit {0}
-AreWhole ended (suc n) s = AreWhole ended n s × (has_line ended (lines_after n s) ≡ true)
-
-unfoldable pub texts_to : (List ℕ → List ℕ) → ℕ → List ℕ → List ℕ
-texts_to text zero s = []
-texts_to text (suc n) s = texts_to text n s ++ text (first_line (lines_after n s))

@@ -1,25 +1,21 @@
--- The parts of a text between its separators, and the words of a line, which blanks, 32, part: a line without a blank is one word. And a word's place among
--- names. Definitions only.
+-- The words of a line: what stands between its blanks, 32. A line without a blank is one word. And a word's place among names. Definitions only.
 use Rattle.std.specs.Prelude.{ℕ, suc, ◌≤◌, ◌≡◌, Bool, true, false, cond, List, [], ◌∷◌, eqb, length, get_or, drop}
 use Rattle.pages.specs.Characters.{same}
 
--- parts with a byte before them: a separator ends a part of no bytes
+-- words with a byte before them: a blank ends a word of no bytes
 abbrev pub before_part : Bool → ℕ → List (List ℕ) → List (List ℕ)
 before_part true b ws = [] ∷ ws
 before_part false b [] = (b ∷ []) ∷ []
 before_part false b (w ∷ ws) = (b ∷ w) ∷ ws
 
-unfoldable pub parts : ℕ → List ℕ → List (List ℕ)
-parts d [] = [] ∷ []
-parts d (b ∷ s) = before_part (eqb b d) b (parts d s)
+unfoldable pub line_parts : List ℕ → List (List ℕ)
+line_parts [] = [] ∷ []
+line_parts (b ∷ s) = before_part (eqb b 32) b (line_parts s)
 
-abbrev pub line_parts : List ℕ → List (List ℕ)
-line_parts s = parts 32 s
-
--- part i begins at position `at` of s, or s ends there where it has no such part
-pub record PartStarts (d : ℕ) (s : List ℕ) (i at : ℕ) : Type 0 where
+-- word i begins at position `at` of s, or s ends there where it has no such word
+pub record PartStarts (s : List ℕ) (i at : ℕ) : Type 0 where
   pub within : at ≤ length s
-  pub first : get_or (parts d (drop at s)) 0 [] ≡ get_or (parts d s) i []
+  pub first : get_or (line_parts (drop at s)) 0 [] ≡ get_or (line_parts s) i []
 
 -- ---- names
 -- the place of a name in a list, and the list's length where it is not there

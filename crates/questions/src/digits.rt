@@ -86,7 +86,7 @@ pub fn read_bytes(text: &[u8], out: &mut [u8]) -> usize
     count
 }
 
-#[derive(Drop)]
+#[derive(Clone, Copy)]
 pub enum Number {
     Of(u64),
     Nothing,

@@ -7,11 +7,11 @@ ghost use Rattle.questions.specs.Forms.{is_word, is_none, given_in, is_record, i
 
 use crate::digits::{Number, are_hex, number_in, word_in};
 use crate::words::{nth_word, word_count};
-use check::same;
 use pages::put;
+use pages::scan::same;
 
 // A word, or none where it may be absent.
-#[derive(Drop)]
+#[derive(Clone, Copy)]
 pub enum Given {
     Word(u64),
     Absent,

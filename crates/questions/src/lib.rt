@@ -1,8 +1,9 @@
-// The form of the questions: input as lines and what is kept of it, a line as words, hex digits and numbers, and what is said of
+// The form of the questions: input as lines, a line as words, hex digits and numbers, and what is said of
 // arguments that are not of their form.
+#![tactic(auto)]
+
 pub mod arguments;
 pub mod digits;
 pub mod forms;
-pub mod kept;
 pub mod line_ends;
 pub mod words;

@@ -2,10 +2,10 @@
 ghost use Rattle.std.specs.Prelude.{◌≡◌, ◌≤◌, length};
 ghost use Rattle.questions.specs.Lines.{before_return, found_line};
 
-use bytes::scan::find;
+use pages::scan::find;
 
 // Where the line at the head of some input ends, its end not counted, and where the next begins.
-#[derive(Drop)]
+#[derive(Clone, Copy)]
 pub enum Found {
     Line(usize, usize),
     Nothing,

@@ -1,9 +1,8 @@
-// The parts of a text, a separator between two of them, and the words of a line, which blanks part.
+// The words of a line, one blank between two of them.
 ghost use Rattle.std.specs.Prelude.{◌≡◌, [], length, get_or};
-ghost use Rattle.questions.specs.Words.{parts, line_parts, PartStarts, place_in};
+ghost use Rattle.questions.specs.Words.{line_parts, PartStarts, place_in};
 
-use bytes::scan::find;
-use check::same;
+use pages::scan::{find, same};
 
 // How many words a line has. The line is left as it was.
 pub fn word_count(line: &[u8]) -> usize
@@ -22,15 +21,15 @@ pub fn word_count(line: &[u8]) -> usize
     }
 }
 
-// Where part `number` begins, or the text's end where there is no such part.
-fn part_start(text: &[u8], separator: u8, number: usize) -> usize
-    ensures { PartStarts separator text.now number result }
+// Where word `number` begins, or the line's end where there is no such word.
+fn word_start(line: &[u8], number: usize) -> usize
+    ensures { PartStarts line.now number result }
 {
     let mut at = 0;
     let mut i = 0;
     while i < number {
-        let end = find(text, at, text.len(), separator);
-        if end == text.len() {
+        let end = find(line, at, line.len(), b' ');
+        if end == line.len() {
             return end;
         }
         at = end + 1;
@@ -39,23 +38,15 @@ fn part_start(text: &[u8], separator: u8, number: usize) -> usize
     at
 }
 
-// Part `number` of a text, counted from 0, and nothing where there is no such part. The text is left as it
+// Word `number` of a line, counted from 0, and nothing where there is no such word. The line is left as it
 // was.
-pub fn nth_part(text: &[u8], separator: u8, number: usize) -> &[u8]
-    ensures answered { result.now ≡ get_or (parts separator text.now) number [] }
-    ensures kept { text.now ≡ text.now }
-{
-    let at = part_start(text, separator, number);
-    let end = find(text, at, text.len(), separator);
-    &text[at..end]
-}
-
-// Word `number` of a line, likewise.
 pub fn nth_word(line: &[u8], number: usize) -> &[u8]
     ensures answered { result.now ≡ get_or (line_parts line.now) number [] }
     ensures kept { line.now ≡ line.now }
 {
-    nth_part(line, b' ', number)
+    let at = word_start(line, number);
+    let end = find(line, at, line.len(), b' ');
+    &line[at..end]
 }
 
 // The place of a word among the words of a line, counted from 0, or how many there are where it is none of

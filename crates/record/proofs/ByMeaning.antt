@@ -70,4 +70,4 @@ never e = let z : ◌≡◌ {A = ℕ} 0 1 = cc in omega arith
 
 pub reads-doubles : (s : List ℕ) (r : Readings) → read_record false s ≡ accepted r → HoldsDoubles r
 reads-doubles s r e =
-    subst HoldsDoubles ((exactly (readings s) (read_rows false s)).accepted-because e).1 (from no_readings (heads s) (λ m x h. absurd (never (sym (none-there m) ∙ h))))
+    subst HoldsDoubles ((exactly (readings s) (read_rows false s)).accepted_because e).1 (from no_readings (heads s) (λ m x h. absurd (never (sym (none-there m) ∙ h))))

@@ -2,7 +2,7 @@
 pub use lib.ListN.{get_or-append as List·getD-append, length-map}
 pub use lib.Seq.{drop-append-le, get_or-set_other, get_or-set_same, set_out}
 unfoldable pub use Rattle.arithmetic.proofs.Kit.{fits, flat_map, of_bits}
-pub use Rattle.arithmetic.proofs.Kit.{Bool, Float, List, List·getD-eq-default, T, [], ◌&&◌, ◌*◌, ◌++◌, ◌+◌, ◌-◌, ◌<◌, ◌∙◌, ◌∷◌, ◌≡◌, ◌≢◌, ◌≤◌, ◌⊎◌, ap, ap₂, arith, binary64, cond, drop, drop_of_length-le, eqb, false, get_or, inl, inr, le-ltb, leb, leb-false, leb-true, length, length-append, length-drop, length-set, length-take-le, lit≤, lt-ltb, ltb, ltb-false, ltb-true, map, needs, not, not-false, of_bits-fits, refl, replicate, set, subst, suc, sym, take, take_all, take-append-drop, true, zero, ℕ, ⊎_elim}
+pub use Rattle.arithmetic.proofs.Kit.{Bool, Float, List, List·getD-eq-default, T, [], ◌&&◌, ◌*◌, ◌++◌, ◌+◌, ◌-◌, ◌<◌, ◌∙◌, ◌∷◌, ◌≡◌, ◌≢◌, ◌≤◌, ◌⊎◌, ap, ap₂, arith, binary64, cond, drop, drop_of_length-le, eqb, false, get_or, inl, inr, le-ltb, leb, leb-false, leb-true, length, length-append, length-drop, length-set, length-take-le, lit≤, lt-ltb, ltb, ltb-false, ltb-true, map, rules, not, not-false, of_bits-fits, refl, replicate, set, subst, suc, sym, take, take_all, take-append-drop, true, zero, ℕ, ⊎_elim}
 pub use Rattle.refusal.proofs.Rows.{Never, after_check, decided, exactly, never_both, none_after, none_before, none_both, then-accepted, then_append, then_next, then-none, then_same, then_to}
 pub use Rattle.refusal.specs.Causes.{NoneHolds}
 pub use Rattle.refusal.specs.Outcomes.{Outcome, Row, ◌then◌, ◌⟫◌, accepted, checked, numbers, passed, refused, row}

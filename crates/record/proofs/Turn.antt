@@ -32,7 +32,7 @@ module _ (strict : Bool) (s : List ℕ) (at : ℕ) (r : Readings) (last : ℕ) (
   -- a field that is
   module _ {f : Field} (e : field_of left ≡ accepted f) where
     known : NoneHolds (head_rows left) × (field left ≡ f)
-    known = (exactly (field left) (head_rows left)).accepted-because e
+    known = (exactly (field left) (head_rows left)).accepted_because e
 
     pub whole : size_of left ≤ length left
     whole = head-whole left known.0

@@ -5,26 +5,26 @@ ghost use Rattle.record.specs.Entries.{no_readings, is_present, entry_for, store
 use fields::fields::{MEANINGS, Value, double_of_value};
 
 // A reading, whatever the form of its field.
-#[derive(Drop)]
+#[derive(Clone, Copy)]
 pub enum Entry {
     Absent,
     Present(f64),
 }
 
 // A reading in the form of its field.
-#[derive(Drop)]
+#[derive(Clone, Copy)]
 pub enum Stored {
     Absent,
     Present(Value),
 }
 
-#[derive(Drop)]
+#[derive(Clone, Copy)]
 pub struct Slot {
     pub stored: Stored,
 }
 
 // What is stored for each meaning. A struct holds no array of enums, so each has a slot.
-#[derive(Drop)]
+#[derive(Clone, Copy)]
 pub struct Readings {
     pub slots: [Slot; MEANINGS],
 }

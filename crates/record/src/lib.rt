@@ -1,3 +1,5 @@
 // The mast record: the readings that its fields give.
+#![tactic(auto)]
+
 pub mod entries;
 pub mod readings;

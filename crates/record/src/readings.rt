@@ -10,7 +10,7 @@ use fields::reader::{Step, step_from};
 use refusal::{Check, Refusal};
 
 // Readings, where the check is passed; none where it is not.
-#[derive(Drop)]
+#[derive(Clone, Copy)]
 pub struct Read {
     pub check: Check,
     pub readings: Readings,

@@ -16,7 +16,7 @@ use Rattle.mast.proofs.Dry.{absent}
 -- ---- what is accepted: no row holds, and the figures are those of what is resolved
 pub of-accepted : (r : Readings) {f : Figures} → judged r ≡ accepted f → NoneHolds (reading_rows r) × (figures_of (resolved r) ≡ f)
 unfolding judged
-of-accepted r e = (exactly (figures_of (resolved r)) (reading_rows r)).accepted-because e
+of-accepted r e = (exactly (figures_of (resolved r)) (reading_rows r)).accepted_because e
 
 -- ---- no clash
 neither_with : (before a b : Bool) → (before || (a && b)) ≡ false → b ≡ true → a ≡ false

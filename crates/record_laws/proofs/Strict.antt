@@ -29,7 +29,7 @@ read_of (refused n vs) e = let z : ◌≡◌ {A = ℕ} 0 1 = cc in absurd (omega
 
 -- and its figures are those of its readings, to either judge
 pub of-readings : (strict : Bool) (s : List ℕ) (f : Figures) → judge_by strict s ≡ accepted f → judged (readings s) ≡ accepted f
-of-readings strict s f e = let read = read_of (read_record strict s) e in ap judged ((exactly (readings s) (read_rows strict s)).accepted-because read.taken).1 ∙ read.gives
+of-readings strict s f e = let read = read_of (read_record strict s) e in ap judged ((exactly (readings s) (read_rows strict s)).accepted_because read.taken).1 ∙ read.gives
 
 rising : (s : List ℕ) {f : Figures} → judge_strictly s ≡ accepted f → Rising (tags s)
 unfolding judge_strictly
@@ -46,7 +46,7 @@ written-again : WrittenAgain
 unfolding judge_strictly
 written-again s f all e =
     let read = read_of (read_record true s) e in
-    let same : readings s ≡ read.readings = ((exactly (readings s) (read_rows true s)).accepted-because read.taken).1 in
+    let same : readings s ≡ read.readings = ((exactly (readings s) (read_rows true s)).accepted_because read.taken).1 in
     writer.written-again s (readings s) all (no_nan (readings s) f (all_slots s) (of-readings true s f e)) (read.taken ∙ ap accepted (sym same))
 
 pub strict : Strict

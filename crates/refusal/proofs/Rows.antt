@@ -117,7 +117,7 @@ module _ {A : Type 0} (x : A) where
 
   -- an outcome of rows is exactly caused by them
   pub exactly : (rows : List Row) → ExactlyCaused rows x (rows then accepted x)
-  exactly rows = record { refused-because = λ e. refusing rows e; refused_where = λ f. refused-at rows f; accepted-because = λ e. accepting rows e; accepted_where = λ h. then-none rows h }
+  exactly rows = record { refused_because = λ e. refusing rows e; refused_where = λ f. refused-at rows f; accepted_because = λ e. accepting rows e; accepted_where = λ h. then-none rows h }
 
   pub exactly-by : (rows : List Row) {o : Outcome A} → o ≡ (rows then accepted x) → ExactlyCaused rows x o
   exactly-by rows e = subst (λ (o : Outcome A). ExactlyCaused rows x o) (sym e) (exactly rows)

@@ -19,7 +19,7 @@ pub record FirstHolds (rows : List Row) (number : ℕ) (values : List Float) : T
 
 -- a number is answered, with its row's values, exactly when its row is the first that holds, and x is accepted exactly when none holds
 pub record ExactlyCaused {A : Type 0} (rows : List Row) (x : A) (o : Outcome A) : Type 0 where
-  pub refused-because : {number : ℕ} {values : List Float} → o ≡ refused number values → FirstHolds rows number values
+  pub refused_because : {number : ℕ} {values : List Float} → o ≡ refused number values → FirstHolds rows number values
   pub refused_where : {number : ℕ} {values : List Float} → FirstHolds rows number values → o ≡ refused number values
-  pub accepted-because : {y : A} → o ≡ accepted y → NoneHolds rows × (x ≡ y)
+  pub accepted_because : {y : A} → o ≡ accepted y → NoneHolds rows × (x ≡ y)
   pub accepted_where : NoneHolds rows → o ≡ accepted x

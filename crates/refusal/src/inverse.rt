@@ -1,7 +1,7 @@
 // The station with a given density altitude, or why there is none.
 use crate::Refusal;
 
-#[derive(Drop)]
+#[derive(Clone, Copy)]
 pub struct Station {
     pub altitude_m: f64,
     pub temperature_c: f64,
@@ -9,7 +9,7 @@ pub struct Station {
 }
 
 // The station, or why there is none: a cause 1 to 4.
-#[derive(Drop)]
+#[derive(Clone, Copy)]
 pub enum Answer {
     Station(Station),
     Refused(Refusal),

@@ -2,7 +2,7 @@
 use crate::Refusal;
 
 // The figures, and whether the shown temperature and pressure lie in the range of CIPM-2007.
-#[derive(Drop)]
+#[derive(Clone, Copy)]
 pub struct Figures {
     pub altitude_m: f64,
     pub temperature_c: f64,
@@ -15,7 +15,7 @@ pub struct Figures {
     pub in_cipm_range: bool,
 }
 
-#[derive(Drop)]
+#[derive(Clone, Copy)]
 pub enum Answer {
     Figures(Figures),
     Refused(Refusal),

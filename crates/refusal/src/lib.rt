@@ -1,5 +1,7 @@
 // Why readings are refused: the causes of document 01's table and of document 02, each with its number
 // and the values that it hands out, and how one check follows another.
+#![tactic(auto)]
+
 pub mod inverse;
 pub mod judge;
 
@@ -7,7 +9,7 @@ ghost use Rattle.std.specs.Prelude.{◌≡◌, [], ◌∷◌};
 ghost use Rattle.refusal.specs.Refusals.{number_of, values_of, listed};
 ghost use Rattle.refusal.specs.Outcomes.{checked, row, passed, ◌⟫◌};
 
-#[derive(Drop)]
+#[derive(Clone, Copy)]
 pub enum Refusal {
     // the density altitude
     DensityAltitudeNotFinite(f64),
@@ -80,7 +82,7 @@ pub fn number(refusal: Refusal) -> u8
 }
 
 // The values that a cause hands out.
-#[derive(Drop)]
+#[derive(Clone, Copy)]
 pub enum Values {
     None,
     One(f64),
@@ -118,7 +120,7 @@ pub fn handed_out(refusal: Refusal) -> Values
 }
 
 // What a check finds: nothing, or the refusal that it gives.
-#[derive(Drop)]
+#[derive(Clone, Copy)]
 pub enum Check {
     Passed,
     Refused(Refusal),

@@ -1,5 +1,5 @@
 -- A decimal text in sixteen places is a figure's column, and how long the line of a figure is. Assumes nothing.
-use Rattle.arithmetic.proofs.Kit.{◌≡◌, refl, ap, ◌∙◌, Bool, true, false, List, ◌++◌, ℕ, ◌+◌, ◌-◌, ◌<◌, ◌≤◌, arith, ltb-true, ltb-false, lt-ltb, le-ltb, ltb, Float, length, replicate, length-append, length-replicate}
+use Rattle.arithmetic.proofs.Kit.{◌≡◌, refl, ap, ◌∙◌, Bool, true, false, List, ℕ, ◌+◌, ◌-◌, ◌<◌, ◌≤◌, arith, ltb-true, ltb-false, lt-ltb, le-ltb, ltb, Float, length, replicate, length-append, length-replicate}
 use Rattle.decimals.specs.declared.shown.DecimalText.{DecimalText}
 use Rattle.decimals.specs.Places.{in_sixteen}
 use Rattle.decimals.proofs.Standing.{fits, length-known}

@@ -32,7 +32,7 @@ use Rattle.notes.specs.Ranges.{is_compared_temperature, is_compared_altitude, is
 use Rattle.notes.specs.Doubts.{fraction, limit_of, are_alike, at_limit, doubt_notes}
 use Rattle.notes.specs.Notes.{notes, note_lines}
 use Rattle.report.specs.Fault.{first_not_finite, reading_about}
-use Rattle.report.specs.Advice.{reading_line, causes, advices, typed_advice, cause_lines, refused_lines}
+use Rattle.report.specs.Advice.{reading_line, cause_of, sender_advice, typed_advice, cause_lines, refused_lines}
 use Rattle.report.specs.Columns.{column, figure_line}
 use Rattle.report.specs.AirLines.{station_lines, air_lines}
 use Rattle.report.specs.TrimLines.{trim_line, tenths_text, turn_line}
@@ -40,5 +40,5 @@ use Rattle.report.specs.Report.{accepted_lines, noted_lines, record_line, report
 use Rattle.report.proofs.Stated.{ReportSamples}
 
 pub samples : ReportSamples
-unfolding of_bits to_bits of_int neg lt le is_nan power_at exp sqrt last_digits digits_within digits nearest_count count_text decimal_text abs_double is_finite saturation_pressure mole_fraction compressibility_factor air_density_at sound_speed standard_air pressure_altitude density_of atmosphere height_of_density density_matched_altitude sea_level_density bytes field_with fields_from ordinary figures_with judged class_densities count_at_or_below trim_class class_of tried changes_from changes first_of next_from next_with next_of refusal_line hex first_not_finite reading_about reading_line causes advices typed_advice cause_lines refused_lines column figure_line station_lines air_lines trim_line tenths_text turn_line accepted_lines shown given_by pressure_given is_temperature_default is_pressure_default temperature_default pressure_default absent_notes used_notes is_plausible reduced_given meant_notes resolved_as unit_notes notes_beside is_compared_temperature is_compared_altitude is_outside_temperatures is_outside_altitudes temperature_notes altitude_notes range_notes fraction limit_of in_sixteen are_alike at_limit doubt_notes notes note_lines plausibility noted_lines record_line report_text
+unfolding of_bits to_bits of_int neg lt le is_nan power_at exp sqrt last_digits digits_within digits nearest_count count_text decimal_text abs_double is_finite saturation_pressure mole_fraction compressibility_factor air_density_at sound_speed standard_air pressure_altitude density_of atmosphere height_of_density density_matched_altitude sea_level_density bytes field_with fields_from ordinary figures_with judged class_densities count_at_or_below trim_class class_of tried changes_from changes first_of next_from next_with next_of refusal_line hex first_not_finite reading_about reading_line cause_of sender_advice typed_advice cause_lines refused_lines column figure_line station_lines air_lines trim_line tenths_text turn_line accepted_lines shown given_by pressure_given is_temperature_default is_pressure_default temperature_default pressure_default absent_notes used_notes is_plausible reduced_given meant_notes resolved_as unit_notes notes_beside is_compared_temperature is_compared_altitude is_outside_temperatures is_outside_altitudes temperature_notes altitude_notes range_notes fraction limit_of in_sixteen are_alike at_limit doubt_notes notes note_lines plausibility noted_lines record_line report_text
 samples = record { none = refl; none-typed = refl; no_pressure = refl; sea_level_lem = refl }

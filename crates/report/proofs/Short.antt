@@ -1,5 +1,5 @@
 -- How long a report is at most. Assumes nothing.
-use Rattle.arithmetic.proofs.Kit.{Bool, true, false, List, [], ◌∷◌, ◌++◌, ℕ, ◌+◌, ◌*◌, ◌/◌, ◌%◌, ◌≤◌, arith, lit≤, length, length-append}
+use Rattle.arithmetic.proofs.Kit.{Bool, true, false, List, [], ◌∷◌, ℕ, ◌+◌, ◌*◌, ◌/◌, ◌%◌, ◌≤◌, arith, lit≤, length, length-append}
 use Rattle.refusal.specs.Outcomes.{Outcome, accepted, refused}
 use Rattle.record.specs.declared.entries.Readings.{Readings}
 use Rattle.record.specs.Readings.{read_record}

@@ -1,6 +1,6 @@
 -- What is said of a refusal, as bytes in ASCII: the number, the reading that it is about, its cause and what to do. Readings are refused with 1 to 4 or 9 to
 -- 15, a record that is not read with 5 to 8, a setting sheet with 11 to 15 or 17. Definitions only.
-use Rattle.std.specs.Prelude.{ℕ, cond, List, [], ◌∷◌, ◌++◌, eqb, get_or}
+use Rattle.std.specs.Prelude.{ℕ, cond, List, [], ◌++◌, eqb}
 use Rattle.record.specs.declared.entries.Readings.{Readings}
 use Rattle.fields.specs.Fields.{altitude, temperature, station_pressure, qnh, humidity, density_altitude, measured_pressure}
 use Rattle.arithmetic.specs.Ascii.{ascii}
@@ -21,67 +21,45 @@ reading_line m =
     (cond (eqb m measured_pressure) (ascii "reading: measured pressure\n")
     []))))))
 
--- ---- the causes by number, in the words of docs/RECORD.md; 0 is no refusal
-unfoldable pub causes : List (List ℕ)
-causes =
-    []
-    ∷ ascii "density altitude not finite"
-    ∷ ascii "temperature not finite"
-    ∷ ascii "temperature at or below -273.15 C"
-    ∷ ascii "no air has this density altitude"
-    ∷ ascii "header or data cut"
-    ∷ ascii "unknown tag"
-    ∷ ascii "length not 8 (double) or 4 (count)"
-    ∷ ascii "tag repeated, or a reading in both forms"
-    ∷ ascii "two of station pressure, QNH and measured pressure, or a density altitude with an altitude or a pressure"
-    ∷ ascii "neither altitude nor density altitude"
-    ∷ ascii "altitude, a pressure or humidity not finite"
-    ∷ ascii "a pressure not above 0 hPa"
-    ∷ ascii "humidity below 0 or above 100 percent"
-    ∷ ascii "more water vapour than there is air"
-    ∷ ascii "a figure not finite, or pressure, density or sound speed not above 0"
-    ∷ ascii "page too short"
-    ∷ ascii "a figure wider than its column"
-    ∷ ascii "buffer shorter than the record"
-    ∷ ascii "a tag below the one before it"
-    ∷ ascii "no count gives exactly this double"
-    ∷ ascii "a reading in one or two of the three records"
-    ∷ ascii "no temperature or no measured pressure"
-    ∷ []
-
-abbrev pub cause_of : ℕ → List ℕ
-cause_of n = get_or causes n []
+-- ---- the cause, in the words of docs/RECORD.md; 15 is the other one
+unfoldable pub cause_of : ℕ → List ℕ
+cause_of n =
+    cond (eqb n 1) (ascii "density altitude not finite")
+    (cond (eqb n 2) (ascii "temperature not finite")
+    (cond (eqb n 3) (ascii "temperature at or below -273.15 C")
+    (cond (eqb n 4) (ascii "no air has this density altitude")
+    (cond (eqb n 5) (ascii "header or data cut")
+    (cond (eqb n 6) (ascii "unknown tag")
+    (cond (eqb n 7) (ascii "length not 8 (double) or 4 (count)")
+    (cond (eqb n 8) (ascii "tag repeated, or a reading in both forms")
+    (cond (eqb n 9) (ascii "two of station pressure, QNH and measured pressure, or a density altitude with an altitude or a pressure")
+    (cond (eqb n 10) (ascii "neither altitude nor density altitude")
+    (cond (eqb n 11) (ascii "altitude, a pressure or humidity not finite")
+    (cond (eqb n 12) (ascii "a pressure not above 0 hPa")
+    (cond (eqb n 13) (ascii "humidity below 0 or above 100 percent")
+    (cond (eqb n 14) (ascii "more water vapour than there is air")
+    (cond (eqb n 17) (ascii "a figure wider than its column")
+    (ascii "a figure not finite, or pressure, density or sound speed not above 0")))))))))))))))
 
 -- ---- what to do with a record, likewise
-unfoldable pub advices : List (List ℕ)
-advices =
-    []
-    ∷ ascii "the sender computed it from a missing reading: mend that"
-    ∷ ascii "the thermometer is unplugged or broken"
-    ∷ ascii "wrong unit, or a raw count sent as degrees"
-    ∷ ascii "check the unit: feet sent as metres, or a height far outside the air"
-    ∷ ascii "not sent whole: read it again, check the line"
-    ∷ ascii "the sender speaks a newer form, or the bytes have slipped"
-    ∷ ascii "the sender speaks a newer form, or the bytes have slipped"
-    ∷ ascii "two sensors answer for one reading: switch one off"
-    ∷ ascii "send one pressure; send a density altitude with nothing but temperature and humidity"
-    ∷ ascii "set the mast's altitude"
-    ∷ ascii "that sensor is unplugged or broken"
-    ∷ ascii "wrong unit, or a barometer without power"
-    ∷ ascii "calibrate the hygrometer"
-    ∷ ascii "temperature, humidity and pressure do not belong together: check each"
-    ∷ ascii "no such air: check temperature and pressure"
-    ∷ ascii "lend a longer one"
-    ∷ ascii "check altitude and pressure"
-    ∷ ascii "lend a longer one: 77 bytes hold any record"
-    ∷ ascii "mend the sender, or use the reader that takes any order"
-    ∷ ascii "a count cannot hold it: keep the old record"
-    ∷ ascii "set the masts up alike"
-    ∷ ascii "send temperature and measured pressure, tags 02 and 07"
-    ∷ []
-
-abbrev pub sender_advice : ℕ → List ℕ
-sender_advice n = get_or advices n []
+unfoldable pub sender_advice : ℕ → List ℕ
+sender_advice n =
+    cond (eqb n 1) (ascii "the sender computed it from a missing reading: mend that")
+    (cond (eqb n 2) (ascii "the thermometer is unplugged or broken")
+    (cond (eqb n 3) (ascii "wrong unit, or a raw count sent as degrees")
+    (cond (eqb n 4) (ascii "check the unit: feet sent as metres, or a height far outside the air")
+    (cond (eqb n 5) (ascii "not sent whole: read it again, check the line")
+    (cond (eqb n 6) (ascii "the sender speaks a newer form, or the bytes have slipped")
+    (cond (eqb n 7) (ascii "the sender speaks a newer form, or the bytes have slipped")
+    (cond (eqb n 8) (ascii "two sensors answer for one reading: switch one off")
+    (cond (eqb n 9) (ascii "send one pressure; send a density altitude with nothing but temperature and humidity")
+    (cond (eqb n 10) (ascii "set the mast's altitude")
+    (cond (eqb n 11) (ascii "that sensor is unplugged or broken")
+    (cond (eqb n 12) (ascii "wrong unit, or a barometer without power")
+    (cond (eqb n 13) (ascii "calibrate the hygrometer")
+    (cond (eqb n 14) (ascii "temperature, humidity and pressure do not belong together: check each")
+    (cond (eqb n 17) (ascii "check altitude and pressure")
+    (ascii "no such air: check temperature and pressure")))))))))))))))
 
 -- ---- what to do at the keyboard, in the words of docs/PARK.md
 unfoldable pub typed_advice : ℕ → List ℕ

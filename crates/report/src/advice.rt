@@ -9,7 +9,6 @@ use fields::fields::{
     ALTITUDE, DENSITY_ALTITUDE, HUMIDITY, MEASURED_PRESSURE, QNH, STATION_PRESSURE, TEMPERATURE,
 };
 use pages::{put, put_refusal};
-use questions::words::nth_part;
 use record::entries::Readings;
 use refusal::{Refusal, number};
 
@@ -29,21 +28,86 @@ fn put_reading(page: &mut [u8], at: usize, meaning: usize) -> usize
     }
 }
 
-// One line for each number, that of 0 empty.
 fn put_cause_of(page: &mut [u8], at: usize, number: u8) -> usize
     ensures { Appended page.old at (cause_of number) page.new result }
 {
-    let causes =
-        b"\ndensity altitude not finite\ntemperature not finite\ntemperature at or below -273.15 C\nno air has this density altitude\nheader or data cut\nunknown tag\nlength not 8 (double) or 4 (count)\ntag repeated, or a reading in both forms\ntwo of station pressure, QNH and measured pressure, or a density altitude with an altitude or a pressure\nneither altitude nor density altitude\naltitude, a pressure or humidity not finite\na pressure not above 0 hPa\nhumidity below 0 or above 100 percent\nmore water vapour than there is air\na figure not finite, or pressure, density or sound speed not above 0\npage too short\na figure wider than its column\nbuffer shorter than the record\na tag below the one before it\nno count gives exactly this double\na reading in one or two of the three records\nno temperature or no measured pressure";
-    put(page, at, nth_part(causes, b'\n', number as usize))
+    match number {
+        1 => put(page, at, b"density altitude not finite"),
+        2 => put(page, at, b"temperature not finite"),
+        3 => put(page, at, b"temperature at or below -273.15 C"),
+        4 => put(page, at, b"no air has this density altitude"),
+        5 => put(page, at, b"header or data cut"),
+        6 => put(page, at, b"unknown tag"),
+        7 => put(page, at, b"length not 8 (double) or 4 (count)"),
+        8 => put(page, at, b"tag repeated, or a reading in both forms"),
+        9 => put(
+            page,
+            at,
+            b"two of station pressure, QNH and measured pressure, or a density altitude with an altitude or a pressure",
+        ),
+        10 => put(page, at, b"neither altitude nor density altitude"),
+        11 => put(page, at, b"altitude, a pressure or humidity not finite"),
+        12 => put(page, at, b"a pressure not above 0 hPa"),
+        13 => put(page, at, b"humidity below 0 or above 100 percent"),
+        14 => put(page, at, b"more water vapour than there is air"),
+        17 => put(page, at, b"a figure wider than its column"),
+        _ => put(
+            page,
+            at,
+            b"a figure not finite, or pressure, density or sound speed not above 0",
+        ),
+    }
 }
 
 fn put_sender_advice(page: &mut [u8], at: usize, number: u8) -> usize
     ensures { Appended page.old at (sender_advice number) page.new result }
 {
-    let advices =
-        b"\nthe sender computed it from a missing reading: mend that\nthe thermometer is unplugged or broken\nwrong unit, or a raw count sent as degrees\ncheck the unit: feet sent as metres, or a height far outside the air\nnot sent whole: read it again, check the line\nthe sender speaks a newer form, or the bytes have slipped\nthe sender speaks a newer form, or the bytes have slipped\ntwo sensors answer for one reading: switch one off\nsend one pressure; send a density altitude with nothing but temperature and humidity\nset the mast's altitude\nthat sensor is unplugged or broken\nwrong unit, or a barometer without power\ncalibrate the hygrometer\ntemperature, humidity and pressure do not belong together: check each\nno such air: check temperature and pressure\nlend a longer one\ncheck altitude and pressure\nlend a longer one: 77 bytes hold any record\nmend the sender, or use the reader that takes any order\na count cannot hold it: keep the old record\nset the masts up alike\nsend temperature and measured pressure, tags 02 and 07";
-    put(page, at, nth_part(advices, b'\n', number as usize))
+    match number {
+        1 => put(
+            page,
+            at,
+            b"the sender computed it from a missing reading: mend that",
+        ),
+        2 => put(page, at, b"the thermometer is unplugged or broken"),
+        3 => put(page, at, b"wrong unit, or a raw count sent as degrees"),
+        4 => put(
+            page,
+            at,
+            b"check the unit: feet sent as metres, or a height far outside the air",
+        ),
+        5 => put(page, at, b"not sent whole: read it again, check the line"),
+        6 => put(
+            page,
+            at,
+            b"the sender speaks a newer form, or the bytes have slipped",
+        ),
+        7 => put(
+            page,
+            at,
+            b"the sender speaks a newer form, or the bytes have slipped",
+        ),
+        8 => put(
+            page,
+            at,
+            b"two sensors answer for one reading: switch one off",
+        ),
+        9 => put(
+            page,
+            at,
+            b"send one pressure; send a density altitude with nothing but temperature and humidity",
+        ),
+        10 => put(page, at, b"set the mast's altitude"),
+        11 => put(page, at, b"that sensor is unplugged or broken"),
+        12 => put(page, at, b"wrong unit, or a barometer without power"),
+        13 => put(page, at, b"calibrate the hygrometer"),
+        14 => put(
+            page,
+            at,
+            b"temperature, humidity and pressure do not belong together: check each",
+        ),
+        17 => put(page, at, b"check altitude and pressure"),
+        _ => put(page, at, b"no such air: check temperature and pressure"),
+    }
 }
 
 fn put_typed_advice(page: &mut [u8], at: usize, number: u8) -> usize

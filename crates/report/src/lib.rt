@@ -1,5 +1,7 @@
 // The readable report of readings: a line for each figure, the trim class, the mark in words, the notes; or
 // what is said of a refusal; and the record in hex. And that of a record.
+#![tactic(auto)]
+
 pub mod advice;
 mod air_lines;
 mod columns;
@@ -27,7 +29,7 @@ use writer::{Written, write};
 
 // Where readings come from: a record, or words that were typed, which say whether the altitude was typed
 // with a point that may mean thousands.
-#[derive(Drop)]
+#[derive(Clone, Copy)]
 pub enum Origin {
     Record,
     Words(bool),

@@ -1,6 +1,6 @@
--- Each number from 2 ^ 124 up to 2 ^ 126 is served by its entry of the table of roots, so that no first root is taken for it.
+-- Each number from 2 ^ 124 up to 2 ^ 126 is served by its entry of the table of roots, so that `quick_root` never takes the first root for it.
 -- Assumes nothing.
-use Rattle.arithmetic.proofs.Kit.{◌≡◌, refl, sym, ap, ◌∙◌, subst, Bool, true, false, ◌&&◌, cond, List, ℕ, zero, suc, ◌+◌, ◌-◌, ◌*◌, ◌/◌, ◌^◌, ◌≤◌, ◌<◌, suc-le-suc, zero-add, le_of_suc-le-suc, not-suc-le-zero, le-div_iff_mul-le, div-lt_iff_lt-mul, div-div-eq-div-mul, arith, lt-ltb, le-leb, T, leb, ltb, leb→le, ltb→lt, and_l, and_r, get_or, pow_pos}
+use Rattle.arithmetic.proofs.Kit.{◌≡◌, refl, sym, ap, ◌∙◌, Bool, true, false, ◌&&◌, cond, List, ℕ, zero, suc, ◌+◌, ◌-◌, ◌*◌, ◌/◌, ◌^◌, ◌≤◌, ◌<◌, suc-le-suc, zero-add, le_of_suc-le-suc, not-suc-le-zero, le-div_iff_mul-le, div-lt_iff_lt-mul, div-div-eq-div-mul, arith, lt-ltb, le-leb, T, leb, ltb, leb→le, ltb→lt, and_l, and_r, get_or, pow_pos}
 use Rattle.std.proofs.Common.{sub-add_cancel}
 use Rattle.roots.specs.Root.{root}
 use Rattle.roots.specs.Tables.{values, entry, root_table}
@@ -29,20 +29,6 @@ root-at n l h = value-at entry 256 768 (n - 256) (omega arith) ∙ ap entry (sub
 -- n / 2 ^ 116 from the upper word of n
 pub number_of : (hi lo : ℕ) → lo < 2 ^ 64 → hi / 2 ^ 52 ≡ (hi * 2 ^ 64 + lo) / 2 ^ 116
 number_of hi lo l = sym (zero-add _) ∙ far_right hi lo 116 l (omega arith)
-
--- the test of the number, on the upper word
-pub upper-word : (P : ℕ → Type 0) (hi lo : ℕ) {p : ℕ} → lo < 2 ^ 64 → p ≡ (hi * 2 ^ 64 + lo) / 2 ^ 116 → P p → P (hi / 2 ^ 52)
-upper-word P hi lo l q = subst P (q ∙ sym (number_of hi lo l))
-
--- the upper bits of a number of 125 or 126 bits
-pub top-fits : (hi lo : ℕ) → hi / 2 ^ 52 < 1024 → lo < 2 ^ 64 → hi * 4 + lo / 2 ^ 62 < 2 ^ 64
-top-fits hi lo h l = omega arith
-
-pub hi-fits : (hi : ℕ) → hi / 2 ^ 52 < 1024 → hi * 4 < 2 ^ 64
-hi-fits hi h = omega arith
-
-pub top-low : (hi lo : ℕ) → 256 ≤ hi / 2 ^ 52 → 2 ^ 62 ≤ hi * 4 + lo / 2 ^ 62
-top-low hi lo h = omega arith
 
 -- ---- the test of an entry, in inequalities
 
@@ -102,18 +88,6 @@ near : (top e : ℕ) → top < 2 ^ 64 → IsRoot (top / 2 ^ 54 * 2 ^ 20) e → (
 near top e h r =
     let low : e < 2 ^ 15 = suc-le-suc (roots-le (top / 2 ^ 54 * 2 ^ 20) e (2 ^ 15 - 1) r.0 (omega arith)) in
     (low, omega arith, omega (arith, next-square e))
-
-top-number : (hi lo : ℕ) → lo < 2 ^ 64 → hi / 2 ^ 52 ≡ (hi * 4 + lo / 2 ^ 62) / 2 ^ 54
-top-number hi lo l = omega arith
-
--- what a root from its entry asks for
-pub entry-near : (hi lo : ℕ) {p e : ℕ} → lo < 2 ^ 64 → p ≡ (hi * 2 ^ 64 + lo) / 2 ^ 116 → 256 ≤ p → p < 1024 → e ≡ entry p
-    → let top = hi * 4 + lo / 2 ^ 62 in (2 ^ 62 ≤ top) × (e < 2 ^ 15) × (e * e * 2 ^ 34 ≤ top) × (top < e * e * 2 ^ 34 + 3 * 2 ^ 53)
-unfolding entry
-entry-near hi lo {p} {e} l q from to is =
-    let upper : p ≡ (hi * 4 + lo / 2 ^ 62) / 2 ^ 54 = q ∙ sym (number_of hi lo l) ∙ top-number hi lo l in
-    let n = near (hi * 4 + lo / 2 ^ 62) e (top-fits hi lo (upper-word (λ (x : ℕ). x < 1024) hi lo l q to) l) (of-root _ _ (is ∙ ap (λ (m : ℕ). root (m * 2 ^ 20)) upper)) in
-    (top-low hi lo (upper-word (λ (x : ℕ). 256 ≤ x) hi lo l q from), n.0, n.1, n.2)
 
 pub table_serves : (n : ℕ) → 2 ^ 124 ≤ n → n < 2 ^ 126 → table_root root_table n ≡ Root (root n)
 table_serves n low high =

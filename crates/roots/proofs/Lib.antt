@@ -1,4 +1,3 @@
--- The entry of the table that a root starts from.
+-- The entry of the tables that a root starts from.
 pub mod Entry
-pub mod Excluded
 pub mod Root

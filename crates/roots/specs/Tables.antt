@@ -1,5 +1,5 @@
--- The table that the quick root starts from: its entries are numbered from 256 to 1,023. Definitions only.
-use Rattle.std.specs.Prelude.{ℕ, zero, suc, ◌+◌, ◌*◌, ◌^◌, List, [], ◌∷◌}
+-- The tables that the quick root starts from: their entries are numbered from 256 to 1,023. Definitions only.
+use Rattle.std.specs.Prelude.{ℕ, zero, suc, ◌-◌, ◌*◌, ◌/◌, ◌^◌, List, [], ◌∷◌}
 use Rattle.roots.specs.Root.{root}
 
 -- the values of f at k numbers from n on
@@ -11,10 +11,8 @@ values f n (suc k) = f n ∷ values f (suc n) k
 unfoldable pub entry : ℕ → ℕ
 entry n = root (n * 2 ^ 20)
 
--- the entries of n and of the three numbers after it in one word, sixteen bits each
-unfoldable pub four_entries : ℕ → ℕ
-unfolding entry
-four_entries n = entry n + entry (n + 1) * 2 ^ 16 + entry (n + 2) * 2 ^ 32 + entry (n + 3) * 2 ^ 48
-
 unfoldable pub root_table : List ℕ
 root_table = values entry 256 768
+
+unfoldable pub reciprocal_table : List ℕ
+reciprocal_table = values (λ (n : ℕ). (2 ^ 46 - 1) / entry n) 256 768

@@ -1,5 +1,7 @@
 // The floor of a square root, of one word or two.
-mod entries;
+#![tactic(auto)]
+
 pub mod quick;
+pub mod reciprocal_table;
 pub mod root_table;
 pub mod roots;

@@ -29,8 +29,8 @@ last-places w t h g =
     ∙ ap (drop (16 - w)) blanks
     ∙ drop_at (replicate (16 - w) 32) (replicate (w - length t) 32 ++ t) (16 - w) (length-replicate (16 - w) 32)
 
-pub cell_length_lem : (w k end : ℕ) (x : Float) → is_wider w k x ≡ false → length (cell w k end x) ≡ w + 1
-cell_length_lem w k end x e =
+pub cell-length : (w k end : ℕ) (x : Float) → is_wider w k x ≡ false → length (cell w k end x) ≡ w + 1
+cell-length w k end x e =
     let t = decimal_text k x in
     let short = ltb-false w (length t) e in
     let blanks : List ℕ = replicate (w - length t) 32 in
@@ -92,8 +92,8 @@ row-length t f n =
       length-append (a ++ b ++ c) d,
       length-append (a ++ b) c,
       length-append a b,
-      cell_length_lem 6 1 32 t n.temperature,
-      cell_length_lem 7 4 32 f.density_kg_m3 n.density,
-      cell_length_lem 6 1 32 f.speed_of_sound_mps n.sound,
-      cell_length_lem 7 0 10 f.density_matched_altitude_m n.altitude,
+      cell-length 6 1 32 t n.temperature,
+      cell-length 7 4 32 f.density_kg_m3 n.density,
+      cell-length 6 1 32 f.speed_of_sound_mps n.sound,
+      cell-length 7 0 10 f.density_matched_altitude_m n.altitude,
     )

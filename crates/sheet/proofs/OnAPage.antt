@@ -7,8 +7,8 @@ module _ (page : List ℕ) (at : ℕ) (text : List ℕ) (room : at + length text
   unfolding placed
   over-length = length-sets page at text
 
-  pub over-front : take (at + length text) (over page at text) ≡ take at page ++ text
+  pub over_front : take (at + length text) (over page at text) ≡ take at page ++ text
   unfolding placed
-  over-front =
+  over_front =
       let long : length (take at page ++ text) ≡ at + length text = omega (arith, length-append (take at page) text, length-take-le at page (omega arith)) in
       ap (take (at + length text)) (sets-eq text page at room) ∙ take_at (take at page ++ text) (drop (at + length text) page) (at + length text) long

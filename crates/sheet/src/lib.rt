@@ -1,3 +1,5 @@
 // The setting sheet: density against temperature on one page.
+#![tactic(auto)]
+
 pub mod page;
 mod row;

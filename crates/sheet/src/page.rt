@@ -11,7 +11,7 @@ use record::entries::Entry;
 use refusal::{Check, Refusal, first_of};
 
 // What comes of a sheet.
-#[derive(Drop)]
+#[derive(Clone, Copy)]
 pub enum Sheet {
     Written,
     Refused(Refusal),

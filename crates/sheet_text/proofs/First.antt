@@ -1,5 +1,5 @@
 -- The first row that passes a test, searched row by row. Assumes nothing.
-use Rattle.arithmetic.proofs.Kit.{◌≡◌, refl, sym, ap, ap₂, ◌∙◌, Bool, true, false, ℕ, zero, suc, ◌+◌, ◌-◌, ◌<◌, ◌≤◌, add-one, arith}
+use Rattle.arithmetic.proofs.Kit.{◌≡◌, sym, ap, ap₂, ◌∙◌, Bool, true, false, ℕ, suc, ◌+◌, ◌-◌, ◌<◌, add-one, arith}
 use Rattle.atmosphere.specs.Layers.{first_from}
 
 module _ (test : ℕ → Bool) where

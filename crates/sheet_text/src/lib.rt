@@ -1,5 +1,7 @@
 // The sheet to pin up: the setting sheet under a heading, each row with its trim class, and the limits; or
 // why it is refused, or what readings a sheet takes.
+#![tactic(auto)]
+
 mod rows;
 mod sheet_lines;
 

@@ -12,7 +12,7 @@ use refusal::judge::Figures;
 
 // The figures of a station, with the mole fraction of vapour, uncapped, of the shown temperature and
 // pressure.
-#[derive(Drop)]
+#[derive(Clone, Copy)]
 pub struct StationFigures {
     pub figures: Figures,
     pub uncapped_vapor_mole_fraction: f64,

@@ -11,7 +11,7 @@ use fields::fields::{ALTITUDE, HUMIDITY, MEASURED_PRESSURE, QNH, STATION_PRESSUR
 use record::entries::{Entry, Readings, entry_of, value_or_zero};
 use refusal::inverse::Station;
 
-#[derive(Drop)]
+#[derive(Clone, Copy)]
 pub enum Pressure {
     Station(f64),
     Qnh(f64),
@@ -21,7 +21,7 @@ pub enum Pressure {
 
 // A station: its altitude, temperature and pressure as they are given or taken from the layer, and the
 // humidity.
-#[derive(Drop)]
+#[derive(Clone, Copy)]
 pub struct Resolved {
     pub altitude_m: f64,
     pub temperature: Reading,

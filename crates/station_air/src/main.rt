@@ -1,4 +1,6 @@
 // Reads one mast record from standard input and writes its figures or its refusal.
-fn main() {
-    reply::reply();
+#![tactic(auto)]
+
+fn main(rt: HostRuntime) {
+    reply::reply(&rt);
 }

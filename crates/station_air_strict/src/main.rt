@@ -1,4 +1,6 @@
 // The program with the strict reader, on a record whose tags fall.
-fn main() {
-    reply::reply();
+#![tactic(auto)]
+
+fn main(rt: HostRuntime) {
+    reply::reply(&rt);
 }

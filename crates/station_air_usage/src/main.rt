@@ -1,4 +1,6 @@
 // The program with an argument that asks for nothing there is.
-fn main() {
-    reply::reply();
+#![tactic(auto)]
+
+fn main(rt: HostRuntime) {
+    reply::reply(&rt);
 }

@@ -1,5 +1,5 @@
 -- No text that is asked for has more than 150 bytes, the two lines' of the figures. Assumes nothing.
-use Rattle.arithmetic.proofs.Kit.{Bool, true, false, ◌++◌, arith, lit≤, Float, binary64, to_bits, take}
+use Rattle.arithmetic.proofs.Kit.{Bool, true, false, arith, lit≤, Float, binary64, to_bits, take}
 use Rattle.refusal.specs.Outcomes.{Outcome, accepted, refused}
 use Rattle.refusal.specs.declared.judge.Figures.{Figures}
 use Rattle.mast.specs.Judge.{judge, judge_strictly}

@@ -1,5 +1,7 @@
 // The text of an answer: two lines with the eight figures and their mark, or `refused` and the number; and
 // which answer a program is asked for.
+#![tactic(auto)]
+
 pub mod answer_lines;
 
 ghost use Rattle.std.specs.Prelude.{◌≡◌, take};
@@ -11,7 +13,7 @@ use mast::judge::{judge, judge_strictly};
 use pages::put;
 
 // What the program is asked for.
-#[derive(Drop)]
+#[derive(Clone, Copy)]
 pub enum Asked {
     AnyOrder,
     RisingTags,
@@ -27,7 +29,7 @@ pub fn asked_for(count: usize, word: &[u8]) -> Asked
     if count <= 1 {
         return Asked::AnyOrder;
     }
-    let strict = check::same(word, b"strict");
+    let strict = pages::scan::same(word, b"strict");
     if (count == 2) & strict {
         Asked::RisingTags
     } else {

@@ -42,14 +42,14 @@ module _ (P N : ℕ) (some : 0 < P) where
 of-near : (N : ℕ) (x : Float) → T (unsigned x) → Near (2 ^ 1043) 1000 (above false (N * 2 ^ 1074)) (beneath false (N * 2 ^ 1074)) x → OfSize N x
 unfolding above beneath
 of-near N nan u n = absurd u
-of-near N (inf s) u n = absurd n.is_finite_lem
+of-near N (inf s) u n = absurd n.is_finite
 of-near N (fin true m e) u n = absurd u
 of-near N (fin false m e) u n =
     let u : ℕ = units_of (fin false m e) in
     let in_units : nearest_whole (m * up e * 1000) (down e) ≡ nearest_whole (u * 1000) (2 ^ 1074) =
     nearest_whole-same (m * up e * 1000) (down e) (u * 1000) (2 ^ 1074) (down_pos e) (pow_pos 1074)
     (mul_right_comm (m * up e) 1000 (2 ^ 1074) ∙ ap (λ (z : ℕ). z * 1000) (units-exact false m e n.double) ∙ mul_right_comm u (down e) 1000) in
-    record { digits = m; exponent = e; is = refl; nearest = in_units ∙ nearest-is (2 ^ 1043) N (pow_pos 1043) u n.not_above_lem n.not_below }
+    record { digits = m; exponent = e; is = refl; nearest = in_units ∙ nearest-is (2 ^ 1043) N (pow_pos 1043) u n.not_above n.not_below }
 
 pub of_size : (N : ℕ) → N ≤ 2147483648 → OfSize N (round binary64 false N 1000)
 of_size N h =

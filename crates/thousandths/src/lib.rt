@@ -1,10 +1,12 @@
 // Signed counts of thousandths: the count of a four-byte word and back, the double of a count, and the
 // count of a double, if it has one.
+#![tactic(auto)]
+
 ghost use Rattle.std.specs.Prelude.{◌≡◌, ◌*◌, ◌^◌, ◌<◌};
 ghost use Rattle.arithmetic.specs.Whole.{signed};
 ghost use Rattle.thousandths.specs.Thousandths.{count_of, twos_complement, thousandths, nearest_whole, counted, if_exact, count_for};
 
-#[derive(Drop)]
+#[derive(Clone, Copy)]
 pub enum Counted {
     Count(i32),
     Missing,

@@ -9,8 +9,8 @@ answer : (bytes : List ℕ) (s : Start) → Asks bytes s → next_trim_class byt
 unfolding next_trim_class next_of next_with next_from
 answer bytes s a =
     ap (λ (o : Outcome Readings). o ⟫ next_of) a.read ∙ ap (λ (o : Outcome ℕ). o ⟫ next_with s.readings) a.class
-    ∙ ap (λ (t : Entry). start_of s.readings s.class t (entry_of s.readings measured_pressure) ⟫ next_from) a.temperature-there
-    ∙ ap (λ (p : Entry). start_of s.readings s.class (Present s.temperature_c) p ⟫ next_from) a.pressure-there
+    ∙ ap (λ (t : Entry). start_of s.readings s.class t (entry_of s.readings measured_pressure) ⟫ next_from) a.temperature_there
+    ∙ ap (λ (p : Entry). start_of s.readings s.class (Present s.temperature_c) p ⟫ next_from) a.pressure_there
 
 same_next : {n m : Next} → accepted n ≡ accepted m → n ≡ m
 same_next e = cc
@@ -28,7 +28,7 @@ module _ (bytes : List ℕ) (s : Start) (a : Asks bytes s) where
   searched : FromCount s 200 1 → Searched bytes s
   unfolding changes
   searched (gives-from x m low high g before e) =
-      let one : OneOfThe800 x = record { at_least = low; at_most_lem = omega arith } in
+      let one : OneOfThe800 x = record { at_least = low; at_most = omega arith } in
       let first : FirstToGive s x m = record { one_of = one; gives = g; none_before = λ y j one' earlier. before y one'.at_least earlier j } in
       record {
         turns = λ t h. subst (λ (t : Turn). FirstToGive s t.change t.class) (same_turn (sym e ∙ found-is h)) first;
@@ -38,7 +38,7 @@ module _ (bytes : List ℕ) (s : Start) (a : Asks bytes s) where
   searched (gives_not_from none e) =
       record {
         turns = λ t h. absurd (apart (sym (found-is h) ∙ e));
-        none-because = λ h y j one. none y one.at_least (omega (arith, one.at_most_lem)) j;
+        none-because = λ h y j one. none y one.at_least (omega (arith, one.at_most)) j;
         none_where = λ none. answer bytes s a ∙ ap (λ (f : Found). accepted (record { class = s.class; turn = f })) e;
       }
 
@@ -87,7 +87,7 @@ answered bytes n e = go (read_record false bytes) refl e
     by_entries r m (Present t) (Present p) read class there there' e =
         record {
           start = record { readings = r; temperature_c = t; pressure_hpa = p; class = m };
-          asks = record { read = read; class = class; temperature-there = there; pressure-there = there' };
+          asks = record { read = read; class = class; temperature_there = there; pressure_there = there' };
           class = ap (λ (n : Next). n.class) (same_next (sym e));
         }
     by_entries r m (Present t) Absent read class there there' e = absurd (refused_or e)

@@ -39,7 +39,7 @@ unfolding judge
 never-refused bytes f t p e temperature-there pressure-there =
     let both : (not (is_present (entry_of (readings bytes) temperature)) || not (is_present (entry_of (readings bytes) measured_pressure))) ≡ false =
     ap₂ (λ (x y : Entry). not (is_present x) || not (is_present y)) temperature-there pressure-there in
-    (next_for bytes, (caused bytes).accepted_where (none_both (record_rows false bytes) (row (not (is_present (entry_of (readings bytes) temperature)) || not (is_present (entry_of (readings bytes) measured_pressure))) 22 [] ∷ []) ((mast.caused false bytes).accepted-because e).0 (both, tt)))
+    (next_for bytes, (caused bytes).accepted_where (none_both (record_rows false bytes) (row (not (is_present (entry_of (readings bytes) temperature)) || not (is_present (entry_of (readings bytes) measured_pressure))) 22 [] ∷ []) ((mast.caused false bytes).accepted_because e).0 (both, tt)))
 
 pub class-counts : (r : Readings) (f : Figures) → judged r ≡ accepted f
     → let d = f.density_kg_m3 in class_of r ≡ accepted (cond (le (decimal "1.00") d) 1 0 + cond (le (decimal "1.05") d) 1 0 + cond (le (decimal "1.10") d) 1 0 + cond (le (decimal "1.15") d) 1 0 + cond (le (decimal "1.20") d) 1 0 + cond (le (decimal "1.25") d) 1 0)

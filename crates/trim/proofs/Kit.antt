@@ -1,6 +1,6 @@
 -- The names that most proofs here use, of the kit, of the crates below and of the definitions, from one place. Nothing is defined here.
 unfoldable pub use Rattle.arithmetic.proofs.Kit.{le}
-pub use Rattle.arithmetic.proofs.Kit.{Bool, Float, List, T, [], ◌++◌, ◌+◌, ◌-◌, ◌<◌, ◌||◌, ◌∙◌, ◌∷◌, ◌≡◌, ◌≤◌, ◌⊎◌, add-one, add-zero, ap, ap₂, arith, cond, drop, drop-cons, eq-eqb, eq-or-lt_of_le, eqb, eqb-false, eqb-true, false, get_or, leb, leb→le, length, nan, ne_eqb, needs, not, refl, subst, suc, sym, true, zero, zero-add, ℕ, ⊎_elim}
+pub use Rattle.arithmetic.proofs.Kit.{Bool, Float, List, T, [], ◌++◌, ◌+◌, ◌-◌, ◌<◌, ◌||◌, ◌∙◌, ◌∷◌, ◌≡◌, ◌≤◌, ◌⊎◌, add-one, add-zero, ap, ap₂, arith, cond, drop, drop-cons, eq-eqb, eq-or-lt_of_le, eqb, eqb-false, eqb-true, false, get_or, leb, leb→le, length, nan, ne_eqb, rules, not, refl, subst, suc, sym, true, zero, zero-add, ℕ, ⊎_elim}
 pub use Rattle.refusal.specs.Outcomes.{Outcome, Row, ◌then◌, ◌⟫◌, accepted, checked, refused, row}
 pub use Rattle.refusal.specs.declared.judge.Figures.{Figures}
 pub use Rattle.fields.specs.Fields.{measured_pressure, temperature}

@@ -22,7 +22,7 @@ use Rattle.trim.specs.Search.{Next}
 -- ---- the 800 changes, and which of two comes first: the smaller k, and at equal k temperature before pressure, up before down
 pub record OneOfThe800 (x : Change) : Type 0 where
   pub at_least : 1 ≤ x.tenths
-  pub at_most_lem : x.tenths ≤ 200
+  pub at_most : x.tenths ≤ 200
 
 abbrev pub rank : Quantity → Direction → ℕ
 rank Temperature Up = 0
@@ -50,8 +50,8 @@ NoneGives s = (y : Change) (m : ℕ) → OneOfThe800 y → Gives s y m → ⊥
 pub record Asks (bytes : List ℕ) (s : Start) : Type 0 where
   pub read : read_record false bytes ≡ accepted s.readings
   pub class : class_of s.readings ≡ accepted s.class
-  pub temperature-there : entry_of s.readings temperature ≡ Present s.temperature_c
-  pub pressure-there : entry_of s.readings measured_pressure ≡ Present s.pressure_hpa
+  pub temperature_there : entry_of s.readings temperature ≡ Present s.temperature_c
+  pub pressure_there : entry_of s.readings measured_pressure ≡ Present s.pressure_hpa
 
 -- where both readings are there
 abbrev pub start_at : List ℕ → Start

@@ -7,20 +7,20 @@ use crate::classes::{Class, class_of};
 use fields::fields::{MEASURED_PRESSURE, TEMPERATURE};
 use record::entries::{Readings, with_entry};
 
-#[derive(Drop)]
+#[derive(Clone, Copy)]
 pub enum Quantity {
     Temperature,
     MeasuredPressure,
 }
 
-#[derive(Drop)]
+#[derive(Clone, Copy)]
 pub enum Direction {
     Up,
     Down,
 }
 
 // A number of tenths of a degree Celsius or of a hectopascal.
-#[derive(Drop)]
+#[derive(Clone, Copy)]
 pub struct Change {
     pub quantity: Quantity,
     pub direction: Direction,
@@ -28,20 +28,20 @@ pub struct Change {
 }
 
 // A change, and the class that it gives.
-#[derive(Drop)]
+#[derive(Clone, Copy)]
 pub struct Turn {
     pub change: Change,
     pub class: u8,
 }
 
-#[derive(Drop)]
+#[derive(Clone, Copy)]
 pub enum Found {
     Turn(Turn),
     Nothing,
 }
 
 // Readings with their temperature, their measured pressure and their class.
-#[derive(Drop)]
+#[derive(Clone, Copy)]
 pub struct Start {
     pub readings: Readings,
     pub temperature_c: f64,

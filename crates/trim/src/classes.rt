@@ -11,7 +11,7 @@ use refusal::judge::Answer;
 const CLASS_DENSITIES: [f64; 6] = [1.0, 1.05, 1.1, 1.15, 1.2, 1.25];
 
 // A class, or why readings have none.
-#[derive(Drop)]
+#[derive(Clone, Copy)]
 pub enum Class {
     Of(u8),
     Refused(Refusal),

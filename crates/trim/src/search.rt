@@ -14,7 +14,7 @@ use refusal::{Check, Refusal};
 const MOST_TENTHS: u8 = 200;
 
 // The class, and the smallest change that gives another, or that none of the changes does.
-#[derive(Drop)]
+#[derive(Clone, Copy)]
 pub enum Trim {
     Turns(u8, Turn),
     NoChange(u8),

@@ -61,7 +61,7 @@ first a b c = go (judge a) (judge b) (judge c) refl refl refl
 -- an accepted record's readings
 accepts : (s : List ℕ) → Accepts s → accepted_readings s ≡ accepted (readings s)
 unfolding judge
-accepts s (f, e) = accepted-by_rows s ∙ then-none (record_rows false s) ((mast.caused false s).accepted-because e).0
+accepts s (f, e) = accepted-by_rows s ∙ then-none (record_rows false s) ((mast.caused false s).accepted_because e).0
 
 masts_accepted : (a b c : List ℕ) → Accepts a → Accepts b → Accepts c → vote a b c ≡ by_no_mast (voted_outcome (readings a) (readings b) (readings c))
 unfolding vote
@@ -177,4 +177,4 @@ module _ (a b c : List ℕ) where
       ∙ ap (λ (t : Bool). by_no_mast (cond t (refused 21 []) (judged (voted_readings a b c)))) (any_where (readings a) (readings b) (readings c) meanings m is here)
 
   pub field-missing : FieldMissing a b c
-  field-missing = record { refused-because = λ vs e. because (first a b c) e; refused_where = so }
+  field-missing = record { refused_because = λ vs e. because (first a b c) e; refused_where = so }

@@ -28,10 +28,10 @@ taken-apart a b c f e =
     let three = after_mast_lem 3 (accepted_readings c) (λ p. by_no_mast (voted_outcome one.0 two.0 p)) two.2 in
     record { first = one.0; second = two.0; third = three.0; of-first = one.1; of-second = two.1; of-third = three.1; together = ap (λ (v : VoteOutcome). v.outcome) three.2 }
 
-put-together : (a b c : List ℕ) (f : Figures) {p q r : Readings} → accepted_readings a ≡ accepted p → accepted_readings b ≡ accepted q → accepted_readings c ≡ accepted r
+put_together : (a b c : List ℕ) (f : Figures) {p q r : Readings} → accepted_readings a ≡ accepted p → accepted_readings b ≡ accepted q → accepted_readings c ≡ accepted r
     → voted_outcome p q r ≡ accepted f → Votes a b c f
 unfolding vote
-put-together a b c f of-first of-second of-third together = rw (of-first, of-second, of-third) (ap by_no_mast together)
+put_together a b c f of-first of-second of-third together = rw (of-first, of-second, of-third) (ap by_no_mast together)
 
 -- ---- the masts one after the other
 refused-so : (s : List ℕ) {n : ℕ} {vs : List Float} → judge s ≡ refused n vs → accepted_readings s ≡ refused n vs
@@ -57,13 +57,13 @@ masts_in_order a b c n vs =
 exchanged-first : (a b c : List ℕ) (f : Figures) → Votes a b c f → Votes b a c f
 exchanged-first a b c f e =
     let v = taken-apart a b c f e in
-    put-together b a c f v.of-second v.of-first v.of-third
+    put_together b a c f v.of-second v.of-first v.of-third
     (exchange-first v.first v.second v.third (numbers a v.first v.of-first) (numbers b v.second v.of-second) (numbers c v.third v.of-third) ∙ v.together)
 
 exchanged-last : (a b c : List ℕ) (f : Figures) → Votes a b c f → Votes a c b f
 exchanged-last a b c f e =
     let v = taken-apart a b c f e in
-    put-together a c b f v.of-first v.of-third v.of-second
+    put_together a c b f v.of-first v.of-third v.of-second
     (exchange-last v.first v.second v.third (numbers a v.first v.of-first) (numbers b v.second v.of-second) (numbers c v.third v.of-third) ∙ v.together)
 
 pub exchange-of_masts : (a b c : List ℕ) (f : Figures) → Votes a b c f → VotesInEveryOrder a b c f
@@ -79,7 +79,7 @@ pub two_equal : (s t : List ℕ) (r q : Readings) (f : Figures) → accepted_rea
     → judge s ≡ accepted f → Outvoted s t f
 two_equal s t r q f one other same e =
     let figures : judged r ≡ accepted f = sym (ap (λ (o : Outcome Readings). o ⟫ judged) one) ∙ sym (by-the-judge s) ∙ e in
-    let third = put-together s s t f one one other (outvoted r q same ∙ figures) in
+    let third = put_together s s t f one one other (outvoted r q same ∙ figures) in
     let second = exchanged-last s s t f third in
     record { first = exchanged-first s t s f second; second = second; third = third }
 

@@ -33,7 +33,7 @@ abbrev pub InOneOrTwo : List ℕ → List ℕ → List ℕ → Type 0
 InOneOrTwo a b c = (m : ℕ) × ((m < meanings) × ((1 ≤ in_how_many a b c m) × (in_how_many a b c m ≤ 2)))
 
 pub record FieldMissing (a b c : List ℕ) : Type 0 where
-  pub refused-because : (values : List Float) → (vote a b c).outcome ≡ refused 21 values → (Accepts a × (Accepts b × Accepts c)) × InOneOrTwo a b c
+  pub refused_because : (values : List Float) → (vote a b c).outcome ≡ refused 21 values → (Accepts a × (Accepts b × Accepts c)) × InOneOrTwo a b c
   pub refused_where : Accepts a → Accepts b → Accepts c → InOneOrTwo a b c → vote a b c ≡ by_no_mast (refused 21 [])
 
 pub record VotesInEveryOrder (a b c : List ℕ) (f : Figures) : Type 0 where

@@ -2,7 +2,7 @@
 use refusal::Refusal;
 use refusal::judge::Figures;
 
-#[derive(Drop)]
+#[derive(Clone, Copy)]
 pub enum Vote {
     Figures(Figures),
     // a mast, 1 to 3, and the refusal of its record

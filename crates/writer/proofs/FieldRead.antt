@@ -1,5 +1,5 @@
 -- A field that is written, as the readers see it: no row of a field refuses it, and its value is the one that was written. Assumes nothing.
-use Rattle.writer.proofs.Kit.{◌≡◌, sym, ap, ap₂, ◌∙◌, Bool, true, false, not, ◌&&◌, cond, List, [], ◌++◌, append-nil, append_assoc, ℕ, ◌+◌, ◌%◌, ◌^◌, ◌<◌, mod-eq_of_lt, arith, le-ltb, eq-eqb, not_true, ltb, binary64, of_bits, of_bits-to_bits, length, length-append, drop_of_length-le, NoneHolds, then-none, none_both, Value, Double, Count, Readings, number_at, double_at, is_count_tag, is_tag, meaning_of, is_count, data_size, tag_of, length_of, size_of, value_of, field, head_rows, order_rows, noted, with_value, entry_of, is_present, size-by, at_most_lem, field_rows, read, bytes, data_of, field_with, has_form, IsHeld}
+use Rattle.writer.proofs.Kit.{◌≡◌, sym, ap, ap₂, ◌∙◌, Bool, true, false, not, ◌&&◌, cond, List, [], ◌++◌, append-nil, append_assoc, ℕ, ◌+◌, ◌%◌, ◌^◌, ◌<◌, mod-eq_of_lt, arith, le-ltb, eq-eqb, not-true, ltb, binary64, of_bits, of_bits-to_bits, length, length-append, drop_of_length-le, NoneHolds, then-none, none_both, Value, Double, Count, Readings, number_at, double_at, is_count_tag, is_tag, meaning_of, is_count, data_size, tag_of, length_of, size_of, value_of, field, head_rows, order_rows, noted, with_value, entry_of, is_present, size-by, at_most_lem, field_rows, read, bytes, data_of, field_with, has_form, IsHeld}
 use lib.Ieee.Bits.{to_bits-lt}
 use Rattle.record.proofs.Followed.{read_whole}
 use Rattle.writer.proofs.Bytes.{length-bytes}
@@ -8,7 +8,7 @@ use Rattle.writer.proofs.Spelled.{spelled}
 
 -- the form of a value is its tag's
 pub one_form : (tag : ℕ) (v : Value) → has_form tag v ≡ true → is_count_tag tag ≡ is_count v
-one_form tag (Double x) h = not_true (is_count_tag tag) h
+one_form tag (Double x) h = not-true (is_count_tag tag) h
 one_form tag (Count word) h = h
 
 -- a value, by the number that its data spells

@@ -1,7 +1,7 @@
 -- The names that most proofs here use, of the kit, of the crates below and of the definitions, from one place. Nothing is defined here.
 pub use lib.Seq.{drop-append_seam, ext_get_or, get_or-append-add, get_or_at, get_or-set_other, get_or-set_same, get_or-take, sets-eq, take-add, take-append_seam, take-suc}
 unfoldable pub use Rattle.arithmetic.proofs.Kit.{flat_map, is_nan, of_bits}
-pub use Rattle.arithmetic.proofs.Kit.{Bool, Float, List, List·getD-eq-default, SFits, T, [], ◌%◌, ◌&&◌, ◌*◌, ◌++◌, ◌+◌, ◌-◌, ◌/◌, ◌<◌, ◌^◌, ◌∙◌, ◌∷◌, ◌≡◌, ◌≤◌, ◌⊎◌, add-one, add-zero, ap, append_assoc, append-nil, ap₂, arith, binary64, cond, digits_div, digits_lt, div-div-eq-div-mul, drop, drop-cons, drop-drop, drop_of_length-le, eq-eqb, eqb, eqb-false, eqb-true, false, fin, finite, get_or, get_or-drop, inf, inl, inr, le-ltb, leb, leb-false, leb-true, length, length-append, length-drop, length-set, length-take, length-take-le, lit<, lt-ltb, ltb, ltb-false, ltb-true, map, mod-eq_of_lt, mul-suc, nan, needs, not, not-false, not_true, of_bits-fits, of_bits-to_bits, one-le-pow, pow-add, pow-suc, pow-succ', refl, set, sets, subst, suc, sym, take, take_all, take-append-drop, to_z-of_z, true, true≢false, w32, zero, zero-add, ℕ, ℤ, ⊎_elim}
+pub use Rattle.arithmetic.proofs.Kit.{Bool, Float, List, List·getD-eq-default, SFits, T, [], ◌%◌, ◌&&◌, ◌*◌, ◌++◌, ◌+◌, ◌-◌, ◌/◌, ◌<◌, ◌^◌, ◌∙◌, ◌∷◌, ◌≡◌, ◌≤◌, ◌⊎◌, add-one, add-zero, ap, append_assoc, append-nil, ap₂, arith, binary64, cond, digits_div, digits_lt, div-div-eq-div-mul, drop, drop-cons, drop-drop, drop_of_length-le, eq-eqb, eqb, eqb-false, eqb-true, false, fin, finite, get_or, get_or-drop, inf, inl, inr, le-ltb, leb, leb-false, leb-true, length, length-append, length-drop, length-set, length-take, length-take-le, lit<, lt-ltb, ltb, ltb-false, ltb-true, map, mod-eq_of_lt, mul-suc, nan, rules, not, not-false, not-true, of_bits-fits, of_bits-to_bits, one-le-pow, pow-add, pow-suc, pow-succ', refl, set, sets, subst, suc, sym, take, take_all, take-append-drop, to_z-of_z, true, true≢false, w32, zero, zero-add, ℕ, ℤ, ⊎_elim}
 pub use Rattle.refusal.proofs.Rows.{Never, exactly, exactly-by, never_both, never-refused, none_after, none_before, none_both, numbers-append, then-accepted, then_append, then-none, then-rows}
 pub use Rattle.refusal.specs.Causes.{ExactlyCaused, NoneHolds}
 pub use Rattle.refusal.specs.Outcomes.{Outcome, Row, ◌then◌, ◌⟫◌, accepted, checked, numbers, refused}

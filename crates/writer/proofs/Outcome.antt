@@ -25,19 +25,19 @@ module _ (counts : Bool) (s : List ℕ) where
   reader-refuses e = then_append (read_rows false s) checks (accepted (record_in counts s)) ∙ rows_refuse (readings s) (read_rows false s) e (checks then accepted (record_in counts s))
 
   module _ (none : NoneHolds (read_rows false s)) where
-    past-reader : converted counts s ≡ (checks then accepted (record_in counts s))
+    past_reader : converted counts s ≡ (checks then accepted (record_in counts s))
     unfolding converted
-    past-reader = then_append (read_rows false s) checks (accepted (record_in counts s)) ∙ then-none (read_rows false s) none
+    past_reader = then_append (read_rows false s) checks (accepted (record_in counts s)) ∙ then-none (read_rows false s) none
 
     pub no_count : {n : ℕ} {vs : List Float} → (checks then accepted (length (record_in counts s))) ≡ refused n vs → converted counts s ≡ refused n vs
-    no_count e = past-reader ∙ rows_refuse (length (record_in counts s)) checks e (accepted (record_in counts s))
+    no_count e = past_reader ∙ rows_refuse (length (record_in counts s)) checks e (accepted (record_in counts s))
 
     pub counted : {n : ℕ} → (checks then accepted (length (record_in counts s))) ≡ accepted n → (converted counts s ≡ accepted (record_in counts s)) × (n ≡ length (record_in counts s))
     counted {n} e =
         let ok = then-accepted checks e in
         let same = ok.1 in
         let long : n ≡ length (record_in counts s) = cc in
-        (past-reader ∙ then-none checks ok.0, long)
+        (past_reader ∙ then-none checks ok.0, long)
 
   -- into a buffer
   module _ (buffer : List ℕ) where

@@ -16,7 +16,7 @@ use refusal::{Check, Refusal};
 use thousandths::{Counted, count_of, double_of_word, word_from};
 
 // A field in a form: as it is, with the other value of its meaning, or none, where a double has no count.
-#[derive(Drop)]
+#[derive(Clone, Copy)]
 enum Turned {
     Kept,
     Other(usize, Value),

@@ -1,5 +1,7 @@
 // The writer of mast records: the fields of readings, each in its form and by rising tags, into a lent
 // buffer; and a field by itself.
+#![tactic(auto)]
+
 pub mod conversion;
 
 ghost use Rattle.std.specs.Prelude.{◌≡◌, ◌+◌, ◌≤◌, ◌<◌, length};
@@ -16,7 +18,7 @@ use record::entries::{Readings, Stored, stored_of};
 use refusal::Refusal;
 
 // How many bytes were written, or why none was.
-#[derive(Drop)]
+#[derive(Clone, Copy)]
 pub enum Written {
     Length(usize),
     Refused(Refusal),

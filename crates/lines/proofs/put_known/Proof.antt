@@ -1,19 +1,26 @@
 -- `lines::put_known` meets its contract. Assumes nothing.
-use Rattle.arithmetic.proofs.Kit.{ne_eqb, needs}
-use Rattle.lines.specs.Answers.{knownAnswer}
+use Rattle.arithmetic.proofs.Kit.{ne_eqb, rules}
+use Rattle.lines.specs.Answers.{known_answer}
 use Rattle.lines.proofs.put_known.Statement.{statement}
 use Rattle.lines.proofs.put_known.Tie as tie
 
-returns-4 : tie.Need-returns-4
-unfolding knownAnswer
-returns-4 c =
-    let others = c.before.before.before.before.match.rest in
-    rw (ne_eqb _ _ others.0.0.1, ne_eqb _ _ others.0.1, ne_eqb _ _ others.1) c.before.before.put-record-answer.ensures
+returns_4 : tie.Need-returns-in_default
+unfolding known_answer
+returns_4 c =
+    let others = c.in_default.in_default-own.rest in
+    rw (ne_eqb _ _ others.0.0.1, ne_eqb _ _ others.0.1, ne_eqb _ _ others.1) c.put_record_answer.ensures
 
-pub put-known-spec : {M : Type 1} → statement M
-put-known-spec =
-    tie.close (tie.spec (λ c κs. search needs) (λ c κs. search needs) (λ c κs. search needs) (λ c κs. search needs) (λ c. search needs)
-    (λ c. unfold knownAnswer in rw c.before.before.before.before.match.keys1 c.before.before.put-vote-answer.ensures) (λ c. search needs)
-    (λ c. unfold knownAnswer in rw c.before.before.before.before.match.keys2 c.before.before.put-sheet-answer.ensures) (λ c. search needs)
-    (λ c. unfold knownAnswer in rw c.before.before.before.before.match.keys3 c.before.before.put-load-answer.ensures) (λ c. search needs)
-    returns-4)
+pub put_known_spec : {M : Type 1} → statement M
+put_known_spec =
+    tie.close (tie.spec (λ c κs. search rules)
+    (λ c κs. search rules)
+    (λ c κs. search rules)
+    (λ c κs. search rules)
+    (λ c. search rules)
+    (λ c. unfold known_answer in rw c.in-8.is c.put_vote_answer.ensures)
+    (λ c. search rules)
+    (λ c. unfold known_answer in rw c.in-9.is c.put_sheet_answer.ensures)
+    (λ c. search rules)
+    (λ c. unfold known_answer in rw c.in-10.is c.put_load_answer.ensures)
+    (λ c. search rules)
+    returns_4)

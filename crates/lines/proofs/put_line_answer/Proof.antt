@@ -1,19 +1,25 @@
 -- `lines::put_line_answer` meets its contract. Assumes nothing.
-use Rattle.arithmetic.proofs.Kit.{refl, lt-ltb, le-ltb, eq-eqb, ne_eqb, needs}
-use Rattle.lines.specs.Answers.{answerLine}
+use Rattle.arithmetic.proofs.Kit.{refl, lt-ltb, le-ltb, eq-eqb, ne_eqb, rules}
+use Rattle.lines.specs.Answers.{answer_line}
 use Rattle.lines.proofs.put_line_answer.Statement.{statement}
 use Rattle.lines.proofs.put_line_answer.Tie as tie
 
-returns-2 : tie.Need-returns-2
-unfolding answerLine
-returns-2 c = (rw (le-ltb _ _ c.before.before.before.before.before.before.if1.false, eq-eqb _ _ c.before.before.before.before.before.if2.true) c.before.before.put2.ensures.0, refl)
+returns_2 : tie.Need-returns-then-line-eq0
+unfolding answer_line
+returns_2 c = (rw (le-ltb _ _ c.if-line-gt4096.false, eq-eqb _ _ c.if-line-eq0.true) c.put-then-line-eq0.ensures.0, refl)
 
-returns-3 : tie.Need-returns-3
-unfolding answerLine
-returns-3 c = (rw (le-ltb _ _ c.before.before.before.before.before.if1.false, ne_eqb _ _ c.before.before.before.before.if2.false) c.before.before.put-question.ensures, refl)
+returns_3 : tie.Need-returns
+unfolding answer_line
+returns_3 c = (rw (le-ltb _ _ c.if-line-gt4096.false, ne_eqb _ _ c.if-line-eq0.false) c.put_question.ensures, refl)
 
-pub put-line-answer-spec : {M : Type 1} → statement M
-put-line-answer-spec =
-    tie.close (tie.spec (λ c. search needs) (λ c κs. search needs) (λ c. search needs)
-    (λ c. unfold answerLine in (rw (lt-ltb _ _ c.before.before.before.before.before.if1.true) c.before.before.put.ensures.0, refl))
-    (λ c. search needs) (λ c κs. search needs) (λ c. search needs) returns-2 (λ c κs. search needs) (λ c. search needs) returns-3)
+pub put_line_answer_spec : {M : Type 1} → statement M
+put_line_answer_spec =
+    tie.close (tie.spec (λ c κs. search rules)
+    (λ c. search rules)
+    (λ c. unfold answer_line in (rw (lt-ltb _ _ c.if-line-gt4096.true) c.put.ensures.0, refl))
+    (λ c κs. search rules)
+    (λ c. search rules)
+    returns_2
+    (λ c κs. search rules)
+    (λ c. search rules)
+    returns_3)

@@ -1,5 +1,5 @@
 -- `notes::put_notes` meets its contract. Assumes nothing.
-use Rattle.arithmetic.proofs.Kit.{ap, ap₂, ◌∙◌, ◌++◌, needs}
+use Rattle.arithmetic.proofs.Kit.{ap, ap₂, ◌∙◌, ◌++◌, rules}
 use Rattle.refusal.specs.Outcomes.{Outcome}
 use Rattle.refusal.specs.Judged.{outcome}
 use Rattle.refusal.specs.declared.judge.Figures.{Figures}
@@ -19,26 +19,33 @@ use Rattle.notes.proofs.put_notes.Tie as tie
 returns : tie.Need-returns
 unfolding notes note_lines
 returns c =
-    let doubts = c.before.before in
-    let ranges = doubts.before.before.before.before in
-    let pressures = ranges.before.before.before.before in
-    let used = pressures.before.before.before.before in
-    let air = used.before.before in
-    let given = air.before.before in
-    let a = given.before.before.args in
+    let doubts = c in
+    let ranges = c in
+    let pressures = c in
+    let used = c in
+    let air = c in
+    let given = c in
+    let a = given.args in
     let f = a.figures in
-    let g = given.given_by.result in
-    let o = outcome air.answer-of.result in
+    let g = given.given_by-given.result in
+    let o = outcome air.answer_of-air.result in
     let first = used_notes g f o in
     same_more
-    (ap₂ (λ (g : Given) (o : Outcome Figures). printed (notes_of a.point g o f)) given.given_by.ensures
-    (air.answer-of.ensures ∙ ap air_outcome air.before.as-given.ensures))
+    (ap₂ (λ (g : Given) (o : Outcome Figures). printed (notes_of a.point g o f)) given.given_by-given.ensures
+    (air.answer_of-air.ensures ∙ ap air_outcome air.as_given.ensures))
     (and_notes (first ++ pressure_notes g f ++ range_notes g f) (doubt_notes g f a.point)
     (and_notes (first ++ pressure_notes g f) (range_notes g f)
-    (and_notes first (pressure_notes g f) used.put-used.ensures pressures.put-pressures.ensures) ranges.put-ranges.ensures)
-    doubts.put-doubts.ensures)
+    (and_notes first (pressure_notes g f) used.put_used-used.ensures pressures.put_pressures-pressures.ensures) ranges.put_ranges-ranges.ensures)
+    doubts.put_doubts.ensures)
 
-pub put-notes-spec : {M : Type 1} → statement M
-put-notes-spec =
-    tie.close (tie.spec (λ c κs. search needs) (λ c κs. search needs) (λ c κs. search needs) (λ c κs. search needs) (λ c κs. search needs)
-    (λ c κs. search needs) (λ c κs. search needs) (λ c. search needs) returns)
+pub put_notes_spec : {M : Type 1} → statement M
+put_notes_spec =
+    tie.close (tie.spec (λ c κs. search rules)
+    (λ c κs. search rules)
+    (λ c κs. search rules)
+    (λ c κs. search rules)
+    (λ c κs. search rules)
+    (λ c κs. search rules)
+    (λ c κs. search rules)
+    (λ c. search rules)
+    returns)

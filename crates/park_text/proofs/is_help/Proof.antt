@@ -1,5 +1,5 @@
 -- `park_text::is_help` meets its contract. Assumes nothing.
-use Rattle.arithmetic.proofs.Kit.{◌≡◌, needs}
+use Rattle.arithmetic.proofs.Kit.{rules}
 use Rattle.arithmetic.specs.Ascii.{ascii}
 use Rattle.pages.proofs.Same.{compared}
 use Rattle.park_text.proofs.is_help.Statement.{statement}
@@ -7,9 +7,12 @@ use Rattle.park_text.proofs.is_help.Tie as tie
 
 returns : tie.Need-returns
 returns c =
-    let w = c.before.before.before.before.before.before.before.args.word.now in
-    cc (compared w (ascii "help") _ c.before.before.before.before.same.ensures, compared w (ascii "--help") _ c.before.before.same2.ensures, compared w (ascii "-h") _ c.same3.ensures)
+    let w = c.args.word.now in
+    cc (compared w (ascii "help") _ c.same.ensures, compared w (ascii "--help") _ c.same-2.ensures, compared w (ascii "-h") _ c.same-3.ensures)
 
-pub is-help-spec : {M : Type 1} → statement M
-is-help-spec =
-    tie.close (tie.spec (λ c. search needs) (λ c κs. search needs) (λ c. search needs) (λ c κs. search needs) (λ c. search needs) (λ c κs. search needs) returns)
+pub is_help_spec : {M : Type 1} → statement M
+is_help_spec =
+    tie.close (tie.spec (λ c κs. search rules)
+    (λ c κs. search rules)
+    (λ c κs. search rules)
+    returns)

@@ -1,14 +1,14 @@
 -- `park_text::is_record_alone` meets its contract: no word follows where the second one would begin at the text's end. Assumes nothing.
-use Rattle.arithmetic.proofs.Kit.{◌≡◌, refl, sym, ap, ap₂, ◌∙◌, Bool, true, false, ◌&&◌, List, [], ℕ, ◌≤◌, arith, eqb, ne_eqb, leb, leb-true, leb-false, length, get_or, drop, length-drop, drop_of_length-le, needs}
+use Rattle.arithmetic.proofs.Kit.{◌≡◌, refl, sym, ap, ap₂, ◌∙◌, Bool, true, false, ◌&&◌, List, ℕ, arith, eqb, ne_eqb, leb, leb-true, leb-false, length, drop, length-drop, drop_of_length-le, rules}
 use Rattle.park_text.specs.Words.{arguments, ArgumentStarts}
 use Rattle.park_text.specs.Word.{is_record}
 use Rattle.park_text.proofs.Split.{some_word}
 use Rattle.park_text.proofs.is_record_alone.Statement.{statement}
 use Rattle.park_text.proofs.is_record_alone.Tie as tie
 
-none-follows : (s : List ℕ) (at : ℕ) → ArgumentStarts s 1 at → leb (length s) at ≡ eqb (length (drop 1 (arguments s))) 0
+none_follows : (s : List ℕ) (at : ℕ) → ArgumentStarts s 1 at → leb (length s) at ≡ eqb (length (drop 1 (arguments s))) 0
 unfolding arguments
-none-follows s at start = go (leb (length s) at) refl
+none_follows s at start = go (leb (length s) at) refl
   where
     go : (b : Bool) → leb (length s) at ≡ b → b ≡ eqb (length (drop 1 (arguments s))) 0
     go true e =
@@ -19,10 +19,13 @@ none-follows s at start = go (leb (length s) at) refl
 
 returns : tie.Need-returns
 returns c =
-    let word = c.before.before in
-    let s = word.before.before.args.text.now in
-    let begins = c.before.is-record.ensures.0 ∙ ap is_record word.nth-word.ensures.0 in
-    (ap₂ (λ (a b : Bool). a && b) begins (none-follows s c.word-start.result c.word-start.ensures.0), refl)
+    let word = c in
+    let s = word.args.text.now in
+    let begins = c.is_record.ensures.0 ∙ ap is_record word.nth_word.ensures.0 in
+    (ap₂ (λ (a b : Bool). a && b) begins (none_follows s c.word_start.result c.word_start.ensures.0), refl)
 
-pub is-record-alone-spec : {M : Type 1} → statement M
-is-record-alone-spec = tie.close (tie.spec (λ c κs. search needs) (λ c κs. search needs) (λ c κs. search needs) returns)
+pub is_record_alone_spec : {M : Type 1} → statement M
+is_record_alone_spec = tie.close (tie.spec (λ c κs. search rules)
+    (λ c κs. search rules)
+    (λ c κs. search rules)
+    returns)

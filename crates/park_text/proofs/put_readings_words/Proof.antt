@@ -1,5 +1,5 @@
 -- `park_text::put_readings_words` meets its contract. Assumes nothing.
-use Rattle.arithmetic.proofs.Kit.{ap, ◌∙◌, List, ℕ, needs}
+use Rattle.arithmetic.proofs.Kit.{ap, ◌∙◌, List, ℕ, rules}
 use Rattle.park_text.specs.Words.{arguments}
 use Rattle.park_text.specs.ParkLines.{problem_line}
 use Rattle.park_text.specs.ParkText.{report_of, readings_words}
@@ -8,26 +8,34 @@ use Rattle.park_text.proofs.Said.{said-given, said-wrong}
 use Rattle.park_text.proofs.put_readings_words.Statement.{statement}
 use Rattle.park_text.proofs.put_readings_words.Tie as tie
 
-returns : tie.Need-returns
+returns : tie.Need-returns-in-Passed
 unfolding readings_words
 returns c =
-    let told = c.before.before.before.before in
-    let read = told.before.before in
-    same_more (said-given (report_of (arguments read.before.before.before.args.text.now)) (arguments read.before.before.before.args.text.now) read.read-words.result read.read-words.ensures.0 told.enum_told.given.1)
-    c.before.before.put-said.ensures
+    let told = c in
+    let read = c in
+    same_more (said-given (report_of (arguments read.args.text.now)) (arguments read.args.text.now) read.read_words-read.result read.read_words-read.ensures.0 told.in-Passed.is)
+    c.put_said.ensures
 
-returns-2 : tie.Need-returns-2
+returns_2 : tie.Need-returns-in-Wrong
 unfolding readings_words
-returns-2 c =
-    let word = c.before.before.before in
-    let told = word.before.before.before in
-    let read = told.before.before in
+returns_2 c =
+    let word = c in
+    let told = c in
+    let read = c in
     same_more
-    (ap (λ (w : List ℕ). problem_line w told.check.given.0.0) word.nth-word.ensures.0
-    ∙ said-wrong (report_of (arguments read.before.before.before.args.text.now)) (arguments read.before.before.before.args.text.now) read.read-words.result read.read-words.ensures.0 told.check.given.1)
-    c.before.before.put-problem.ensures
+    (ap (λ (w : List ℕ). problem_line w told.in-Wrong.problem) word.nth_word.ensures.0
+    ∙ said-wrong (report_of (arguments read.args.text.now)) (arguments read.args.text.now) read.read_words-read.result read.read_words-read.ensures.0 told.in-Wrong.is)
+    c.put_problem.ensures
 
-pub put-readings-words-spec : {M : Type 1} → statement M
-put-readings-words-spec =
-    tie.close (tie.spec (λ c κs. search needs) (λ c. search needs) (λ c κs. search needs) (λ c. search needs) (λ c κs. search needs) (λ c κs. search needs)
-    (λ c. search needs) returns (λ c. search needs) returns-2)
+pub put_readings_words_spec : {M : Type 1} → statement M
+put_readings_words_spec =
+    tie.close (tie.spec (λ c κs. search rules)
+    (λ c. search rules)
+    (λ c κs. search rules)
+    (λ c. search rules)
+    (λ c κs. search rules)
+    (λ c κs. search rules)
+    (λ c. search rules)
+    returns
+    (λ c. search rules)
+    returns_2)

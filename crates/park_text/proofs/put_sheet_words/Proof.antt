@@ -1,5 +1,5 @@
 -- `park_text::put_sheet_words` meets its contract. Assumes nothing.
-use Rattle.arithmetic.proofs.Kit.{ap, ◌∙◌, List, ℕ, needs}
+use Rattle.arithmetic.proofs.Kit.{ap, ◌∙◌, List, ℕ, rules}
 use Rattle.sheet_text.specs.SheetText.{sheet_of}
 use Rattle.park_text.specs.Words.{arguments}
 use Rattle.park_text.specs.ParkLines.{problem_line}
@@ -9,26 +9,34 @@ use Rattle.park_text.proofs.Said.{said-given, said-wrong}
 use Rattle.park_text.proofs.put_sheet_words.Statement.{statement}
 use Rattle.park_text.proofs.put_sheet_words.Tie as tie
 
-returns : tie.Need-returns
+returns : tie.Need-returns-in-Passed
 unfolding sheet_words
 returns c =
-    let told = c.before.before.before.before in
-    let read = told.before.before in
-    same_more (said-given sheet_of (arguments read.before.before.before.args.text.now) read.read-words.result read.read-words.ensures.0 told.enum_told.given.1)
-    c.before.before.put-sheet-of.ensures
+    let told = c in
+    let read = c in
+    same_more (said-given sheet_of (arguments read.args.text.now) read.read_words-read.result read.read_words-read.ensures.0 told.in-Passed.is)
+    c.put_sheet_of.ensures
 
-returns-2 : tie.Need-returns-2
+returns_2 : tie.Need-returns-in-Wrong
 unfolding sheet_words
-returns-2 c =
-    let word = c.before.before.before in
-    let told = word.before.before.before in
-    let read = told.before.before in
+returns_2 c =
+    let word = c in
+    let told = c in
+    let read = c in
     same_more
-    (ap (λ (w : List ℕ). problem_line w told.check.given.0.0) word.nth-word.ensures.0
-    ∙ said-wrong sheet_of (arguments read.before.before.before.args.text.now) read.read-words.result read.read-words.ensures.0 told.check.given.1)
-    c.before.before.put-problem.ensures
+    (ap (λ (w : List ℕ). problem_line w told.in-Wrong.problem) word.nth_word.ensures.0
+    ∙ said-wrong sheet_of (arguments read.args.text.now) read.read_words-read.result read.read_words-read.ensures.0 told.in-Wrong.is)
+    c.put_problem.ensures
 
-pub put-sheet-words-spec : {M : Type 1} → statement M
-put-sheet-words-spec =
-    tie.close (tie.spec (λ c κs. search needs) (λ c. search needs) (λ c κs. search needs) (λ c. search needs) (λ c κs. search needs) (λ c κs. search needs)
-    (λ c. search needs) returns (λ c. search needs) returns-2)
+pub put_sheet_words_spec : {M : Type 1} → statement M
+put_sheet_words_spec =
+    tie.close (tie.spec (λ c κs. search rules)
+    (λ c. search rules)
+    (λ c κs. search rules)
+    (λ c. search rules)
+    (λ c κs. search rules)
+    (λ c κs. search rules)
+    (λ c. search rules)
+    returns
+    (λ c. search rules)
+    returns_2)

@@ -1,5 +1,5 @@
 -- `report::put_record` meets its contract: the buffer has room for any record. Assumes nothing.
-use Rattle.arithmetic.proofs.Kit.{◌≡◌, sym, ap, ◌∙◌, List, ℕ, arith, needs, length, take, replicate, length-replicate}
+use Rattle.arithmetic.proofs.Kit.{◌≡◌, sym, ap, ◌∙◌, List, ℕ, arith, rules, length, take, replicate, length-replicate}
 use Rattle.writer.specs.Records.{record_of}
 use Rattle.writer.specs.Written.{written}
 use Rattle.pages.proofs.Growing.{same_more}
@@ -13,32 +13,39 @@ use Rattle.report.proofs.put_record.Tie as tie
 abbrev buffer : List ℕ
 buffer = replicate 154 0
 
-buffer-length : length buffer ≡ 154
-buffer-length = length-replicate {A = ℕ} 154 0
+buffer_length : length buffer ≡ 154
+buffer_length = length-replicate {A = ℕ} 154 0
 
 -- what is written is the record, and its length is answered
-counted : (c : tie.After-length) → c.length.given.0.0 ≡ length (record_of c.before.before.before.before.before.before.args.readings)
-counted c = length-is c.before.before.before.before.before.before.args.readings buffer buffer-length (ap written (sym c.length.given.1) ∙ c.before.before.before.write.ensures.0)
+counted : (c : tie.In-Length) → c.in-Length.length ≡ length (record_of c.args.readings)
+counted c = length-is c.args.readings buffer buffer_length (ap written (sym c.in-Length.is) ∙ c.write.ensures.0)
 
-whole-record : (c : tie.After-length) → take c.length.given.0.0 c.before.before.before.write.new.1.0 ≡ record_of c.before.before.before.before.before.before.args.readings
-whole-record c = recorded c.before.before.before.before.before.before.args.readings buffer buffer-length (counted c) c.before.before.before.write.ensures.1
+whole_record : (c : tie.In-Length) → take c.in-Length.length c.write.new.out ≡ record_of c.args.readings
+whole_record c = recorded c.args.readings buffer buffer_length (counted c) c.write.ensures.1
 
-array-share-prefix-record : tie.Need-array-share-prefix-record
-array-share-prefix-record c = let told = c.before.before in omega (arith, counted told, record_short told.before.before.before.before.before.before.args.readings)
+array_share_prefix_record : tie.Need-slice_bounds-record-end
+array_share_prefix_record c = let told = c.before in omega (arith, counted told, record_short told.args.readings)
 
-returns : tie.Need-returns
+returns : tie.Need-returns-in-Refused
 returns c =
-    let told = c.before.before.before in
-    let r = told.before.before.before.args.readings in
-    absurd (not_refused r buffer buffer-length c.enum_told.given.0.0 (ap written (sym c.enum_told.given.1) ∙ told.write.ensures.0))
+    let told = c.before.before in
+    let r = told.args.readings in
+    absurd (not_refused r buffer buffer_length c.in-Refused.field-0 (ap written (sym c.in-Refused.is) ∙ told.write.ensures.0))
 
-returns-2 : tie.Need-returns-2
-returns-2 c =
+returns_2 : tie.Need-returns-in-Length
+returns_2 c =
     let line = c.before.before in
-    same_more (ap record_line (whole-record line.before.before.before.before)) line.put-record-line.ensures
+    same_more (ap record_line (whole_record line.before.before.before)) line.put_record_line.ensures
 
-pub put-record-spec : {M : Type 1} → statement M
-put-record-spec =
-    tie.close (tie.spec (λ c. search needs) (λ c κs. search needs) (λ c. search needs) (λ c. search needs) array-share-prefix-record
-    (λ c. let told = c.before.before.before in counted told ∙ sym (ap length (whole-record told))) (λ c κs. search needs) returns
-    (λ c. search needs) returns-2)
+pub put_record_spec : {M : Type 1} → statement M
+put_record_spec =
+    tie.close (tie.spec (λ c. search rules)
+    (λ c κs. search rules)
+    (λ c. search rules)
+    (λ c. search rules)
+    array_share_prefix_record
+    (λ c. let told = c.before.before in counted told ∙ sym (ap length (whole_record told)))
+    (λ c κs. search rules)
+    returns
+    (λ c. search rules)
+    returns_2)

@@ -1,5 +1,5 @@
 -- `report::put_record_report` meets its contract. Assumes nothing.
-use Rattle.arithmetic.proofs.Kit.{◌≡◌, sym, ap, ◌∙◌, false, List, ◌++◌, ℕ, needs}
+use Rattle.arithmetic.proofs.Kit.{◌≡◌, sym, ap, ◌∙◌, false, List, ◌++◌, ℕ, rules}
 use Rattle.refusal.specs.declared.Check.{Check}
 use Rattle.refusal.specs.Outcomes.{accepted, ◌⟫◌, checked}
 use Rattle.record.specs.declared.readings.Read.{Read}
@@ -19,28 +19,38 @@ unfolding record_text
 by_read s r told e =
     ap (read_text s) (ap (λ (k : Check). checked k ⟫ (λ _. accepted r.readings)) (sym told) ∙ outcome-of-parts r (read_record false s) e)
 
-returns : tie.Need-returns
+returns : tie.Need-returns-in-Passed
 returns c =
-    let told = c.before.before.before.before in
-    let read = told.before.before in
-    same_more (by_read read.before.before.before.args.bytes.now read.read-record.result told.enum_told.given.1 read.read-record.ensures.0)
-    c.before.before.put-report.ensures
+    let told = c in
+    let read = c in
+    same_more (by_read read.args.bytes.now read.read_record-read.result told.in-Passed.is read.read_record-read.ensures.0)
+    c.put_report.ensures
 
-returns-2 : tie.Need-returns-2
-returns-2 c =
-    let bytes = c.before.before in
-    let cause = bytes.before.before.before.before in
-    let line = cause.before.before.before.before in
-    let numbered = line.before.before in
-    let told = numbered.before.before in
-    let read = told.before.before in
-    let s = read.before.before.before.args.bytes.now in
+returns_2 : tie.Need-returns-in-Refused
+returns_2 c =
+    let bytes = c in
+    let cause = c in
+    let line = c in
+    let numbered = c in
+    let told = c in
+    let read = c in
+    let s = read.args.bytes.now in
     same_more
-    (ap (λ (n : ℕ). refusal_line n ++ cause_lines Record n ++ record_line s) numbered.number.ensures
-    ∙ by_read s read.read-record.result told.check.given.1 read.read-record.ensures.0)
-    (and_then (and_then line.put-refusal.ensures cause.put-cause.ensures) bytes.put-record-line.ensures)
+    (ap (λ (n : ℕ). refusal_line n ++ cause_lines Record n ++ record_line s) numbered.number-number.ensures
+    ∙ by_read s read.read_record-read.result told.in-Refused.is read.read_record-read.ensures.0)
+    (and_then (and_then line.put_refusal-line.ensures cause.put_cause-cause.ensures) bytes.put_record_line.ensures)
 
-pub put-record-report-spec : {M : Type 1} → statement M
-put-record-report-spec =
-    tie.close (tie.spec (λ c κs. search needs) (λ c. search needs) (λ c κs. search needs) (λ c. search needs) (λ c κs. search needs) (λ c κs. search needs)
-    (λ c κs. search needs) (λ c κs. search needs) (λ c. search needs) returns (λ c. search needs) returns-2)
+pub put_record_report_spec : {M : Type 1} → statement M
+put_record_report_spec =
+    tie.close (tie.spec (λ c κs. search rules)
+    (λ c. search rules)
+    (λ c κs. search rules)
+    (λ c. search rules)
+    (λ c κs. search rules)
+    (λ c κs. search rules)
+    (λ c κs. search rules)
+    (λ c κs. search rules)
+    (λ c. search rules)
+    returns
+    (λ c. search rules)
+    returns_2)

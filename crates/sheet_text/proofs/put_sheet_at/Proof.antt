@@ -1,5 +1,5 @@
 -- `sheet_text::put_sheet_at` meets its contract. Assumes nothing.
-use Rattle.arithmetic.proofs.Kit.{ap, ap₂, ◌∙◌, needs, Float}
+use Rattle.arithmetic.proofs.Kit.{ap, ap₂, ◌∙◌, rules, Float}
 use Rattle.record.specs.declared.entries.Entry.{Entry}
 use Rattle.station.specs.declared.figures.StationFigures.{StationFigures}
 use Rattle.station.specs.Figures.{figures_with}
@@ -11,17 +11,22 @@ use Rattle.sheet_text.proofs.put_sheet_at.Tie as tie
 returns : tie.Need-returns
 unfolding figures_with
 returns c =
-    let put = c.before.before in
-    let chosen = put.before.before in
-    let found = chosen.before.before.before in
-    let a = found.before.before.args in
+    let put = c in
+    let chosen = c in
+    let found = c in
+    let a = found.args in
     let pressure =
-    chosen.pressure-for.ensures
-    ∙ ap₂ (λ (q : Entry) (f : StationFigures). pressure_for q f.figures.pressure_hpa) chosen.before.entry_of.ensures found.figures-of.ensures in
+    chosen.pressure_for-pressure_hpa.ensures
+    ∙ ap₂ (λ (q : Entry) (f : StationFigures). pressure_for q f.figures.pressure_hpa) chosen.entry_of.ensures found.figures_of-found.ensures in
     same_more
     (ap (λ (p : Float). sheet_page a.resolved.altitude_m p a.resolved.humidity_percent a.readings a.resolved.pressure) pressure)
-    put.put-sheet-page.ensures
+    put.put_sheet_page.ensures
 
-pub put-sheet-at-spec : {M : Type 1} → statement M
-put-sheet-at-spec =
-    tie.close (tie.spec (λ c κs. search needs) (λ c κs. search needs) (λ c κs. search needs) (λ c κs. search needs) (λ c. search needs) returns)
+pub put_sheet_at_spec : {M : Type 1} → statement M
+put_sheet_at_spec =
+    tie.close (tie.spec (λ c κs. search rules)
+    (λ c κs. search rules)
+    (λ c κs. search rules)
+    (λ c κs. search rules)
+    (λ c. search rules)
+    returns)

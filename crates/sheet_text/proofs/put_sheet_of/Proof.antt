@@ -1,35 +1,44 @@
 -- `sheet_text::put_sheet_of` meets its contract. Assumes nothing.
-use Rattle.arithmetic.proofs.Kit.{sym, ap, ap₂, ◌∙◌, needs}
-use Rattle.station.specs.declared.resolved.Resolved.{Resolved}
+use Rattle.arithmetic.proofs.Kit.{sym, ap, ◌∙◌, rules}
 use Rattle.pages.proofs.Growing.{same_more}
 use Rattle.sheet_text.specs.SheetText.{sheet_at, sheet_of}
 use Rattle.sheet_text.proofs.put_sheet_of.Statement.{statement}
 use Rattle.sheet_text.proofs.put_sheet_of.Tie as tie
 
-returns : tie.Need-returns
+returns : tie.Need-returns-then-takes_other
 unfolding sheet_of
 returns c =
-    let test = c.before.before.before.before.before in
-    rw (sym test.before.takes-other.ensures ∙ test.if1.true) c.before.before.put.ensures.0
+    let test = c in
+    rw (sym test.takes_other.ensures ∙ test.if-takes_other.true) c.put.ensures.0
 
-returns-2 : tie.Need-returns-2
+returns_2 : tie.Need-returns-then-is_wanting
 unfolding sheet_of
-returns-2 c =
-    let test = c.before.before.before.before.before in
-    let first = test.before.before in
-    rw (sym first.before.takes-other.ensures ∙ first.if1.false, sym test.before.is-wanting.ensures ∙ test.if2.true) c.before.before.put2.ensures.0
+returns_2 c =
+    let test = c in
+    let first = c in
+    rw (sym first.takes_other.ensures ∙ first.if-takes_other.false, sym test.is_wanting.ensures ∙ test.if-is_wanting.true) c.put-then-is_wanting.ensures.0
 
-returns-3 : tie.Need-returns-3
+returns_3 : tie.Need-returns
 unfolding sheet_of
-returns-3 c =
-    let put = c.before.before in
-    let test = put.before.before.before in
-    let first = test.before.before in
-    let r = first.before.before.before.args.readings in
-    rw (sym first.before.takes-other.ensures ∙ first.if1.false, sym test.before.is-wanting.ensures ∙ test.if2.false)
-    (same_more (ap (sheet_at r) put.before.ordinary.ensures) put.put-sheet-at.ensures)
+returns_3 c =
+    let put = c in
+    let test = c in
+    let first = c in
+    let r = first.args.readings in
+    rw (sym first.takes_other.ensures ∙ first.if-takes_other.false, sym test.is_wanting.ensures ∙ test.if-is_wanting.false)
+    (same_more (ap (sheet_at r) put.ordinary.ensures) put.put_sheet_at.ensures)
 
-pub put-sheet-of-spec : {M : Type 1} → statement M
-put-sheet-of-spec =
-    tie.close (tie.spec (λ c κs. search needs) (λ c. search needs) (λ c κs. search needs) (λ c. search needs) returns (λ c κs. search needs)
-    (λ c. search needs) (λ c κs. search needs) (λ c. search needs) returns-2 (λ c κs. search needs) (λ c κs. search needs) (λ c. search needs) returns-3)
+pub put_sheet_of_spec : {M : Type 1} → statement M
+put_sheet_of_spec =
+    tie.close (tie.spec (λ c κs. search rules)
+    (λ c κs. search rules)
+    (λ c. search rules)
+    returns
+    (λ c κs. search rules)
+    (λ c κs. search rules)
+    (λ c. search rules)
+    returns_2
+    (λ c κs. search rules)
+    (λ c κs. search rules)
+    (λ c. search rules)
+    returns_3)

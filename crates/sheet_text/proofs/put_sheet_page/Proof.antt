@@ -1,5 +1,5 @@
 -- `sheet_text::put_sheet_page` meets its contract. Assumes nothing.
-use Rattle.arithmetic.proofs.Kit.{◌≡◌, sym, ap, ◌∙◌, List, ◌++◌, ℕ, ◌+◌, ◌≤◌, arith, Float, length, replicate, take_all, needs}
+use Rattle.arithmetic.proofs.Kit.{◌≡◌, sym, ap, ◌∙◌, List, ◌++◌, ℕ, ◌+◌, ◌≤◌, arith, Float, length, replicate, take_all, rules}
 use Rattle.refusal.specs.declared.Refusal.{Refusal}
 use Rattle.refusal.specs.Refusals.{number_of}
 use Rattle.refusal.specs.Outcomes.{accepted}
@@ -9,7 +9,7 @@ use Rattle.sheet.specs.declared.page.Sheet.{Sheet}
 use Rattle.sheet.specs.declared.page.Sheet.TheVariants as answer
 use Rattle.sheet.specs.Over.{over, over_or_left}
 use Rattle.sheet.specs.Sheet.{setting_sheet, sheet_outcome, bare}
-use Rattle.sheet.proofs.OnAPage.{over-length, over-front}
+use Rattle.sheet.proofs.OnAPage.{over-length, over_front}
 use Rattle.sheet.proofs.Outcomes.{bare-accepted, bare-refused}
 use Rattle.sheet.proofs.GoodSheet.{good_sheet}
 use Rattle.pages.proofs.Growing.{and_then, same_more}
@@ -22,7 +22,7 @@ use Rattle.sheet_text.proofs.put_sheet_page.Tie as tie
 filled : (page rows : List ℕ) → length rows ≡ length page → over page 0 rows ≡ rows
 filled page rows e =
     let room : 0 + length rows ≤ length page = omega arith in
-    sym (take_all (0 + length rows) (over page 0 rows) (omega (arith, over-length page 0 rows room))) ∙ over-front page 0 rows room
+    sym (take_all (0 + length rows) (over page 0 rows) (omega (arith, over-length page 0 rows room))) ∙ over_front page 0 rows room
 
 -- by the answer k
 module _ (h p u : Float) (r : Readings) (x : Reading) {k : Sheet} (answered : sheet_outcome k ≡ bare (setting_sheet h p u 1530)) where
@@ -47,34 +47,45 @@ module _ (h p u : Float) (r : Readings) (x : Reading) {k : Sheet} (answered : sh
   unfolding sheet_page
   refused c found = ap (pinned h p u r x) (sym (bare-refused (setting_sheet h p u 1530) (sym answered ∙ ap sheet_outcome found)))
 
-put-rows-requires : tie.Need-put-rows-requires
-put-rows-requires c κs =
-    let head = c.before.before.before.before in
-    let told = head.before.before in
-    let answer = told.before.before.before in
-    let a = answer.before.before.before.args in
-    long a.altitude-m a.pressure-hpa a.humidity-percent a.readings a.resolved answer.setting-sheet.ensures.0 answer.setting-sheet.ensures.1 told.enum_told.given.1
+put_rows_requires : tie.Need-put_rows-last-requires
+put_rows_requires c κs =
+    let head = c in
+    let told = c in
+    let answer = c in
+    let a = answer.args in
+    long a.altitude_m a.pressure_hpa a.humidity_percent a.readings a.resolved answer.setting_sheet.ensures.0 answer.setting_sheet.ensures.1 told.in-Written.is
 
-returns : tie.Need-returns
+returns : tie.Need-returns-in-Written
 returns c =
-    let limits = c.before.before in
-    let rows = limits.before.before.before.before in
-    let head = rows.before.before.before.before.before in
-    let told = head.before.before in
-    let answer = told.before.before.before in
-    let a = answer.before.before.before.args in
-    same_more (written a.altitude-m a.pressure-hpa a.humidity-percent a.readings a.resolved answer.setting-sheet.ensures.0 answer.setting-sheet.ensures.1 told.enum_told.given.1)
-    (and_then (and_then head.put-heading.ensures rows.put-rows.ensures) limits.put-limits.ensures)
+    let limits = c in
+    let rows = c in
+    let head = c in
+    let told = c in
+    let answer = c in
+    let a = answer.args in
+    same_more (written a.altitude_m a.pressure_hpa a.humidity_percent a.readings a.resolved answer.setting_sheet.ensures.0 answer.setting_sheet.ensures.1 told.in-Written.is)
+    (and_then (and_then head.put_heading-heading.ensures rows.put_rows-last.ensures) limits.put_limits.ensures)
 
-returns-2 : tie.Need-returns-2
-returns-2 c =
-    let put = c.before.before in
-    let told = put.before.before.before in
-    let answer = told.before.before.before in
-    let a = answer.before.before.before.args in
-    same_more (refused a.altitude-m a.pressure-hpa a.humidity-percent a.readings a.resolved answer.setting-sheet.ensures.0 _ told.refusal.given.1) put.put-refused-sheet.ensures
+returns_2 : tie.Need-returns-in-Refused
+returns_2 c =
+    let put = c in
+    let told = c in
+    let answer = c in
+    let a = answer.args in
+    same_more (refused a.altitude_m a.pressure_hpa a.humidity_percent a.readings a.resolved answer.setting_sheet.ensures.0 _ told.in-Refused.is) put.put_refused_sheet.ensures
 
-pub put-sheet-page-spec : {M : Type 1} → statement M
-put-sheet-page-spec =
-    tie.close (tie.spec (λ c. search needs) (λ c κs. search needs) (λ c. search needs) (λ c κs. search needs) (λ c. search needs) put-rows-requires
-    (λ c κs. search needs) (λ c. search needs) (λ c κs. search needs) (λ c. search needs) returns (λ c. search needs) returns-2)
+pub put_sheet_page_spec : {M : Type 1} → statement M
+put_sheet_page_spec =
+    tie.close (tie.spec (λ c. search rules)
+    (λ c κs. search rules)
+    (λ c. search rules)
+    (λ c κs. search rules)
+    (λ c. search rules)
+    put_rows_requires
+    (λ c κs. search rules)
+    (λ c. search rules)
+    (λ c κs. search rules)
+    (λ c. search rules)
+    returns
+    (λ c. search rules)
+    returns_2)

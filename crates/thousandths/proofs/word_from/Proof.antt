@@ -25,17 +25,17 @@ unfolding twos_complement
 from_zero (pos n) fits test = rw (to_z-of_z w32 (pos n) fits) ((tt, record { fits = omega arith }), refl)
 from_zero (negsuc n) fits test = absurd (true≢false (sym test ∙ ap (le_z (pos 0)) (to_z-of_z w32 (negsuc n) fits)))
 
-below-zero : (z : ℤ) → SFits w32 z → le_z (pos 0) (back z) ≡ false → IsWord (complement z) × ((nat_abs (complement z) ≤ 4294967295) × (4294967295 - nat_abs (complement z) ≡ twos_complement z))
+below_zero : (z : ℤ) → SFits w32 z → le_z (pos 0) (back z) ≡ false → IsWord (complement z) × ((nat_abs (complement z) ≤ 4294967295) × (4294967295 - nat_abs (complement z) ≡ twos_complement z))
 unfolding twos_complement
-below-zero (pos n) fits test = absurd (true≢false (sym (leb-zero n) ∙ sym (ap (le_z (pos 0)) (to_z-of_z w32 (pos n) fits)) ∙ test))
-below-zero (negsuc n) fits test =
+below_zero (pos n) fits test = absurd (true≢false (sym (leb-zero n) ∙ sym (ap (le_z (pos 0)) (to_z-of_z w32 (pos n) fits)) ∙ test))
+below_zero (negsuc n) fits test =
     let bits : 4294967295 - (4294967296 - suc n) ≡ n = omega arith in
     rw (bits, to_z_pos w32 n fits.sfits) ((tt, record { fits = omega arith }), (omega arith, omega arith))
 
-pub word-from-spec : {M : Type 1} → statement M
-word-from-spec =
-    tie.close (tie.spec (λ c. (from_zero c.before.args.count c.before.ranges.count c.if1.true).0)
-    (λ c. (below-zero c.before.args.count c.before.ranges.count c.if1.false).0)
-    (λ c. (below-zero c.before.args.count c.before.ranges.count c.if1.false).1.0)
-    (λ c. (from_zero c.before.args.count c.before.ranges.count c.if1.true).1)
-    (λ c. (below-zero c.before.args.count c.before.ranges.count c.if1.false).1.1))
+pub word_from_spec : {M : Type 1} → statement M
+word_from_spec =
+    tie.close (tie.spec (λ c. (from_zero c.args.count c.ranges.count c.if-count-ge0.true).0)
+    (λ c. (below_zero c.args.count c.ranges.count c.if-count-ge0.false).0)
+    (λ c. (below_zero c.args.count c.ranges.count c.if-count-ge0.false).1.0)
+    (λ c. (from_zero c.args.count c.ranges.count c.if-count-ge0.true).1)
+    (λ c. (below_zero c.args.count c.ranges.count c.if-count-ge0.false).1.1))

@@ -1,10 +1,13 @@
 -- `writer::has_form` meets its contract. Assumes nothing.
-use Rattle.writer.proofs.Kit.{sym, ap, ◌∙◌, not, needs, has_form}
+use Rattle.writer.proofs.Kit.{sym, ap, ◌∙◌, not, rules, has_form}
 use Rattle.writer.proofs.has_form.Statement.{statement}
 use Rattle.writer.proofs.has_form.Tie as tie
 
-pub has-form-spec : {M : Type 1} → statement M
-has-form-spec =
-    tie.close (tie.spec (λ c. search needs) (λ c κs. search needs) (λ c. search needs) (λ c κs. search needs)
-    (λ c. ap not c.is-count-tag.ensures ∙ ap (has_form c.before.before.before.args.tag) (sym c.before.enum_told.given.1))
-    (λ c. c.is-count-tag2.ensures ∙ ap (has_form c.before.before.before.args.tag) (sym c.before.enum-told2.given.1)))
+pub has_form_spec : {M : Type 1} → statement M
+has_form_spec =
+    tie.close (tie.spec (λ c. search rules)
+    (λ c κs. search rules)
+    (λ c. search rules)
+    (λ c κs. search rules)
+    (λ c. ap not c.is_count_tag.ensures ∙ ap (has_form c.args.tag) (sym c.in-Double.is))
+    (λ c. c.is_count_tag-in-Count.ensures ∙ ap (has_form c.args.tag) (sym c.in-Count.is)))

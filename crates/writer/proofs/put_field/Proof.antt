@@ -1,21 +1,21 @@
 -- `writer::put_field` meets its contract: tag, length and data, one number after the other. Assumes nothing.
-use Rattle.writer.proofs.Kit.{◌≡◌, sym, ap, ap₂, ◌∙◌, List, ◌++◌, ℕ, ◌+◌, arith, needs, length, sets, Value, data_size, at_most_lem, bytes, data_of, field_with}
+use Rattle.writer.proofs.Kit.{◌≡◌, sym, ap, ap₂, ◌∙◌, List, ◌++◌, ℕ, ◌+◌, arith, rules, length, sets, Value, data_size, at_most_lem, bytes, data_of, field_with}
 use Rattle.writer.proofs.Bytes.{sets_append}
 use Rattle.writer.proofs.Fields.{length-field}
 use Rattle.writer.proofs.put_field.Statement.{statement}
 use Rattle.writer.proofs.put_field.Tie as tie
 
-put-number-requires-3 : tie.Need-put-number-requires-3
-put-number-requires-3 c κs =
+put_number_requires_3 : tie.Need-put_number-requires-3
+put_number_requires_3 c κs =
     let sized = c.before.before.before.before.before.before.before.before.before.before in
-    let a = sized.before.before.args in
-    omega (arith, length-field a.tag a.value, sized.data-size.ensures, at_most_lem a.tag)
+    let a = sized.args in
+    omega (arith, length-field a.tag a.value, sized.data_size-data.ensures, at_most_lem a.tag)
 
-add-result-2 : tie.Need-overflow-add-result-2
-add-result-2 c =
+add_result_2 : tie.Need-overflow_add-result-2
+add_result_2 c =
     let sized = c.before.before.before.before.before.before.before.before.before.before.before.before.before in
-    let a = sized.before.before.args in
-    omega (arith, length-field a.tag a.value, sized.data-size.ensures)
+    let a = sized.args in
+    omega (arith, length-field a.tag a.value, sized.data_size-data.ensures)
 
 -- three runs of stores are one
 three : (l : List ℕ) (at : ℕ) (a b d : List ℕ) → sets l at (a ++ b ++ d) ≡ sets (sets (sets l at a) (at + length a) b) (at + length (a ++ b)) d
@@ -36,13 +36,21 @@ returns c =
     let second = third.before.before.before.before.before in
     let first = second.before.before.before.before in
     let size = first.before.before in
-    let a = size.before.before.args in (
-      omega (arith, size.data-size.ensures, length-field a.tag a.value),
-      stored a.out.now a.at a.tag size.data-size.result third.before.data_of.result a.value size.data-size.ensures third.before.data_of.ensures first.put-number.ensures second.put-number2.ensures third.put-number3.ensures,
+    let a = size.args in (
+      omega (arith, size.data_size-data.ensures, length-field a.tag a.value),
+      stored a.out.now a.at a.tag size.data_size-data.result third.data_of.result a.value size.data_size-data.ensures third.data_of.ensures first.put_number.ensures second.put_number-2.ensures third.put_number-3.ensures,
     )
 
-pub put-field-spec : {M : Type 1} → statement M
-put-field-spec =
-    tie.close (tie.spec (λ c κs. search needs) (λ c κs. let a = c.before.before.before.args in omega (arith, length-field a.tag a.value))
-    (λ c. search needs) (λ c κs. let a = c.before.before.before.before.before.before.before.args in omega (arith, length-field a.tag a.value))
-    (λ c. search needs) (λ c κs. search needs) put-number-requires-3 (λ c. search needs) add-result-2 (λ c. search needs) returns)
+pub put_field_spec : {M : Type 1} → statement M
+put_field_spec =
+    tie.close (tie.spec (λ c κs. search rules)
+    (λ c κs. let a = c.args in omega (arith, length-field a.tag a.value))
+    (λ c. search rules)
+    (λ c κs. let a = c.args in omega (arith, length-field a.tag a.value))
+    (λ c. search rules)
+    (λ c κs. search rules)
+    put_number_requires_3
+    (λ c. search rules)
+    add_result_2
+    (λ c. search rules)
+    returns)

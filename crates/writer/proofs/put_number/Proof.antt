@@ -5,21 +5,21 @@ use Rattle.writer.proofs.Bytes.{shifts}
 use Rattle.writer.proofs.put_number.Statement.{statement}
 use Rattle.writer.proofs.put_number.Tie as tie
 
-abbrev invariant-loop : tie.invariant-loop
-invariant-loop out₀ at width n place₀ left₀ out place left = (left ≤ width) × ((place + left ≡ at + width) × ((length out ≡ length out₀) × (sets out place (bytes left n) ≡ sets out₀ at (bytes width n))))
+abbrev invariant_loop : tie.invariant-loop-left
+invariant_loop out₀ at width n place₀ left₀ out place left = (left ≤ width) × ((place + left ≡ at + width) × ((length out ≡ length out₀) × (sets out place (bytes left n) ≡ sets out₀ at (bytes width n))))
 
-abbrev decreases-loop : tie.decreases-loop
-decreases-loop out₀ at width n place₀ left₀ out place left = left
+abbrev decreases_loop : tie.decreases-loop-left
+decreases_loop out₀ at width n place₀ left₀ out place left = left
 
 -- a byte more, with k left
 stored : (out : List ℕ) (place k n : ℕ) → sets (set out place (n / 2 ^ (8 * k) % 256)) (place + 1) (bytes k n) ≡ sets out place (bytes (suc k) n)
 unfolding bytes
 stored out place k n = rw (add-one, shifts)
 
-loop-again : tie.Need-loop-preserved invariant-loop decreases-loop
-loop-again c =
-    let turn = c.before.loop in
-    let n = c.before.before.args.n in
+loop_again : tie.Need-loop-left-preserved invariant_loop decreases_loop
+loop_again c =
+    let turn = c.loop-left in
+    let n = c.args.n in
     let k = turn.left - 1 in
     let one_more : suc k ≡ turn.left = omega arith in
     let byte = n / 2 ^ (8 * k) % 256 in (
@@ -33,14 +33,25 @@ loop-again c =
       ),
     )
 
-returns : tie.Need-returns invariant-loop decreases-loop
+returns : tie.Need-returns invariant_loop decreases_loop
 unfolding bytes
 returns c =
-    let turn = c.before.loop in
+    let turn = c.loop-left in
     let none : turn.left ≡ 0 = omega arith in
     rw none at turn.invariant.1.1.1
 
-pub put-number-spec : {M : Type 1} → statement M
-put-number-spec =
-    tie.close (tie.spec invariant-loop decreases-loop (λ c. (omega arith, (refl, (refl, refl)))) (λ c. omega arith) (λ c. omega arith) (λ c. omega arith) (λ c. omega arith)
-    (λ c. omega arith) (λ c. omega arith) (λ c. omega arith) loop-again (λ c. c.before.loop.invariant.1.1.0) returns)
+pub put_number_spec : {M : Type 1} → statement M
+put_number_spec =
+    tie.close (tie.spec invariant_loop
+    decreases_loop
+    (λ c. (omega arith, (refl, (refl, refl))))
+    (λ c. omega arith)
+    (λ c. omega arith)
+    (λ c. omega arith)
+    (λ c. omega arith)
+    (λ c. omega arith)
+    (λ c. omega arith)
+    (λ c. omega arith)
+    loop_again
+    (λ c. c.loop-left.invariant.1.1.0)
+    returns)

@@ -1,5 +1,5 @@
 -- `air::conditions::conditions_at` meets its contract, by which readings are given. Assumes nothing.
-use Rattle.arithmetic.proofs.Kit.{◌≡◌, refl, ap, needs, Float}
+use Rattle.arithmetic.proofs.Kit.{◌≡◌, refl, ap, rules, Float}
 use Rattle.arithmetic.specs.Decimals.{hundred}
 use Rattle.arithmetic.specs.Operators.{◌⊖◌, ◌⊘◌}
 use Rattle.arithmetic.specs.Places.{places}
@@ -20,42 +20,53 @@ read altitude eT eP eC eH et ep = cc
 
 -- of the standard atmosphere
 module _ {s : StandardAir} (altitude : Float) (e : s ≡ standard_air places altitude) where
-  standard-k : s.temperature_k ≡ kelvins places altitude FromLayer
-  standard-k = ap (λ (a : StandardAir). a.temperature_k) e
+  standard_k : s.temperature_k ≡ kelvins places altitude FromLayer
+  standard_k = ap (λ (a : StandardAir). a.temperature_k) e
 
-  standard-c : s.temperature_k ⊖ ice_point ≡ celsius places altitude FromLayer
-  standard-c = ap (λ (a : StandardAir). a.temperature_k ⊖ ice_point) e
+  standard_c : s.temperature_k ⊖ ice_point ≡ celsius places altitude FromLayer
+  standard_c = ap (λ (a : StandardAir). a.temperature_k ⊖ ice_point) e
 
-  standard-pa : s.pressure_pa ≡ pascals places altitude FromLayer
-  standard-pa = ap (λ (a : StandardAir). a.pressure_pa) e
+  standard_pa : s.pressure_pa ≡ pascals places altitude FromLayer
+  standard_pa = ap (λ (a : StandardAir). a.pressure_pa) e
 
-  standard-hpa : s.pressure_pa ⊘ hundred ≡ hectopascals places altitude FromLayer
-  standard-hpa = ap (λ (a : StandardAir). a.pressure_pa ⊘ hundred) e
+  standard_hpa : s.pressure_pa ⊘ hundred ≡ hectopascals places altitude FromLayer
+  standard_hpa = ap (λ (a : StandardAir). a.pressure_pa ⊘ hundred) e
 
-returns : tie.Need-returns
-returns c = read c.before.before.before.before.before.before.args.altitude-m refl refl refl refl c.before.before.before.before.temp-override-c.given.1 c.before.press-override-hpa.given.1
+returns : tie.Need-returns-in-Given-press_override_hpa
+returns c = read c.args.altitude_m refl refl refl refl c.in-Given.is c.in-Given-press_override_hpa.is
 
-returns-2 : tie.Need-returns-2
-returns-2 c =
+returns_2 : tie.Need-returns-in-FromLayer-press_override_hpa
+returns_2 c =
     let at = c.before in
-    let altitude = at.before.before.before.before.before.before.args.altitude-m in
-    let e = at.calculate-icao-standard-atmosphere.ensures in
-    read altitude refl (standard-pa altitude e) refl (standard-hpa altitude e) at.before.before.before.before.temp-override-c.given.1 at.before.enum_told.given.1
+    let altitude = at.args.altitude_m in
+    let e = at.calculate_icao_standard_atmosphere-standard.ensures in
+    read altitude refl (standard_pa altitude e) refl (standard_hpa altitude e) at.in-Given.is at.in-FromLayer-press_override_hpa.is
 
-returns-3 : tie.Need-returns-3
-returns-3 c =
-    let told = c.before.before in
-    let e = c.standard-temperature-k.ensures in
-    read told.before.before.before.before.args.altitude-m e refl (ap (λ (T : Float). T ⊖ ice_point) e) refl told.before.before.enum-told2.given.1 told.press-override-hpa2.given.1
+returns_3 : tie.Need-returns-in-Given-press_override_hpa-2
+returns_3 c =
+    let told = c.before in
+    let e = c.standard_temperature_k-temperature_k.ensures in
+    read told.args.altitude_m e refl (ap (λ (T : Float). T ⊖ ice_point) e) refl told.in-FromLayer.is told.in-Given-press_override_hpa-2.is
 
-returns-4 : tie.Need-returns-4
-returns-4 c =
+returns_4 : tie.Need-returns-in-FromLayer-press_override_hpa-2
+returns_4 c =
     let at = c.before.before in
-    let altitude = at.before.before.before.before.before.args.altitude-m in
-    let e = at.calculate-icao-standard-atmosphere2.ensures in
-    read altitude (standard-k altitude e) (standard-pa altitude e) (standard-c altitude e) (standard-hpa altitude e) at.before.before.before.enum-told2.given.1 at.before.enum-told3.given.1
+    let altitude = at.args.altitude_m in
+    let e = at.calculate_icao_standard_atmosphere-standard-in-FromLayer-press_override_hpa-2.ensures in
+    read altitude (standard_k altitude e) (standard_pa altitude e) (standard_c altitude e) (standard_hpa altitude e) at.in-FromLayer.is at.in-FromLayer-press_override_hpa-2.is
 
-pub conditions-at-spec : {M : Type 1} → statement M
-conditions-at-spec =
-    tie.close (tie.spec (λ c. search needs) (λ c. search needs) (λ c. search needs) (λ c κs. search needs) (λ c. search needs) (λ c. search needs)
-    (λ c κs. search needs) (λ c. search needs) (λ c κs. search needs) returns returns-2 returns-3 returns-4)
+pub conditions_at_spec : {M : Type 1} → statement M
+conditions_at_spec =
+    tie.close (tie.spec (λ c. search rules)
+    (λ c. search rules)
+    (λ c. search rules)
+    (λ c κs. search rules)
+    (λ c. search rules)
+    (λ c. search rules)
+    (λ c κs. search rules)
+    (λ c. search rules)
+    (λ c κs. search rules)
+    returns
+    returns_2
+    returns_3
+    returns_4)

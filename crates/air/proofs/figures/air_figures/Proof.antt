@@ -1,5 +1,5 @@
 -- `air::figures::air_figures` meets its contract. Assumes nothing.
-use Rattle.arithmetic.proofs.Kit.{ap, ◌∙◌, needs, Float}
+use Rattle.arithmetic.proofs.Kit.{ap, ◌∙◌, rules, Float}
 use Rattle.arithmetic.specs.Decimals.{hundred}
 use Rattle.arithmetic.specs.Operators.{◌⊕◌, ◌⊗◌}
 use Rattle.arithmetic.specs.Places.{places}
@@ -21,19 +21,23 @@ returns c =
     let shown = fraction.before in
     let readings = shown.before in
     let start = readings.before.before.before.before in
-    let h = start.before.args.humidity-percent in
-    let e = start.conditions-at.ensures in
+    let h = start.args.humidity_percent in
+    let e = start.conditions_at-at.ensures in
     let matched : Conditions → Float = λ k. height_of_density places (density_of places (k.shown_c ⊕ ice_point) (k.shown_hpa ⊗ hundred) h).density_kg_m3 in
     λ i. record {
       shown_c = (e i).shown_c;
       shown_hpa = (e i).shown_hpa;
-      air = (readings.air-of.ensures ∙ ap (λ (k : Conditions). air_of places k.temp_k k.pressure_pa h) e) i;
-      uncapped_vapor_mole_fraction = (fraction.uncapped-mole-fraction.ensures ∙ ap (λ (k : Conditions). mole_fraction_celsius places k.shown_c k.shown_hpa h) e) i;
-      density_matched_altitude_m = (c.density-matched-altitude-of.ensures ∙ ap (height_of_density places) shown.shown-density.ensures ∙ ap matched e) i;
+      air = (readings.air_of-air.ensures ∙ ap (λ (k : Conditions). air_of places k.temp_k k.pressure_pa h) e) i;
+      uncapped_vapor_mole_fraction = (fraction.uncapped_mole_fraction.ensures ∙ ap (λ (k : Conditions). mole_fraction_celsius places k.shown_c k.shown_hpa h) e) i;
+      density_matched_altitude_m = (c.density_matched_altitude_of.ensures ∙ ap (height_of_density places) shown.shown_density-density.ensures ∙ ap matched e) i;
     }
 
-pub air-figures-spec : {M : Type 1} → statement M
-air-figures-spec =
-    tie.close (tie.spec (λ c κs. search needs) (λ c κs. search needs) (λ c κs. served _ _ _ c.saturation-at.ensures)
-    (λ c κs. (served _ _ _ c.before.saturation-at.ensures, ap (λ (a : Air). a.density_kg_m3) c.air-of.ensures))
-    (λ c κs. served _ _ _ c.before.before.saturation-at.ensures) (λ c κs. search needs) returns)
+pub air_figures_spec : {M : Type 1} → statement M
+air_figures_spec =
+    tie.close (tie.spec (λ c κs. search rules)
+    (λ c κs. search rules)
+    (λ c κs. served _ _ _ c.saturation_at-known.ensures)
+    (λ c κs. (served _ _ _ c.saturation_at-known.ensures, ap (λ (a : Air). a.density_kg_m3) c.air_of-air.ensures))
+    (λ c κs. served _ _ _ c.saturation_at-known.ensures)
+    (λ c κs. search rules)
+    returns)

@@ -1,9 +1,13 @@
 -- `air::moist::density_of` meets its contract. Assumes nothing.
-use Rattle.arithmetic.proofs.Kit.{needs}
+use Rattle.arithmetic.proofs.Kit.{rules}
 use Rattle.air.specs.Moist.{density_of}
 use Rattle.air.proofs.Served.{clamped-serves}
 use Rattle.air.proofs.moist.density_of.Statement.{statement}
 use Rattle.air.proofs.moist.density_of.Tie as tie
 
-pub density-of-spec : {M : Type 1} → statement M
-density-of-spec = tie.close (tie.spec (λ c κs. search needs) (λ c κs. clamped-serves _ _ _ c.before.requires c.clamp.ensures) (λ c κs. search needs) (λ c κs. search needs) (λ c. unfold density_of in cc))
+pub density_of_spec : {M : Type 1} → statement M
+density_of_spec = tie.close (tie.spec (λ c κs. search rules)
+    (λ c κs. clamped-serves _ _ _ c.requires c.clamp-humidity_clamped.ensures)
+    (λ c κs. search rules)
+    (λ c κs. search rules)
+    (λ c. unfold density_of in cc))

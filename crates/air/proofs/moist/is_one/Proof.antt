@@ -15,5 +15,8 @@ numbers (fin s m k) nan e = absurd (false≢true e)
 numbers (fin s m k) (inf t) e = (tt, tt)
 numbers (fin s m k) (fin t n d) e = (tt, tt)
 
-pub is-one-spec : {M : Type 1} → statement M
-is-one-spec = tie.close (tie.spec (λ c. (numbers _ _ c.if1.true).0) (λ c. (numbers _ _ c.if1.true).1) (λ c. unfold is_one in rw c.if1.true) (λ c. unfold is_one in rw c.if1.false))
+pub is_one_spec : {M : Type 1} → statement M
+is_one_spec = tie.close (tie.spec (λ c. (numbers _ _ c.if-x-y.true).0)
+    (λ c. (numbers _ _ c.if-x-y.true).1)
+    (λ c. unfold is_one in rw c.if-x-y.true)
+    (λ c. unfold is_one in rw c.if-x-y.false))

@@ -1,6 +1,6 @@
 -- `antilog::antilog::later_roots` meets its contract. The invariant: y is what the bits below the place make of it, and the rest are the bits from there on.
 -- The measure is the number of places that remain. Assumes nothing.
-use Rattle.arithmetic.proofs.Kit.{◌≡◌, refl, sym, ap, ap₂, ◌∙◌, ℕ, suc, ◌+◌, ◌-◌, ◌*◌, ◌/◌, ◌%◌, ◌^◌, ◌≤◌, ◌<◌, div-one, mod-eq_of_lt, mul-div-mul_right, div-add-mod', add-one, arith, needs, pow_pos, pow-add}
+use Rattle.arithmetic.proofs.Kit.{◌≡◌, refl, sym, ap, ap₂, ◌∙◌, ℕ, suc, ◌+◌, ◌-◌, ◌*◌, ◌/◌, ◌%◌, ◌^◌, ◌≤◌, ◌<◌, div-one, mod-eq_of_lt, mul-div-mul_right, div-add-mod', add-one, arith, rules, pow_pos, pow-add}
 use native.Mathlib.Numerals.{one-add}
 use lib.Pow.{shr-shr, field, mod-mod-pow}
 use Rattle.roots.specs.Root.{root}
@@ -24,8 +24,8 @@ record Taken (start first bits y rest place : ℕ) : Type 0 where
   left : rest ≡ bits / 2 ^ (place - first)
   so_far : y ≡ later_roots (place - first) start (bits % 2 ^ (place - first))
 
-none-taken : (bits : ℕ) {n : ℕ} → n ≡ 0 → bits ≡ bits / 2 ^ n
-none-taken bits none = rw none (sym (div-one bits))
+none_taken : (bits : ℕ) {n : ℕ} → n ≡ 0 → bits ≡ bits / 2 ^ n
+none_taken bits none = rw none (sym (div-one bits))
 
 no_bits : (start bits : ℕ) {n : ℕ} → n ≡ 0 → start ≡ later_roots n start (bits % 2 ^ n)
 unfolding later_roots
@@ -54,22 +54,29 @@ turn start first bits y rest place r below taken made =
           ∙ one_bit start bits n ∙ ap (λ (k : ℕ). later_roots k start (bits % 2 ^ k)) next;
     }
 
-all-bits : (start first bits y rest place : ℕ) → bits < 2 ^ (places - first) → places ≤ place → Taken start first bits y rest place
+all_bits : (start first bits y rest place : ℕ) → bits < 2 ^ (places - first) → places ≤ place → Taken start first bits y rest place
     → y ≡ later_roots (places - first) start bits
-all-bits start first bits y rest place short end taken =
+all_bits start first bits y rest place short end taken =
     let last : place ≡ places = omega (arith, taken.within) in
     taken.so_far ∙ ap (λ (k : ℕ). later_roots (k - first) start (bits % 2 ^ (k - first))) last ∙ ap (later_roots (places - first) start) (mod-eq_of_lt short)
 
-abbrev invariant-loop : tie.invariant-loop
-invariant-loop start first bits y₀ rest₀ place₀ y rest place = Taken start first bits y rest place
+abbrev invariant_loop : tie.invariant-loop-place
+invariant_loop start first bits roots reciprocals y₀ rest₀ place₀ y rest place = Taken start first bits y rest place
 
-abbrev decreases-loop : tie.decreases-loop
-decreases-loop start first bits y₀ rest₀ place₀ y rest place = places - place
+abbrev decreases_loop : tie.decreases-loop-place
+decreases_loop start first bits roots reciprocals y₀ rest₀ place₀ y rest place = places - place
 
-pub later-roots-spec : {M : Type 1} → statement M
-later-roots-spec =
-    tie.close (tie.spec invariant-loop decreases-loop
-    (λ c. record { begun = omega arith; within = c.requires.0; left = none-taken _ (omega arith); so_far = no_bits _ _ (omega arith) }) (λ c. omega arith)
-    (λ c. omega arith) (λ c. omega arith) (λ c. omega arith) (λ c κs. search needs) (λ c. omega arith) (λ c. omega arith)
-    (λ c. turn _ _ _ _ _ _ c.quick-root.result c.before.loop-test.true c.before.before.loop.invariant c.quick-root.ensures)
-    (λ c. all-bits _ _ _ _ _ _ c.before.before.requires.1 c.loop-test.false c.before.loop.invariant))
+pub later_roots_spec : {M : Type 1} → statement M
+later_roots_spec =
+    tie.close (tie.spec invariant_loop
+    decreases_loop
+    (λ c. record { begun = omega arith; within = c.requires.0; left = none_taken _ (omega arith); so_far = no_bits _ _ (omega arith) })
+    (λ c. omega arith)
+    (λ c. omega arith)
+    (λ c. omega arith)
+    (λ c. omega arith)
+    (λ c κs. search rules)
+    (λ c. omega arith)
+    (λ c. omega arith)
+    (λ c. turn _ _ _ _ _ _ c.quick_root-y.result c.loop-place-test.true c.loop-place.invariant c.quick_root-y.ensures)
+    (λ c. all_bits _ _ _ _ _ _ c.requires.1 c.loop-place-test.false c.loop-place.invariant))

@@ -1,5 +1,5 @@
 -- `antilog::antilog::scaled_among` meets its contract: the roots lie between the two ends, and round as they do where they round alike. Assumes nothing.
-use Rattle.arithmetic.proofs.Kit.{◌≡◌, sym, ap, ◌∙◌, subst, ℕ, ◌+◌, ◌%◌, ◌^◌, ◌≤◌, ◌<◌, mod-eq_of_lt, arith, needs}
+use Rattle.arithmetic.proofs.Kit.{◌≡◌, sym, ap, ◌∙◌, subst, ℕ, ◌+◌, ◌%◌, ◌^◌, ◌<◌, mod-eq_of_lt, arith, rules}
 use mathlib.Core.Bool.{true≢false}
 use Rattle.arithmetic.specs.Places.{places}
 use Rattle.antilog.specs.Antilog.{antilog_root}
@@ -16,31 +16,39 @@ fits f n A short few made =
     let small : f < 2 ^ 60 = omega arith in
     moved-fits f n A few (subst (Estimates f) (sym (made ∙ ap estimate (mod-eq_of_lt small))) (estimate-near f small)) short
 
-sub-scaled : tie.Need-overflow-sub-scaled
-sub-scaled c =
+sub_scaled : tie.Need-overflow_sub-a
+sub_scaled c =
     let start = c.before.before.before in
     let f : ℕ = start.args.f in
-    omega (arith, (of-all f c.estimate.result start.requires.0 c.estimate.ensures).high, (antilog_root-mantissa places f start.requires.0).low)
+    omega (arith, (of-all f c.estimate-a.result start.requires.0 c.estimate-a.ensures).high, (antilog_root-mantissa places f start.requires.0).low)
 
-moved-requires : tie.Need-moved-requires
-moved-requires c κs =
+moved_requires : tie.Need-moved-requires
+moved_requires c κs =
     let at = c.before in
     let start = at.before.before.before in
-    (omega (arith, at.before.before.if1.false), fits start.args.f start.args.n at.estimate.result (omega (arith, at.before.if2.false)) (omega (arith, at.before.before.if1.false)) at.estimate.ensures)
+    (omega (arith, at.if-n-ge268435456.false), fits start.args.f start.args.n at.estimate-a.result (omega (arith, at.if-f-n-ge-WHOLE.false)) (omega (arith, at.if-n-ge268435456.false)) at.estimate-a.ensures)
 
-returns-3 : tie.Need-returns-3
-returns-3 c e =
+returns_3 : tie.Need-returns
+returns_3 c e =
     let at = c.before.before.before in
     let start = at.before.before.before in
-    let short : start.args.f + start.args.n < 2 ^ places = omega (arith, at.before.if2.false) in (
+    let short : start.args.f + start.args.n < 2 ^ places = omega (arith, at.if-f-n-ge-WHOLE.false) in (
       short,
       λ i some.
-          let ends = among start.args.f start.args.n i at.estimate.result short (omega (arith, at.before.before.if1.false)) some at.estimate.ensures in
-          alike (exponent start.args.negative start.args.whole) (antilog_root places (start.args.f + i)) c.before.before.scaled.ensures c.scaled2.ensures e
-          (omega (arith, ends.0)) (omega (arith, ends.1, c.before.moved.ensures)),
+          let ends = among start.args.f start.args.n i at.estimate-a.result short (omega (arith, at.if-n-ge268435456.false)) some at.estimate-a.ensures in
+          alike (exponent start.args.negative start.args.whole) (antilog_root places (start.args.f + i)) c.scaled-low.ensures c.scaled-high.ensures e
+          (omega (arith, ends.0)) (omega (arith, ends.1, c.moved.ensures)),
     )
 
-pub scaled-among-spec : {M : Type 1} → statement M
-scaled-among-spec =
-    tie.close (tie.spec (λ c e. absurd (true≢false (sym e))) (λ c. omega (arith, c.before.requires.0, c.if1.false)) (λ c e. absurd (true≢false (sym e))) (λ c κs. search needs) sub-scaled (λ c κs. search needs)
-    moved-requires (λ c. omega arith) (λ c κs. search needs) returns-3)
+pub scaled_among_spec : {M : Type 1} → statement M
+scaled_among_spec =
+    tie.close (tie.spec (λ c e. absurd (true≢false (sym e)))
+    (λ c. omega (arith, c.requires.0, c.if-n-ge268435456.false))
+    (λ c e. absurd (true≢false (sym e)))
+    (λ c κs. search rules)
+    sub_scaled
+    (λ c κs. search rules)
+    moved_requires
+    (λ c. omega arith)
+    (λ c κs. search rules)
+    returns_3)

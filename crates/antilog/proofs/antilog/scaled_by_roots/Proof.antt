@@ -1,6 +1,6 @@
 -- `antilog::antilog::scaled_by_roots` meets its contract: the root lies between what its last six roots make of both ends, and rounds as they do where they
 -- round alike. Assumes nothing.
-use Rattle.arithmetic.proofs.Kit.{◌≡◌, refl, sym, ap, ◌∙◌, ℕ, ◌*◌, ◌/◌, ◌%◌, ◌^◌, le_trans, le_of_eq, mod-lt, arith, needs, pow_pos}
+use Rattle.arithmetic.proofs.Kit.{◌≡◌, refl, sym, ap, ◌∙◌, ℕ, ◌*◌, ◌/◌, ◌%◌, ◌^◌, le_trans, le_of_eq, mod-lt, arith, rules, pow_pos}
 use Rattle.arithmetic.specs.Nearest.{nearest_scaled}
 use Rattle.arithmetic.specs.Places.{places}
 use Rattle.antilog.specs.Antilog.{antilog_root}
@@ -15,34 +15,45 @@ use Rattle.antilog.proofs.antilog.scaled_by_roots.Tie as tie
 early : (f A : ℕ) → A ≡ estimate (f % 2 ^ 54 * 2 ^ 6 % 2 ^ 60) → Window (A / 2) (antilog_root 54 (f % 2 ^ 54))
 early f A made = window 54 6 (f % 2 ^ 54) A refl (mod-lt f (pow_pos 54)) made
 
-sub-later-roots : tie.Need-overflow-sub-later-roots
-sub-later-roots c =
-    let f : ℕ = c.before.args.f in
-    omega (arith, (early f _ c.estimate.ensures).high, (antilog_root-mantissa 54 (f % 2 ^ 54) (mod-lt f (pow_pos 54))).low)
+sub_later_roots : tie.Need-overflow_sub-early
+sub_later_roots c =
+    let f : ℕ = c.args.f in
+    omega (arith, (early f _ c.estimate-early.ensures).high, (antilog_root-mantissa 54 (f % 2 ^ 54) (mod-lt f (pow_pos 54))).low)
 
 -- the ends are the code's own: they need be no nearer than the window
-returns : tie.Need-returns
+returns : tie.Need-returns-then-scaled-low
 returns c =
     let high = c.before.before.before in
-    let low = high.before in
-    let first = low.before in
-    let start = first.before in
+    let low = high.before.before.before in
+    let first = low.before.before.before in
+    let start = first.before.before.before in
     let f : ℕ = start.args.f in
-    let within = early f _ first.estimate.ensures in
+    let within = early f _ first.estimate-early.ensures in
     alike (exponent start.args.negative start.args.whole) (antilog_root places f)
-    c.before.before.scaled.ensures c.before.scaled2.ensures c.if1.true
-    (le_trans (le_of_eq low.later-roots.ensures) (not_below 54 6 f _ start.requires.0 (omega (arith, within.low))))
-    (le_trans (not_above_lem 54 6 f _ start.requires.0 (omega (arith, within.high))) (le_of_eq (sym high.later-roots2.ensures)))
+    c.scaled-low.ensures c.scaled.ensures c.if-scaled-low.true
+    (le_trans (le_of_eq low.later_roots-least.ensures) (not_below 54 6 f _ start.requires.0 (omega (arith, within.low))))
+    (le_trans (not_above_lem 54 6 f _ start.requires.0 (omega (arith, within.high))) (le_of_eq (sym high.later_roots-most.ensures)))
 
-returns-2 : tie.Need-returns-2
-returns-2 c =
-    let first = c.before.before.before.before.before.before.before in
-    let args = first.before.args in
-    c.scaled3.ensures
-    ∙ ap (λ (y : ℕ). nearest_scaled y (exponent args.negative args.whole)) (c.before.later-roots3.ensures ∙ from_first places args.f)
+returns_2 : tie.Need-returns
+returns_2 c =
+    let ends = c.before.before.before.before.before.before.before in
+    let args = ends.args in
+    c.scaled-2.ensures
+    ∙ ap (λ (y : ℕ). nearest_scaled y (exponent args.negative args.whole)) (c.later_roots-y.ensures ∙ from_first places args.f)
 
-pub scaled-by-roots-spec : {M : Type 1} → statement M
-scaled-by-roots-spec =
-    tie.close (tie.spec (λ c. omega arith) (λ c κs. search needs) sub-later-roots
-    (λ c κs. search needs) (λ c. omega arith) (λ c κs. search needs) (λ c κs. search needs) (λ c κs. search needs) returns
-    (λ c κs. search needs) (λ c κs. search needs) returns-2)
+pub scaled_by_roots_spec : {M : Type 1} → statement M
+scaled_by_roots_spec =
+    tie.close (tie.spec (λ c κs. search rules)
+    (λ c κs. search rules)
+    (λ c. omega arith)
+    (λ c κs. search rules)
+    sub_later_roots
+    (λ c κs. search rules)
+    (λ c. omega arith)
+    (λ c κs. search rules)
+    (λ c κs. search rules)
+    (λ c κs. search rules)
+    returns
+    (λ c κs. search rules)
+    (λ c κs. search rules)
+    returns_2)

@@ -1,5 +1,5 @@
 -- `antilog::estimate::joined` meets its contract: the shifted upper word of the product is its part. Assumes nothing.
-use Rattle.arithmetic.proofs.Kit.{◌≡◌, sym, ap, ◌∙◌, subst, ℕ, ◌+◌, ◌*◌, ◌/◌, ◌^◌, ◌<◌, add-zero, div-div-eq-div-mul, div-eq_of_lt, arith, needs, pow_pos, pow-add}
+use Rattle.arithmetic.proofs.Kit.{◌≡◌, sym, ap, ◌∙◌, ℕ, ◌+◌, ◌*◌, ◌/◌, ◌^◌, ◌<◌, add-zero, div-div-eq-div-mul, div-eq_of_lt, arith, rules, pow_pos, pow-add}
 use native.Mathlib.Nat.{mul-add-div_right}
 use Rattle.antilog.proofs.estimate.joined.Statement.{statement}
 use Rattle.antilog.proofs.estimate.joined.Tie as tie
@@ -11,12 +11,17 @@ cut x y k hi lo short made =
     let all : 64 + (k + 4) ≡ 68 + k = omega arith in
     ap (λ (n : ℕ). n / 2 ^ (k + 4)) (sym upper) ∙ div-div-eq-div-mul (x * y) (2 ^ 64) (2 ^ (k + 4)) ∙ ap (λ (n : ℕ). x * y / n) (sym (pow-add 2 64 (k + 4)) ∙ ap (λ (n : ℕ). 2 ^ n) all)
 
-upper_is : (c : tie.After-struct-known) → c.before.product.result.hi / 2 ^ (c.before.before.args.k + 4) ≡ c.before.before.args.x * c.before.before.args.y / 2 ^ (68 + c.before.before.args.k)
-upper_is c = cut _ _ _ _ _ c.struct_known.given.1.0.fits c.before.product.ensures
+upper_is : (c : tie.After-struct_known-1) → c.product-both.result.hi / 2 ^ (c.args.k + 4) ≡ c.args.x * c.args.y / 2 ^ (68 + c.args.k)
+upper_is c = cut _ _ _ _ _ c.struct_known-1.given.1.0.fits c.product-both.ensures
 
 returns : tie.Need-returns
-returns c = ap (λ (n : ℕ). c.before.before.args.x + c.before.before.args.y / 16 + n) (upper_is c)
+returns c = ap (λ (n : ℕ). c.args.x + c.args.y / 16 + n) (upper_is c)
 
-pub joined-spec : {M : Type 1} → statement M
-joined-spec =
-    tie.close (tie.spec (λ c κs. search needs) (λ c. omega (arith, c.before.requires.1)) (λ c. omega (arith, c.before.requires.0)) (λ c. search needs) (λ c. omega (arith, upper_is c, c.before.before.requires.1)) returns)
+pub joined_spec : {M : Type 1} → statement M
+joined_spec =
+    tie.close (tie.spec (λ c κs. search rules)
+    (λ c. omega (arith, c.requires.1))
+    (λ c. omega (arith, c.requires.0))
+    (λ c. search rules)
+    (λ c. omega (arith, upper_is c, c.requires.1))
+    returns)

@@ -1,5 +1,5 @@
 -- `antilog::sqrt::root_of_units` meets its contract: its d, n and r are the definition's, and no shift or sum leaves the word. Assumes nothing.
-use Rattle.arithmetic.proofs.Kit.{◌≡◌, refl, sym, ap, ap₂, ◌∙◌, inl, inr, Bool, true, false, cond, ℕ, suc, ◌+◌, ◌-◌, ◌*◌, ◌/◌, ◌%◌, ◌^◌, ◌≤◌, ◌<◌, le_trans, lt_of_lt_of_le, lt_of_not-le, not-le_of_lt, mul_assoc, mul-le-mul, mod-eq_of_lt, add-one, arith, needs, count_leading_zeros, leb, lit<, lit≤, ℤ, pos, negsuc, ◌-ℤ◌, pow-add, pow_mono, shl_lt, size, minus, size-lt, size-le, SFits, to_z, of_z, w64}
+use Rattle.arithmetic.proofs.Kit.{◌≡◌, refl, sym, ap, ap₂, ◌∙◌, Bool, true, false, cond, ℕ, suc, ◌+◌, ◌-◌, ◌*◌, ◌/◌, ◌%◌, ◌^◌, ◌≤◌, ◌<◌, le_trans, lt_of_lt_of_le, lt_of_not-le, not-le_of_lt, mul_assoc, mul-le-mul, mod-eq_of_lt, add-one, arith, rules, count_leading_zeros, leb, lit<, lit≤, ℤ, pos, negsuc, ◌-ℤ◌, pow-add, pow_mono, shl_lt, size, minus, size-lt, size-le, SFits, to_z, of_z, w64}
 use lib.Count.{leading_le}
 use lib.Signed.{mag}
 use mir.Facts.{to_z_pos, to_z-of_z}
@@ -14,10 +14,11 @@ use Rattle.arithmetic.proofs.Size.{size-shifted, size-leading}
 use Rattle.antilog.proofs.RootDigits.{digits_of, moved, moved-below, moved-is}
 use Rattle.antilog.proofs.sqrt.root_of_units.Statement.{statement}
 use Rattle.antilog.proofs.sqrt.root_of_units.Tie as tie
+use Rattle.antilog.proofs.sqrt.root_of_units.Lts.{then-at_most, else-at_most}
 
 -- ---- a difference, as the machine takes it and as the definition has it
-minus-small : (a b H : ℕ) → a < H → b < H → mag (minus a b) < H
-minus-small a b H h g = go (leb b a)
+minus_small : (a b H : ℕ) → a < H → b < H → mag (minus a b) < H
+minus_small a b H h g = go (leb b a)
   where
     go : (t : Bool) → mag (cond t (pos (a - b)) (negsuc (b - suc a))) < H
     go true = omega arith
@@ -27,15 +28,15 @@ module _ (d b : ℕ) (h : d < 2 ^ 63) (g : suc b < 2 ^ 63) where
   difference : to_z w64 d -ℤ pos (suc b) ≡ minus d (suc b)
   difference = ap (λ (z : ℤ). z -ℤ pos (suc b)) (to_z_pos w64 h) ∙ minus_is d (suc b)
 
-  difference-fits : SFits w64 (to_z w64 d -ℤ pos (suc b))
-  difference-fits = rw difference (record { sfits = minus-small d (suc b) (2 ^ 63) h g })
+  difference_fits : SFits w64 (to_z w64 d -ℤ pos (suc b))
+  difference_fits = rw difference (record { sfits = minus_small d (suc b) (2 ^ 63) h g })
 
   exponent : to_z w64 (of_z w64 (to_z w64 d -ℤ pos (suc b))) ≡ minus d (suc b)
-  exponent = to_z-of_z difference-fits ∙ difference
+  exponent = to_z-of_z difference_fits ∙ difference
 
 -- ---- r or r + 1, by the test of r * r + r
-times-next : (r : ℕ) → r * (r + 1) ≡ r * r + r
-times-next r = omega arith
+times_next : (r : ℕ) → r * (r + 1) ≡ r * r + r
+times_next r = omega arith
 
 rounded : (N r v : ℕ) (t : Bool) → r ≡ root N → v ≡ r * r + r → t ≡ leb N v → cond t r (r + 1) ≡ nearest_root N
 rounded N r v t is half test =
@@ -60,7 +61,7 @@ shifted q k d w is =
     ∙ mul_assoc q (2 ^ i) (2 ^ 52) ∙ ap (λ (x : ℕ). q * x) (sym (pow-add 2 i 52))
     ∙ sym (moved-is (q * 2 ^ k) q k w.short refl ∙ ap (λ (x : ℕ). q * 2 ^ (k + 106 - (x + x))) is ∙ ap (λ (x : ℕ). q * 2 ^ x) e)
 
--- ---- the needs
+-- ---- the rules
 known : (c : tie.Start) → let q = c.args.q in let k = c.args.k in (count_leading_zeros 64 q + size q ≡ 64) × (size q ≤ 53) × (size (q * 2 ^ k) ≡ size q + k)
 known c = lengths c.args.q c.args.k c.requires
 
@@ -74,44 +75,57 @@ digits_are c = omega (arith, known c)
 abbrev N : tie.Start → ℕ
 N c = moved (c.args.q * 2 ^ c.args.k)
 
-radicand : (c : tie.After-product) → value c.product.result ≡ N c.before
-radicand c = c.product.ensures ∙ shifted c.before.args.q c.before.args.k _ c.before.requires (omega (arith, known c.before))
+radicand : (c : tie.After-product-n) → value c.product-n.result ≡ N c.before
+radicand c = c.product-n.ensures ∙ shifted c.args.q c.args.k _ c.requires (omega (arith, known c.before))
 
-root_is : (c : tie.After-floor-root) → c.floor-root.result ≡ root (N c.before.before)
-root_is c = c.floor-root.ensures ∙ ap root (radicand c.before)
+root_is : (c : tie.After-floor_root-r) → c.floor_root-r.result ≡ root (N c.before.before)
+root_is c = c.floor_root-r.ensures ∙ ap root (radicand c.before)
 
-root-fits : (c : tie.After-floor-root) → c.floor-root.result < 2 ^ 53
-root-fits c = rw root_is (root_below (N c.before.before) (moved-below (c.before.before.args.q * 2 ^ c.before.before.args.k)))
+root_fits : (c : tie.After-floor_root-r) → c.floor_root-r.result < 2 ^ 53
+root_fits c = rw root_is (root_below (N c.before.before) (moved-below (c.args.q * 2 ^ c.args.k)))
 
-sub-nearest-scaled : tie.Need-overflow-sub-nearest-scaled
-sub-nearest-scaled c =
+sub_nearest_scaled : tie.Need-overflow_sub-d-2
+sub_nearest_scaled c =
     let start = c.before.before.before.before.before in
-    difference-fits (d start) _ (omega (arith, start.requires.exponent)) (lit< tt)
+    difference_fits (d start) _ (omega (arith, start.requires.exponent)) (lit< tt)
 
-nearest-is : (c : tie.Joined1) → c.if1.nearest ≡ nearest_root (N c.before.before.before.before.before)
-nearest-is c =
+nearest_is : (c : tie.Joined-at_most) → c.if-at_most.nearest ≡ nearest_root (N c.before.before.before.before.before)
+nearest_is c =
     let tested = c.before in
     let multiplied = tested.before in
     let start = multiplied.before.before.before in
-    let r : ℕ = multiplied.before.floor-root.result in
-    let v : ℕ = value multiplied.product2.result in
-    let half : v ≡ r * r + r = multiplied.product2.ensures ∙ times-next r in
-    let test : tested.at-most.result ≡ leb (N start) v = tested.at-most.ensures ∙ ap (λ (x : ℕ). leb x v) (radicand multiplied.before.before) in
-    let picked = rounded (N start) r v tested.at-most.result (root_is multiplied.before) half test in
-    elim c.if1.branch [
-      | inl h ↦ h.1 ∙ ap (λ (b : Bool). cond b r (r + 1)) (sym h.0.taken) ∙ picked
-      | inr h ↦ h.1 ∙ ap (λ (b : Bool). cond b r (r + 1)) (sym h.0.left) ∙ picked
+    let r : ℕ = multiplied.floor_root-r.result in
+    let v : ℕ = value multiplied.product.result in
+    let half : v ≡ r * r + r = multiplied.product.ensures ∙ times_next r in
+    let test : tested.at_most.result ≡ leb (N start) v = tested.at_most.ensures ∙ ap (λ (x : ℕ). leb x v) (radicand multiplied.before.before) in
+    let picked = rounded (N start) r v tested.at_most.result (root_is multiplied.before) half test in
+    elim c.if-at_most.branch [
+      | then-at_most w ↦ w.nearest-is ∙ ap (λ (b : Bool). cond b r (r + 1)) (sym w.if-at_most.true) ∙ picked
+      | else-at_most w ↦ w.nearest-is ∙ ap (λ (b : Bool). cond b r (r + 1)) (sym w.if-at_most.false) ∙ picked
     ]
 
 returns : tie.Need-returns
 returns c =
     let start = c.before.before.before.before.before.before in
-    c.nearest-scaled.ensures
-    ∙ ap₂ nearest_scaled (nearest-is c.before) (exponent (d start) 589 (omega (arith, start.requires.exponent)) (lit< tt) ∙ ap (λ (x : ℕ). minus x 590) (sym (digits_are start)))
+    c.nearest_scaled.ensures
+    ∙ ap₂ nearest_scaled (nearest_is c.before) (exponent (d start) 589 (omega (arith, start.requires.exponent)) (lit< tt) ∙ ap (λ (x : ℕ). minus x 590) (sym (digits_are start)))
 
-pub root-of-units-spec : {M : Type 1} → statement M
-root-of-units-spec =
-    tie.close (tie.spec (λ c. le_trans (leading_le 64 c.args.q) (lit≤ tt)) (λ c. search needs) (λ c. search needs) (λ c. search needs)
-    (λ c. omega (arith, known c)) (λ c. search needs) (λ c. search needs) (λ c κs. search needs) (λ c κs. search needs) (λ c. omega (arith, root-fits c))
-    (λ c κs. search needs) (λ c κs. search needs) (λ c. omega (arith, root-fits c.before.before.before)) (λ c. search needs) sub-nearest-scaled
-    (λ c κs. search needs) returns)
+pub root_of_units_spec : {M : Type 1} → statement M
+root_of_units_spec =
+    tie.close (tie.spec (λ c. le_trans (leading_le 64 c.args.q) (lit≤ tt))
+    (λ c. search rules)
+    (λ c. search rules)
+    (λ c. search rules)
+    (λ c. omega (arith, known c))
+    (λ c. search rules)
+    (λ c. search rules)
+    (λ c κs. search rules)
+    (λ c κs. search rules)
+    (λ c. omega (arith, root_fits c))
+    (λ c κs. search rules)
+    (λ c κs. search rules)
+    (λ c. omega (arith, root_fits c.before.before.before))
+    (λ c. search rules)
+    sub_nearest_scaled
+    (λ c κs. search rules)
+    returns)

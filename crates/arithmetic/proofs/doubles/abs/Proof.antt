@@ -4,13 +4,13 @@ use Rattle.arithmetic.specs.Doubles.{abs_double}
 use Rattle.arithmetic.proofs.doubles.abs.Statement.{statement}
 use Rattle.arithmetic.proofs.doubles.abs.Tie as tie
 
-below-zero : (x : Float) → lt x (of_bits binary64 0) ≡ true → neg x ≡ abs_double x
+below_zero : (x : Float) → lt x (of_bits binary64 0) ≡ true → neg x ≡ abs_double x
 unfolding lt of_bits neg abs_double
-below-zero nan h = absurd (true≢false (sym h))
-below-zero (inf true) h = refl
-below-zero (inf false) h = absurd (true≢false (sym h))
-below-zero (fin true m e) h = refl
-below-zero (fin false m e) h = absurd (omega (arith, ltb-true (m * up e * 1) (0 * down e) h, zero-mul (down e)))
+below_zero nan h = absurd (true≢false (sym h))
+below_zero (inf true) h = refl
+below_zero (inf false) h = absurd (true≢false (sym h))
+below_zero (fin true m e) h = refl
+below_zero (fin false m e) h = absurd (omega (arith, ltb-true (m * up e * 1) (0 * down e) h, zero-mul (down e)))
 
 -- a zero is written with the exponent 0
 zero_exponent : (e : ℤ) → eqb (up e * down e) 1 ≡ true → e ≡ pos 0
@@ -43,8 +43,8 @@ above_zero (fin true m e) h k =
     let none : a + b ≡ 0 = omega (arith, ltb-false 0 (a + b) h) in
     absurd (true≢false (simp (eq-eqb a b (omega arith), eq-eqb a 0 (omega arith)) at k))
 
-pub abs-spec : {M : Type 1} → statement M
-abs-spec =
-    tie.close (tie.spec (λ c. below-zero c.before.args.x c.if1.true)
-    (λ c. let at = c.before.before in at_zero at.args.x at.well-formed.0.1 c.if2.true)
-    (λ c. above_zero c.before.before.args.x c.before.if1.false c.if2.false))
+pub abs_spec : {M : Type 1} → statement M
+abs_spec =
+    tie.close (tie.spec (λ c. below_zero c.before.args.x c.if-x.true)
+    (λ c. let at = c.before.before in at_zero at.args.x at.well_formed.0.1 c.if-x-2.true)
+    (λ c. above_zero c.before.before.args.x c.before.if-x.false c.if-x-2.false))

@@ -5,5 +5,5 @@ use Rattle.arithmetic.proofs.doubles.clamp.Tie as tie
 
 pub clamp_spec : {M : Type 1} → statement M
 clamp_spec =
-    tie.close (tie.spec (λ c. simp (c.before.if1.true, c.if2.true)) (λ c. simp (c.before.if1.true, c.if2.false))
-    (λ c. simp (c.before.if1.false, c.if3.true)) (λ c. simp (c.before.if1.false, c.if3.false)))
+    tie.close (tie.spec (λ c. simp (c.before.if-x-low.true, c.if-low-high.true)) (λ c. simp (c.before.if-x-low.true, c.if-low-high.false))
+    (λ c. simp (c.before.if-x-low.false, c.if-x-high.true)) (λ c. simp (c.before.if-x-low.false, c.if-x-high.false)))

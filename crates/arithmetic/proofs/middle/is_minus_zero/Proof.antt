@@ -6,7 +6,7 @@ use Rattle.arithmetic.proofs.Zeros.{minus-zero}
 use Rattle.arithmetic.proofs.middle.is_minus_zero.Statement.{statement}
 use Rattle.arithmetic.proofs.middle.is_minus_zero.Tie as tie
 
-pub is-minus-zero-spec : {M : Type 1} → statement M
-is-minus-zero-spec =
-    tie.close (tie.spec (λ c. let x = c.before.args.x in sym (ap (λ (t : Bool). t && lt (one ⊘ x) nought) c.if1.true) ∙ minus-zero x)
-    (λ c. let x = c.before.args.x in c.if1.false ∙ sym (ap (λ (t : Bool). t && lt (one ⊘ x) nought) c.if1.false) ∙ minus-zero x))
+pub is_minus_zero_spec : {M : Type 1} → statement M
+is_minus_zero_spec =
+    tie.close (tie.spec (λ c. let x = c.before.args.x in sym (ap (λ (t : Bool). t && lt (one ⊘ x) nought) c.if-x.true) ∙ minus-zero x)
+    (λ c. let x = c.before.args.x in c.if-x.false ∙ sym (ap (λ (t : Bool). t && lt (one ⊘ x) nought) c.if-x.false) ∙ minus-zero x))

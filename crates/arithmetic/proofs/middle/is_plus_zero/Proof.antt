@@ -6,7 +6,7 @@ use Rattle.arithmetic.proofs.Zeros.{plus-zero}
 use Rattle.arithmetic.proofs.middle.is_plus_zero.Statement.{statement}
 use Rattle.arithmetic.proofs.middle.is_plus_zero.Tie as tie
 
-pub is-plus-zero-spec : {M : Type 1} → statement M
-is-plus-zero-spec =
-    tie.close (tie.spec (λ c. let x = c.before.args.x in sym (ap (λ (t : Bool). t && lt nought (one ⊘ x)) c.if1.true) ∙ plus-zero x)
-    (λ c. let x = c.before.args.x in c.if1.false ∙ sym (ap (λ (t : Bool). t && lt nought (one ⊘ x)) c.if1.false) ∙ plus-zero x))
+pub is_plus_zero_spec : {M : Type 1} → statement M
+is_plus_zero_spec =
+    tie.close (tie.spec (λ c. let x = c.before.args.x in sym (ap (λ (t : Bool). t && lt nought (one ⊘ x)) c.if-x.true) ∙ plus-zero x)
+    (λ c. let x = c.before.args.x in c.if-x.false ∙ sym (ap (λ (t : Bool). t && lt nought (one ⊘ x)) c.if-x.false) ∙ plus-zero x))

@@ -1,6 +1,6 @@
 -- `arithmetic::nearest::nearest_wide_quotient` meets its contract: n / 2 ^ k is n * 2 ^ (1074 + g - k) / 2 ^ (1074 + g), where g digits of n are dropped
 -- (`Scaled`). Assumes nothing.
-use Rattle.arithmetic.proofs.Kit.{◌≡◌, refl, sym, ap, ap₂, ◌∙◌, subst, ℕ, suc, ◌+◌, ◌-◌, ◌*◌, ◌/◌, ◌%◌, ◌^◌, ◌≤◌, ◌<◌, zero-add, mod-lt, lt_of_not-le, not-le_of_lt, lt_of_lt_of_le, le_trans, le_of_eq, le-add_right, mul-le-mul_right, arith, needs, lit≤, pos, digits_lt, count_leading_zeros, leading_top, pow-add, pow_pos, pow_mono, binary64, of_bits, closest}
+use Rattle.arithmetic.proofs.Kit.{◌≡◌, refl, sym, ap, ap₂, ◌∙◌, subst, ℕ, suc, ◌+◌, ◌-◌, ◌*◌, ◌/◌, ◌%◌, ◌^◌, ◌≤◌, ◌<◌, zero-add, mod-lt, lt_of_not-le, not-le_of_lt, lt_of_lt_of_le, le_trans, le_of_eq, le-add_right, mul-le-mul_right, arith, rules, lit≤, pos, digits_lt, count_leading_zeros, leading_top, pow-add, pow_pos, pow_mono, binary64, of_bits, closest}
 use Prim.Native.Nat.{compare}
 use Rattle.std.proofs.Common.{shr_lt}
 use lib.Ieee.{nearest}
@@ -34,74 +34,74 @@ dropped n lo-lt some few =
     }
 
 -- the digits dropped, and the unit as the machine shifts it
-abbrev g : tie.Else1 → ℕ
+abbrev g : tie.Else-hi-eq0 → ℕ
 g c = 75 - count_leading_zeros 64 c.before.args.n.hi
 
-drops : (c : tie.Else1) → Dropped c.before.args.n (g c)
-drops c = dropped c.before.args.n (omega arith) c.if1.false c.before.requires.0
+drops : (c : tie.Else-hi-eq0) → Dropped c.before.args.n (g c)
+drops c = dropped c.before.args.n (omega arith) c.if-hi-eq0.false c.before.requires.0
 
-unit-is : (c : tie.Else1) → 1 * 2 ^ g c % 2 ^ 64 ≡ 2 ^ g c
-unit-is c = one-moved (g c) (drops c).most
+unit_is : (c : tie.Else-hi-eq0) → 1 * 2 ^ g c % 2 ^ 64 ≡ 2 ^ g c
+unit_is c = one-moved (g c) (drops c).most
 
-unit-pos : (c : tie.Else1) → 0 < 1 * 2 ^ g c % 2 ^ 64
-unit-pos c = subst (λ (u : ℕ). 0 < u) (sym (unit-is c)) (pow_pos (g c))
+unit_pos : (c : tie.Else-hi-eq0) → 0 < 1 * 2 ^ g c % 2 ^ 64
+unit_pos c = subst (λ (u : ℕ). 0 < u) (sym (unit_is c)) (pow_pos (g c))
 
 -- the quotient, and what is above it
-quotient-lt : (c : tie.Else1) → value c.before.args.n / 2 ^ g c < 2 ^ 53
-quotient-lt c = shr_lt 53 (g c) (drops c).short
+quotient_lt : (c : tie.Else-hi-eq0) → value c.before.args.n / 2 ^ g c < 2 ^ 53
+quotient_lt c = shr_lt 53 (g c) (drops c).short
 
-quotient_is : (c : tie.After-shifted-right) → c.shifted-right.result.lo ≡ value c.before.before.args.n / 2 ^ g c.before
+quotient_is : (c : tie.After-shifted_right) → c.shifted_right.result.lo ≡ value c.before.before.args.n / 2 ^ g c.before
 quotient_is c =
-    low_word c.shifted-right.result (subst (λ (n : ℕ). n < 2 ^ 64) (sym c.shifted-right.ensures) (lt_of_lt_of_le (quotient-lt c.before) (lit≤ tt)))
-    ∙ c.shifted-right.ensures
+    low_word c.shifted_right.result (subst (λ (n : ℕ). n < 2 ^ 64) (sym c.shifted_right.ensures) (lt_of_lt_of_le (quotient_lt c.before) (lit≤ tt)))
+    ∙ c.shifted_right.ensures
 
-above-is : (c : tie.Else1) → c.before.args.n.lo % (1 * 2 ^ g c % 2 ^ 64) ≡ value c.before.args.n % 2 ^ g c
-above-is c = ap (λ (u : ℕ). c.before.args.n.lo % u) (unit-is c) ∙ low-remainder c.before.args.n (g c) (omega (arith, drops c))
+above_is : (c : tie.Else-hi-eq0) → c.before.args.n.lo % (1 * 2 ^ g c % 2 ^ 64) ≡ value c.before.args.n % 2 ^ g c
+above_is c = ap (λ (u : ℕ). c.before.args.n.lo % u) (unit_is c) ∙ low-remainder c.before.args.n (g c) (omega (arith, drops c))
 
-nearer-requires : tie.Need-nearer-requires
-nearer-requires c κs =
+nearer_requires : tie.Need-nearer-kept-requires
+nearer_requires c κs =
     let at = c.before in
     let n = at.before.args.n in
-    let above : n.lo % (1 * 2 ^ g at % 2 ^ 64) < 1 * 2 ^ g at % 2 ^ 64 = mod-lt n.lo (unit-pos at) in
+    let above : n.lo % (1 * 2 ^ g at % 2 ^ 64) < 1 * 2 ^ g at % 2 ^ 64 = mod-lt n.lo (unit_pos at) in
     let unit : 2 ^ g at ≤ 2 ^ 63 = pow_mono (drops at).most in
-    (above, omega (arith, unit-is at, quotient_is c, quotient-lt at))
+    (above, omega (arith, unit_is at, quotient_is c, quotient_lt at))
 
-kept-is : (c : tie.After-nearer) → let at = c.before.before in c.nearer.result ≡ closest (value at.before.args.n) (2 ^ g at)
-kept-is c =
+kept_is : (c : tie.After-nearer-kept) → let at = c.before.before in c.nearer-kept.result ≡ closest (value at.before.args.n) (2 ^ g at)
+kept_is c =
     let at = c.before.before in
     let n = at.before.args.n in
-    c.nearer.ensures
-    ∙ ap₂ (λ (q a : ℕ). nearest q (compare (a * 2) (1 * 2 ^ g at % 2 ^ 64))) (quotient_is c.before) (above-is at)
-    ∙ ap (λ (u : ℕ). nearest (value n / 2 ^ g at) (compare (value n % 2 ^ g at * 2) u)) (unit-is at)
+    c.nearer-kept.ensures
+    ∙ ap₂ (λ (q a : ℕ). nearest q (compare (a * 2) (1 * 2 ^ g at % 2 ^ 64))) (quotient_is c.before) (above_is at)
+    ∙ ap (λ (u : ℕ). nearest (value n / 2 ^ g at) (compare (value n % 2 ^ g at * 2) u)) (unit_is at)
 
 -- the pattern is at most the infinity's
-abbrev d : tie.After-nearer → ℕ
+abbrev d : tie.After-nearer-kept → ℕ
 d c = 1074 + g c.before.before - c.before.before.before.args.k
 
-bounded : (c : tie.After-nearer) → d c * 2 ^ 52 + c.nearer.result ≤ 0x7FF * 2 ^ 52
+bounded : (c : tie.After-nearer-kept) → d c * 2 ^ 52 + c.nearer-kept.result ≤ 0x7FF * 2 ^ 52
 bounded c =
     let at = c.before.before in
-    subst (λ (q : ℕ). d c * 2 ^ 52 + q ≤ 0x7FF * 2 ^ 52) (sym (kept-is c)) (pattern-at_most binary64 (g at) (value at.before.args.n) (drops at).short (d c) (omega (arith, drops at)))
+    subst (λ (q : ℕ). d c * 2 ^ 52 + q ≤ 0x7FF * 2 ^ 52) (sym (kept_is c)) (pattern-at_most binary64 (g at) (value at.before.args.n) (drops at).short (d c) (omega (arith, drops at)))
 
-returns : tie.Need-returns
+returns : tie.Need-returns-then-hi-eq0
 returns c =
     let a = c.before.before.args in
-    let low : value a.n ≡ a.n.lo = ap (λ (h : ℕ). h * 2 ^ 64 + a.n.lo) c.before.if1.true ∙ zero-add a.n.lo in
-    c.nearest-quotient.ensures ∙ ap (λ (x : ℕ). nearest_ratio (pos x) (2 ^ a.k)) (sym low)
+    let low : value a.n ≡ a.n.lo = ap (λ (h : ℕ). h * 2 ^ 64 + a.n.lo) c.before.if-hi-eq0.true ∙ zero-add a.n.lo in
+    c.nearest_quotient.ensures ∙ ap (λ (x : ℕ). nearest_ratio (pos x) (2 ^ a.k)) (sym low)
 
-returns-2 : tie.Need-returns-2
-returns-2 c =
+returns_2 : tie.Need-returns
+returns_2 c =
     let at = c.before.before in
     let y = value at.before.args.n in
     let k = at.before.args.k in
-    ap (λ (q : ℕ). of_bits binary64 (d c * 2 ^ 52 + q)) (kept-is c)
+    ap (λ (q : ℕ). of_bits binary64 (d c * 2 ^ 52 + q)) (kept_is c)
     ∙ sym
     (quotient_as binary64 (1074 + g at) y y (1074 + g at) refl k (omega (arith, at.before.requires.1, drops at))
     ∙ normal-bits binary64 (g at) y (drops at).short (d c) (drops at).reaches (omega (arith, drops at)))
 
-pub nearest-wide-quotient-spec : {M : Type 1} → statement M
-nearest-wide-quotient-spec =
-    tie.close (tie.spec (λ c κs. search needs) returns (λ c. omega (arith, drops c)) (λ c. search needs) (λ c. omega (arith, drops c)) (λ c κs. search needs)
-    (λ c. unit-pos c.before) nearer-requires (λ c. search needs) (λ c. search needs)
-    (λ c. omega (arith, drops c.before.before, c.before.before.before.requires.1)) (λ c. search needs) (λ c. omega (arith, bounded c))
-    (λ c. pattern-no_nan binary64 (d c * 2 ^ 52 + c.nearer.result) (bounded c)) returns-2)
+pub nearest_wide_quotient_spec : {M : Type 1} → statement M
+nearest_wide_quotient_spec =
+    tie.close (tie.spec (λ c κs. search rules) returns (λ c. omega (arith, drops c)) (λ c. search rules) (λ c. omega (arith, drops c)) (λ c κs. search rules)
+    (λ c. unit_pos c.before) nearer_requires (λ c. search rules) (λ c. search rules)
+    (λ c. omega (arith, drops c.before.before, c.before.before.before.requires.1)) (λ c. search rules) (λ c. omega (arith, bounded c))
+    (λ c. pattern-no_nan binary64 (d c * 2 ^ 52 + c.nearer-kept.result) (bounded c)) returns_2)

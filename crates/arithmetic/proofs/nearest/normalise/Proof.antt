@@ -25,5 +25,5 @@ returns c =
       most = omega arith;
     }
 
-pub normalise-spec : {M : Type 1} → statement M
-normalise-spec = tie.close (tie.spec (λ c. let t = top c in omega arith) (λ c. let t = top c in omega arith) (λ c. let t = top c in omega arith) returns)
+pub normalise_spec : {M : Type 1} → statement M
+normalise_spec = tie.close (tie.spec (λ c. let t = top c in omega arith) (λ c. let t = top c in omega arith) (λ c. let t = top c in omega arith) returns)

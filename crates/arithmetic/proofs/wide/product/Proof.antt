@@ -16,18 +16,18 @@ bounds : (c : tie.Start) → let a = c.args.a in let b = c.args.b in Bounded (a 
 bounds c = (bounded _ _ (omega arith) (omega arith), bounded _ _ (omega arith) (omega arith), bounded _ _ (omega arith) (omega arith), bounded _ _ (omega arith) (omega arith))
 
 -- the low word's upper digit is that of `upper`
-same-digit : (l r q : ℕ) → (l % 2 ^ 32 + r % 2 ^ 32 + q) % 2 ^ 32 ≡ (r + (l + q) % 2 ^ 32) % 2 ^ 32
-same-digit l r q = omega arith
+same_digit : (l r q : ℕ) → (l % 2 ^ 32 + r % 2 ^ 32 + q) % 2 ^ 32 ≡ (r + (l + q) % 2 ^ 32) % 2 ^ 32
+same_digit l r q = omega arith
 
 -- what is returned, from the products of the high digits, of a high and a low one either way, and of the low digits
 columns : (h l r w : ℕ) → (h + (l + w / 2 ^ 32) / 2 ^ 32 + (r + (l + w / 2 ^ 32) % 2 ^ 32) / 2 ^ 32) * 2 ^ 64 + ((l % 2 ^ 32 + r % 2 ^ 32 + w / 2 ^ 32) % 2 ^ 32 * 2 ^ 32 + w % 2 ^ 32) ≡ h * 2 ^ 64 + l * 2 ^ 32 + r * 2 ^ 32 + w
-columns h l r w = rw same-digit (omega arith)
+columns h l r w = rw same_digit (omega arith)
 
 by_digits : (a b : ℕ) → a / 2 ^ 32 * (b / 2 ^ 32) * 2 ^ 64 + a / 2 ^ 32 * (b % 2 ^ 32) * 2 ^ 32 + a % 2 ^ 32 * (b / 2 ^ 32) * 2 ^ 32 + a % 2 ^ 32 * (b % 2 ^ 32) ≡ a * b
 by_digits a b = let e : (a / 2 ^ 32 * 2 ^ 32 + a % 2 ^ 32) * (b / 2 ^ 32 * 2 ^ 32 + b % 2 ^ 32) ≡ a * b = λ i. split a 32 i * split b 32 i in omega arith
 
-pub product-spec : {M : Type 1} → statement M
-product-spec =
+pub product_spec : {M : Type 1} → statement M
+product_spec =
     tie.close (tie.spec (λ c. omega (arith, bounds c)) (λ c. omega (arith, bounds c)) (λ c. omega (arith, bounds c)) (λ c. omega (arith, bounds c))
     (λ c. omega (arith, bounds c)) (λ c. omega (arith, bounds c)) (λ c. omega (arith, bounds c)) (λ c. omega (arith, bounds c)) (λ c. omega arith)
     (λ c. omega (arith, bounds c)) (λ c. omega arith) (λ c. omega arith) (λ c. columns _ _ _ _ ∙ by_digits _ _))

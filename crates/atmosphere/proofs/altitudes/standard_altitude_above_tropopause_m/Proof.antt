@@ -13,21 +13,26 @@ use Rattle.atmosphere.proofs.altitudes.standard_altitude_above_tropopause_m.Stat
 use Rattle.atmosphere.proofs.altitudes.standard_altitude_above_tropopause_m.Tie as tie
 use Rattle.arithmetic.specs.Places.{places}
 
-in_table : (c : tie.After-layer-from) → c.layer-from.result < 7
+in_table : (c : tie.After-layer_from-number) → c.layer_from-number.result < 7
 unfolding ratios
-in_table c = omega (arith, c.layer-from.ensures, first-le (λ (i : ℕ). le (get_or ratios (suc i) nan) c.before.args.ratio) 5 1)
+in_table c = omega (arith, c.layer_from-number.ensures, first-le (λ (i : ℕ). le (get_or ratios (suc i) nan) c.args.ratio) 5 1)
 
 returns : tie.Need-returns
 unfolding ratios ratio_numbers height_of_ratio
 returns c =
-    let x = c.before.before.args.ratio in
+    let x = c.args.ratio in
     let table : ℕ → Float = λ i. get_or ratios i nan in
     let raised : ℕ → Float → Float = λ i. power_at places (get_or ratio_numbers i 0) in
-    c.height-in.ensures
-    ∙ ap (λ (i : ℕ). height_in places (raised i) i (table i) x) c.before.layer-from.ensures
+    c.height_in.ensures
+    ∙ ap (λ (i : ℕ). height_in places (raised i) i (table i) x) c.layer_from-number.ensures
     ∙ height_from-same places raised (λ (i : ℕ). power places (of_double (one ⊘ density_exponent (gradient i)))) table (chained_ratio places) 5 1 x (λ j l h. ratio-at j (omega arith)) (λ j b l h. ratio-power j b x l (omega arith))
 
-pub standard-altitude-above-tropopause-m-spec : {M : Type 1} → statement M
-standard-altitude-above-tropopause-m-spec =
-    tie.close (tie.spec (λ c κs. omega arith) (λ c. omega (arith, in_table c)) (λ c. in_table c) (λ c. omega (arith, in_table c)) (λ c. in_table c)
-    (λ c κs. in_table c) returns)
+pub standard_altitude_above_tropopause_m_spec : {M : Type 1} → statement M
+standard_altitude_above_tropopause_m_spec =
+    tie.close (tie.spec (λ c κs. omega arith)
+    (λ c. omega (arith, in_table c.before))
+    (λ c. in_table c.before)
+    (λ c. omega (arith, in_table c.before.before.before))
+    (λ c. in_table c.before.before.before)
+    (λ c κs. in_table c.before.before.before.before)
+    returns)

@@ -11,19 +11,25 @@ use Rattle.atmosphere.proofs.altitudes.standard_pressure_altitude_m.Statement.{s
 use Rattle.atmosphere.proofs.altitudes.standard_pressure_altitude_m.Tie as tie
 use Rattle.arithmetic.specs.Places.{places}
 
-in_table : (c : tie.After-layer-from) → c.layer-from.result < 7
+in_table : (c : tie.After-layer_from-number) → c.layer_from-number.result < 7
 unfolding pressures
-in_table c = omega (arith, c.layer-from.ensures, first-le (λ (i : ℕ). le (get_or pressures (suc i) nan) c.before.args.pressure-pa) 6 0)
+in_table c = omega (arith, c.layer_from-number.ensures, first-le (λ (i : ℕ). le (get_or pressures (suc i) nan) c.args.pressure_pa) 6 0)
 
 returns : tie.Need-returns
 unfolding pressures temperature_numbers height_of_pressure
 returns c =
-    let x = c.before.before.args.pressure-pa in
+    let x = c.args.pressure_pa in
     let table : ℕ → Float = λ i. get_or pressures i nan in
     let raised : ℕ → Float → Float = λ i. power_at places (get_or temperature_numbers i 0) in
-    c.height-in.ensures
-    ∙ ap (λ (i : ℕ). height_in places (raised i) i (table i) x) c.before.layer-from.ensures
+    c.height_in.ensures
+    ∙ ap (λ (i : ℕ). height_in places (raised i) i (table i) x) c.layer_from-number.ensures
     ∙ height_from-same places raised (λ (i : ℕ). power places (of_double (temperature_exponent (gradient i)))) table (chained_pressure places) 6 0 x (λ j l h. pressure_at_lem j (omega arith)) (λ j b l h. temperature-power j b x (omega arith))
 
-pub standard-pressure-altitude-m-spec : {M : Type 1} → statement M
-standard-pressure-altitude-m-spec = tie.close (tie.spec (λ c κs. omega arith) (λ c. omega (arith, in_table c)) (λ c. in_table c) (λ c. omega (arith, in_table c)) (λ c. in_table c) (λ c κs. in_table c) returns)
+pub standard_pressure_altitude_m_spec : {M : Type 1} → statement M
+standard_pressure_altitude_m_spec = tie.close (tie.spec (λ c κs. omega arith)
+    (λ c. omega (arith, in_table c.before))
+    (λ c. in_table c.before)
+    (λ c. omega (arith, in_table c.before.before.before))
+    (λ c. in_table c.before.before.before)
+    (λ c κs. in_table c.before.before.before.before)
+    returns)

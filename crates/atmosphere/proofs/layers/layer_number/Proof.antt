@@ -3,25 +3,29 @@ use Rattle.atmosphere.specs.Layers.{layer_at}
 use Rattle.atmosphere.proofs.layers.layer_number.Statement.{statement}
 use Rattle.atmosphere.proofs.layers.layer_number.Tie as tie
 
-returns-5 : tie.Need-returns-5
+returns_5 : tie.Need-returns-then-geopotential_height-5
 unfolding layer_at
-returns-5 c = simp (c.before.before.before.before.if1.false, c.before.before.before.if2.false, c.before.before.if3.false, c.before.if4.false, c.if5.true)
+returns_5 c = simp (c.if-geopotential_height.false, c.if-geopotential_height-2.false, c.if-geopotential_height-3.false, c.if-geopotential_height-4.false, c.if-geopotential_height-5.true)
 
-returns-6 : tie.Need-returns-6
+returns_6 : tie.Need-returns-then-geopotential_height-6
 unfolding layer_at
-returns-6 c = simp (c.before.before.before.before.before.if1.false, c.before.before.before.before.if2.false, c.before.before.before.if3.false, c.before.before.if4.false, c.before.if5.false, c.if6.true)
+returns_6 c = simp (c.if-geopotential_height.false, c.if-geopotential_height-2.false, c.if-geopotential_height-3.false, c.if-geopotential_height-4.false, c.if-geopotential_height-5.false, c.if-geopotential_height-6.true)
 
-returns-7 : tie.Need-returns-7
+returns_7 : tie.Need-returns-then-geopotential_height-7
 unfolding layer_at
-returns-7 c = simp (c.before.before.before.before.before.before.if1.false, c.before.before.before.before.before.if2.false, c.before.before.before.before.if3.false, c.before.before.before.if4.false, c.before.before.if5.false, c.before.if6.false, c.if7.true)
+returns_7 c = simp (c.if-geopotential_height.false, c.if-geopotential_height-2.false, c.if-geopotential_height-3.false, c.if-geopotential_height-4.false, c.if-geopotential_height-5.false, c.if-geopotential_height-6.false, c.if-geopotential_height-7.true)
 
-returns-8 : tie.Need-returns-8
+returns_8 : tie.Need-returns
 unfolding layer_at
-returns-8 c = simp (c.before.before.before.before.before.before.if1.false, c.before.before.before.before.before.if2.false, c.before.before.before.before.if3.false, c.before.before.before.if4.false, c.before.before.if5.false, c.before.if6.false, c.if7.false)
+returns_8 c = simp (c.if-geopotential_height.false, c.if-geopotential_height-2.false, c.if-geopotential_height-3.false, c.if-geopotential_height-4.false, c.if-geopotential_height-5.false, c.if-geopotential_height-6.false, c.if-geopotential_height-7.false)
 
-pub layer-number-spec : {M : Type 1} → statement M
-layer-number-spec =
-    tie.close (tie.spec (λ c. unfold layer_at in simp c.if1.true) (λ c. unfold layer_at in simp (c.before.if1.false, c.if2.true))
-    (λ c. unfold layer_at in simp (c.before.before.if1.false, c.before.if2.false, c.if3.true))
-    (λ c. unfold layer_at in simp (c.before.before.before.if1.false, c.before.before.if2.false, c.before.if3.false, c.if4.true)) returns-5 returns-6
-    returns-7 returns-8)
+pub layer_number_spec : {M : Type 1} → statement M
+layer_number_spec =
+    tie.close (tie.spec (λ c. unfold layer_at in simp c.if-geopotential_height.true)
+    (λ c. unfold layer_at in simp (c.if-geopotential_height.false, c.if-geopotential_height-2.true))
+    (λ c. unfold layer_at in simp (c.if-geopotential_height.false, c.if-geopotential_height-2.false, c.if-geopotential_height-3.true))
+    (λ c. unfold layer_at in simp (c.if-geopotential_height.false, c.if-geopotential_height-2.false, c.if-geopotential_height-3.false, c.if-geopotential_height-4.true))
+    returns_5
+    returns_6
+    returns_7
+    returns_8)

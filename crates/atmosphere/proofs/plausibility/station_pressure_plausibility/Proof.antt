@@ -1,5 +1,5 @@
 -- `atmosphere::plausibility::station_pressure_plausibility` meets its contract. Assumes nothing.
-use Rattle.arithmetic.proofs.Kit.{ap, ◌∙◌, needs}
+use Rattle.arithmetic.proofs.Kit.{ap, ◌∙◌, rules}
 use Rattle.arithmetic.specs.Operators.{◌⊘◌}
 use Rattle.atmosphere.specs.declared.layers.StandardAir.{StandardAir}
 use Rattle.atmosphere.specs.Plausibility.{plausibility_beside, plausibility}
@@ -9,10 +9,12 @@ use Rattle.atmosphere.proofs.plausibility.station_pressure_plausibility.Tie as t
 returns : tie.Need-returns
 unfolding plausibility
 returns c =
-    let p = c.before.before.args.station-pressure-pa in
-    let p₀ = c.before.calculate-icao-standard-atmosphere.result.pressure_pa in
-    (λ k. record { icao_standard_pa = p₀; «ratio» = p ⊘ p₀; «implausible» = c.is-implausible.ensures k })
-    ∙ ap (λ (air : StandardAir). plausibility_beside p air.pressure_pa) c.before.calculate-icao-standard-atmosphere.ensures
+    let p = c.args.station_pressure_pa in
+    let p₀ = c.calculate_icao_standard_atmosphere-standard.result.pressure_pa in
+    (λ k. record { icao_standard_pa = p₀; «ratio» = p ⊘ p₀; «implausible» = c.is_implausible.ensures k })
+    ∙ ap (λ (air : StandardAir). plausibility_beside p air.pressure_pa) c.calculate_icao_standard_atmosphere-standard.ensures
 
-pub station-pressure-plausibility-spec : {M : Type 1} → statement M
-station-pressure-plausibility-spec = tie.close (tie.spec (λ c κs. search needs) (λ c κs. search needs) returns)
+pub station_pressure_plausibility_spec : {M : Type 1} → statement M
+station_pressure_plausibility_spec = tie.close (tie.spec (λ c κs. search rules)
+    (λ c κs. search rules)
+    returns)

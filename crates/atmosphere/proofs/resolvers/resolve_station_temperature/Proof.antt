@@ -1,11 +1,13 @@
 -- `atmosphere::resolvers::resolve_station_temperature` meets its contract. Assumes nothing.
-use Rattle.arithmetic.proofs.Kit.{ap, ◌∙◌, Bool, needs}
+use Rattle.arithmetic.proofs.Kit.{ap, ◌∙◌, Bool, rules}
 use Rattle.atmosphere.specs.Station.{unless_default}
 use Rattle.atmosphere.proofs.resolvers.resolve_station_temperature.Statement.{statement}
 use Rattle.atmosphere.proofs.resolvers.resolve_station_temperature.Tie as tie
 
 returns : tie.Need-returns
-returns c = let a = c.before.before.args in c.resolved.ensures ∙ ap (λ (b : Bool). unless_default b a.temperature-c a.altitude-m) c.before.in-legacy-default-temperature-band.ensures
+returns c = let a = c.args in c.resolved.ensures ∙ ap (λ (b : Bool). unless_default b a.temperature_c a.altitude_m) c.in_legacy_default_temperature_band.ensures
 
-pub resolve-station-temperature-spec : {M : Type 1} → statement M
-resolve-station-temperature-spec = tie.close (tie.spec (λ c κs. search needs) (λ c κs. search needs) returns)
+pub resolve_station_temperature_spec : {M : Type 1} → statement M
+resolve_station_temperature_spec = tie.close (tie.spec (λ c κs. search rules)
+    (λ c κs. search rules)
+    returns)

@@ -4,5 +4,5 @@ use Rattle.decimals.specs.Places.{in_sixteen}
 use Rattle.decimals.proofs.shown.no_text.Statement.{statement}
 use Rattle.decimals.proofs.shown.no_text.Tie as tie
 
-pub no-text-spec : {M : Type 1} → statement M
-no-text-spec = tie.close (tie.spec (λ c. unfold in_sixteen in refl))
+pub no_text_spec : {M : Type 1} → statement M
+no_text_spec = tie.close (tie.spec (λ c. unfold in_sixteen in refl))

@@ -1,11 +1,13 @@
 -- `decimals::shown::with_byte` meets its contract. Assumes nothing.
-use Rattle.arithmetic.proofs.Kit.{needs}
+use Rattle.arithmetic.proofs.Kit.{rules}
 use Rattle.decimals.proofs.Standing.{placed, overflown}
 use Rattle.decimals.proofs.shown.with_byte.Statement.{statement}
 use Rattle.decimals.proofs.shown.with_byte.Tie as tie
 
-pub with-byte-spec : {M : Type 1} → statement M
-with-byte-spec =
-    tie.close (tie.spec (λ c. search needs) (λ c. search needs) (λ c. search needs)
-    (λ c. record { stands = λ t e. placed c.before.args.text t c.before.args.b e (search needs) })
-    (λ c. record { stands = λ t e. overflown c.before.args.text t c.before.args.b e (search needs) }))
+pub with_byte_spec : {M : Type 1} → statement M
+with_byte_spec =
+    tie.close (tie.spec (λ c. search rules)
+    (λ c. search rules)
+    (λ c. search rules)
+    (λ c. record { stands = λ t e. placed c.args.text t c.args.b e (search rules) })
+    (λ c. record { stands = λ t e. overflown c.args.text t c.args.b e (search rules) }))

@@ -3,5 +3,6 @@ use Rattle.arithmetic.proofs.Kit.{le-leb, lt-leb}
 use Rattle.decimals.proofs.typed.is_digit.Statement.{statement}
 use Rattle.decimals.proofs.typed.is_digit.Tie as tie
 
-pub is-digit-spec : {M : Type 1} → statement M
-is-digit-spec = tie.close (tie.spec (λ c. rw (le-leb _ _ c.if1.true)) (λ c. rw (lt-leb _ _ c.if1.false)))
+pub is_digit_spec : {M : Type 1} → statement M
+is_digit_spec = tie.close (tie.spec (λ c. rw (le-leb _ _ c.if-byte-ge48.true))
+    (λ c. rw (lt-leb _ _ c.if-byte-ge48.false)))

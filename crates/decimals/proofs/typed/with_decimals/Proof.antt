@@ -1,29 +1,34 @@
 -- `decimals::typed::with_decimals` meets its contract. Assumes nothing.
-use Rattle.arithmetic.proofs.Kit.{◌≡◌, sym, ◌∙◌, needs, le-leb, lt-leb, eq-eqb, ne_eqb, length}
+use Rattle.arithmetic.proofs.Kit.{◌≡◌, sym, ◌∙◌, rules, le-leb, lt-leb, eq-eqb, ne_eqb, length}
 use Rattle.decimals.specs.Typed.{digits_in, with_decimals}
 use Rattle.decimals.proofs.typed.with_decimals.Statement.{statement}
 use Rattle.decimals.proofs.typed.with_decimals.Tie as tie
 
-returns-2 : tie.Need-returns-2
+returns_2 : tie.Need-returns-then-digits_in-n
 unfolding with_decimals
-returns-2 c =
-    let d = c.before.before.before.before.before.args.decimals.now in
-    rw (ne_eqb (length d) 0 c.before.before.if1.false, ne_eqb (digits_in d) (length d) (λ same. c.if2.true (c.before.digits_in.ensures ∙ same)))
+returns_2 c =
+    let d = c.args.decimals.now in
+    rw (ne_eqb (length d) 0 c.if-n-eq0.false, ne_eqb (digits_in d) (length d) (λ same. c.if-digits_in-n.true (c.digits_in.ensures ∙ same)))
 
-returns-3 : tie.Need-returns-3
+returns_3 : tie.Need-returns-then-n-places
 unfolding with_decimals
-returns-3 c =
-    let d = c.before.before.before.before.before.before.args.decimals.now in
-    let all : digits_in d ≡ length d = sym c.before.before.digits_in.ensures ∙ c.before.if2.false in
-    rw (ne_eqb (length d) 0 c.before.before.before.if1.false, eq-eqb (digits_in d) (length d) all, lt-leb (length d) _ c.if3.true)
+returns_3 c =
+    let d = c.args.decimals.now in
+    let all : digits_in d ≡ length d = sym c.digits_in.ensures ∙ c.if-digits_in-n.false in
+    rw (ne_eqb (length d) 0 c.if-n-eq0.false, eq-eqb (digits_in d) (length d) all, lt-leb (length d) _ c.if-n-places.true)
 
-returns-4 : tie.Need-returns-4
+returns_4 : tie.Need-returns
 unfolding with_decimals
-returns-4 c =
-    let d = c.before.before.before.before.before.before.before.args.decimals.now in
-    let all : digits_in d ≡ length d = sym c.before.before.before.digits_in.ensures ∙ c.before.before.if2.false in
-    rw (ne_eqb (length d) 0 c.before.before.before.before.if1.false, eq-eqb (digits_in d) (length d) all, le-leb (length d) _ c.before.if3.false)
-    c.from-digits.ensures
+returns_4 c =
+    let d = c.args.decimals.now in
+    let all : digits_in d ≡ length d = sym c.digits_in.ensures ∙ c.if-digits_in-n.false in
+    rw (ne_eqb (length d) 0 c.if-n-eq0.false, eq-eqb (digits_in d) (length d) all, le-leb (length d) _ c.if-n-places.false)
+    c.from_digits.ensures
 
-pub with-decimals-spec : {M : Type 1} → statement M
-with-decimals-spec = tie.close (tie.spec (λ c. unfold with_decimals in rw (eq-eqb _ 0 c.if1.true)) (λ c κs. search needs) returns-2 returns-3 (λ c κs. search needs) returns-4)
+pub with_decimals_spec : {M : Type 1} → statement M
+with_decimals_spec = tie.close (tie.spec (λ c. unfold with_decimals in rw (eq-eqb _ 0 c.if-n-eq0.true))
+    (λ c κs. search rules)
+    returns_2
+    returns_3
+    (λ c κs. search rules)
+    returns_4)

@@ -1,5 +1,5 @@
 -- `density_altitude::inverse::station_at` meets its contract: its exponent is number 12 of elementary's table. Assumes nothing.
-use Rattle.arithmetic.proofs.Kit.{ap, needs, Float, of_bits, div}
+use Rattle.arithmetic.proofs.Kit.{ap, rules, Float, of_bits, div}
 use Rattle.arithmetic.specs.Operators.{◌⊗◌}
 use Rattle.elementary.specs.Power.{power_at}
 use Rattle.atmosphere.specs.Station.{standard_pressure}
@@ -10,8 +10,9 @@ use Rattle.density_altitude.proofs.inverse.station_at.Tie as tie
 returns : tie.Need-returns
 unfolding power_at of_bits div
 returns c =
-    let a = c.before.args in
-    ap (λ (x : Float). record { altitude_m = a.pressure-alt-ft ⊗ foot; temperature_c = a.temperature-c; pressure_hpa = standard_pressure ⊗ x }) c.power.ensures
+    let a = c.args in
+    ap (λ (x : Float). record { altitude_m = a.pressure_alt_ft ⊗ foot; temperature_c = a.temperature_c; pressure_hpa = standard_pressure ⊗ x }) c.power.ensures
 
-pub station-at-spec : {M : Type 1} → statement M
-station-at-spec = tie.close (tie.spec (λ c κs. search needs) returns)
+pub station_at_spec : {M : Type 1} → statement M
+station_at_spec = tie.close (tie.spec (λ c κs. search rules)
+    returns)

@@ -1,5 +1,5 @@
 -- `density_altitude::inverse::station_for_density_altitude` meets its contract: its checks are the rows, in their order. Assumes nothing.
-use Rattle.arithmetic.proofs.Kit.{◌≡◌, sym, ap, ◌∙◌, Bool, not, [], ◌∷◌, needs, Float}
+use Rattle.arithmetic.proofs.Kit.{◌≡◌, sym, ap, ◌∙◌, Bool, not, [], ◌∷◌, rules, Float}
 use Rattle.atmosphere.specs.declared.given.Reading.{Reading}
 use Rattle.arithmetic.specs.Doubles.{is_finite}
 use Rattle.refusal.specs.declared.Check.{Check}
@@ -19,26 +19,33 @@ after : (d : Float) (t : Reading) {k k' : Check} → k ≡ k' → checked k ≡ 
 unfolding station
 after d t told e = after_check (input_rows d t) (last d t) told e ∙ sym (then_append (input_rows d t) (resolved_rows d (resolve places d t)) (accepted (resolve places d t)))
 
-inputs : (c : tie.After-first-of) → let a = c.before.before.before.before.args in checked c.first_of.result ≡ passed (input_rows a.density-altitude-m a.explicit-temperature-c)
+inputs : (c : tie.After-first_of) → let a = c.args in checked c.first_of.result ≡ passed (input_rows a.density_altitude_m a.explicit_temperature_c)
 inputs c =
-    let d = c.before.before.before.before.args.density-altitude-m in
-    first-passed (row (not (is_finite d)) 1 (d ∷ []) ∷ []) (given_rows c.before.before.before.before.args.explicit-temperature-c) c.first_of.ensures
-    (c.before.before.refuse-if.ensures ∙ ap (λ (b : Bool). passed (row (not b) 1 (d ∷ []) ∷ [])) c.before.before.before.is-finite.ensures)
-    c.before.check-given.ensures
+    let d = c.args.density_altitude_m in
+    first-passed (row (not (is_finite d)) 1 (d ∷ []) ∷ []) (given_rows c.args.explicit_temperature_c) c.first_of.ensures
+    (c.refuse_if-altitude.ensures ∙ ap (λ (b : Bool). passed (row (not b) 1 (d ∷ []) ∷ [])) c.is_finite.ensures)
+    c.check_given.ensures
 
-returns : tie.Need-returns
+returns : tie.Need-returns-in-Refused
 returns c =
-    let checks = c.before.before.before in
-    let a = checks.before.before.before.before.args in
-    after a.density-altitude-m a.explicit-temperature-c c.before.refusal.given.1 (inputs checks)
+    let checks = c.before in
+    let a = checks.args in
+    after a.density_altitude_m a.explicit_temperature_c c.in-Refused.is (inputs checks)
 
-returns-2 : tie.Need-returns-2
-returns-2 c =
-    let checks = c.before.before.before in
-    let a = checks.before.before.before.before.args in
-    c.checked-station.ensures ∙ after a.density-altitude-m a.explicit-temperature-c c.before.enum_told.given.1 (inputs checks)
+returns_2 : tie.Need-returns-in-Passed
+returns_2 c =
+    let checks = c.before.before in
+    let a = checks.args in
+    c.checked_station.ensures ∙ after a.density_altitude_m a.explicit_temperature_c c.in-Passed.is (inputs checks)
 
-pub station-for-density-altitude-spec : {M : Type 1} → statement M
-station-for-density-altitude-spec =
-    tie.close (tie.spec (λ c κs. search needs) (λ c κs. search needs) (λ c κs. search needs) (λ c κs. search needs) (λ c. search needs) (λ c. search needs)
-    (λ c κs. search needs) returns returns-2)
+pub station_for_density_altitude_spec : {M : Type 1} → statement M
+station_for_density_altitude_spec =
+    tie.close (tie.spec (λ c κs. search rules)
+    (λ c κs. search rules)
+    (λ c κs. search rules)
+    (λ c κs. search rules)
+    (λ c. search rules)
+    (λ c. search rules)
+    (λ c κs. search rules)
+    returns
+    returns_2)

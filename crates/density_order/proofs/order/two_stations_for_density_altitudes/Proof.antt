@@ -1,14 +1,14 @@
 -- `density_order::order::two_stations_for_density_altitudes` meets its contract, by what its call promises where the middle one of three is the low one.
 -- Assumes nothing.
-use Rattle.density_order.proofs.Kit.{◌≡◌, sym, subst, ◌∙◌, needs, T, Float, binary64, fits, le, of_bits-fits, decimal, numbers-of-le, le-trans-double, Reading, Station, Outcome, Accepted, InOrder, Demand₃, TwoInOrder}
+use Rattle.density_order.proofs.Kit.{◌≡◌, sym, subst, ◌∙◌, rules, T, Float, binary64, fits, le, of_bits-fits, decimal, numbers-of-le, le-trans-double, Reading, Station, Outcome, Accepted, InOrder, Demand₃, TwoInOrder}
 use Rattle.atmosphere.proofs.AltitudeOrder.{le_self}
 use Rattle.density_order.proofs.Owned.{held}
 use Rattle.density_order.proofs.order.two_stations_for_density_altitudes.Statement.{statement}
 use Rattle.density_order.proofs.order.two_stations_for_density_altitudes.Tie as tie
 
-two-in-order : (t : Reading) (d₁ d₂ : Float) {a₁ a a₂ : Outcome Station} → T (fits binary64 d₁) → T (fits binary64 d₂) → a ≡ a₁
+two_in_order : (t : Reading) (d₁ d₂ : Float) {a₁ a a₂ : Outcome Station} → T (fits binary64 d₁) → T (fits binary64 d₂) → a ≡ a₁
     → (T (le d₁ d₁) → T (le d₁ d₂) → Accepted a₁ → Accepted a₂ → Demand₃ t d₁ d₂ a₁ a a₂) → TwoInOrder t d₁ d₂ a₁ a₂
-two-in-order t d₁ d₂ {a₁} {a} {a₂} f₁ f₂ same promised =
+two_in_order t d₁ d₂ {a₁} {a} {a₂} f₁ f₂ same promised =
     let self : T (le d₁ d₂) → T (le d₁ d₁) = λ order. le_self d₁ (numbers-of-le d₁ d₂ order).0 in
     let lowest : Float = decimal "-500" in
     let highest : Float = decimal "3000" in
@@ -26,10 +26,11 @@ two-in-order t d₁ d₂ {a₁} {a} {a₂} f₁ f₂ same promised =
 
 returns : tie.Need-returns
 returns c =
-    let a = c.before.args in
-    let owned = c.before.well-formed in
-    let three = c.stations-for-density-altitudes.ensures in
-    (three.0, (three.1.1.0, two-in-order a.explicit-temperature-c a.low-m a.high-m (held a.low-m owned.0.1) (held a.high-m owned.1.0.1) (three.1.0 ∙ sym three.0) three.1.1.1))
+    let a = c.args in
+    let owned = c.well_formed in
+    let three = c.stations_for_density_altitudes-stations.ensures in
+    (three.0, (three.1.1.0, two_in_order a.explicit_temperature_c a.low_m a.high_m (held a.low_m owned.0.1) (held a.high_m owned.1.0.1) (three.1.0 ∙ sym three.0) three.1.1.1))
 
-pub two-stations-for-density-altitudes-spec : {M : Type 1} → statement M
-two-stations-for-density-altitudes-spec = tie.close (tie.spec (λ c κs. search needs) returns)
+pub two_stations_for_density_altitudes_spec : {M : Type 1} → statement M
+two_stations_for_density_altitudes_spec = tie.close (tie.spec (λ c κs. search rules)
+    returns)

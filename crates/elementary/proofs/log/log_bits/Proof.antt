@@ -9,14 +9,14 @@ use Rattle.elementary.proofs.log.log_bits.Statement.{statement}
 use Rattle.elementary.proofs.log.log_bits.Tie as tie
 
 -- a square below 2^64 has its bit as its highest digit, and moves down by as many places
-highest-digit : (Q : ℕ) → Q < 2 ^ 64 → (Q / 2 ^ 63 ≡ bit_of Q) × (Q / 2 ^ (Q / 2 ^ 63) ≡ normalised Q)
-highest-digit Q h =
+highest_digit : (Q : ℕ) → Q < 2 ^ 64 → (Q / 2 ^ 63 ≡ bit_of Q) × (Q / 2 ^ (Q / 2 ^ 63) ≡ normalised Q)
+highest_digit Q h =
     bit-cases (λ t N. (Q / 2 ^ 63 ≡ t) × (Q / 2 ^ (Q / 2 ^ 63) ≡ N)) Q
     (λ off. let e : Q / 2 ^ 63 ≡ 0 = omega arith in (e, ap (λ (x : ℕ). Q / 2 ^ x) e ∙ div-one Q))
     (λ on. let e : Q / 2 ^ 63 ≡ 1 = omega arith in (e, ap (λ (x : ℕ). Q / 2 ^ x) e))
 
 record Found (m mantissa bits left : ℕ) : Type 0 where
-  is-mantissa : Mantissa mantissa
+  is_mantissa : Mantissa mantissa
   short : (bits + 1) * 2 ^ left ≤ 2 ^ places
   followed : bits * 2 ^ left + log_bits left mantissa ≡ log_bits places m
 
@@ -31,7 +31,7 @@ unfolding log_bits
 one_place m mantissa bits left found =
     let Q = squared mantissa in
     record {
-      is-mantissa = next-mantissa found.is-mantissa;
+      is_mantissa = next-mantissa found.is_mantissa;
       short = le_trans (mul-le-mul_right (2 ^ left) (omega (arith, bit_le Q))) (le_trans (le_of_eq (mul_assoc (bits + 1) 2 (2 ^ left) ∙ ap (λ (x : ℕ). (bits + 1) * x) (sym (pow-succ' 2 left)))) found.short);
       followed = ap (λ (x : ℕ). x + log_bits left (normalised Q)) (double bits (bit_of Q) (2 ^ left) ∙ ap (λ (x : ℕ). bits * x + bit_of Q * 2 ^ left) (sym (pow-succ' 2 left))) ∙ add_assoc (bits * 2 ^ suc left) (bit_of Q * 2 ^ left) (log_bits left (normalised Q)) ∙ found.followed;
     }
@@ -40,29 +40,34 @@ one_place m mantissa bits left found =
 turn : (m mantissa bits left Q : ℕ) → 0 < left → Q ≡ squared mantissa → Found m mantissa bits left → Found m (Q / 2 ^ (Q / 2 ^ 63)) (bits * 2 + Q / 2 ^ 63) (left - 1)
 turn m mantissa bits zero Q some is found = absurd (not-suc-le-zero some)
 turn m mantissa bits (suc left) Q some is found =
-    let h = highest-digit Q (subst (λ (x : ℕ). x < 2 ^ 64) (sym is) (squared-lt found.is-mantissa)) in
+    let h = highest_digit Q (subst (λ (x : ℕ). x < 2 ^ 64) (sym is) (squared-lt found.is_mantissa)) in
     let back : suc left - 1 ≡ left = omega arith in
     rw (h.1, h.0, is, back) (one_place m mantissa bits left found)
 
-no-places : (M : ℕ) → log_bits zero M ≡ 0
+no_places : (M : ℕ) → log_bits zero M ≡ 0
 unfolding log_bits
-no-places M = refl
+no_places M = refl
 
-all-places : (m mantissa bits left : ℕ) → left ≤ 0 → Found m mantissa bits left → bits ≡ log_bits places m
-all-places m mantissa bits zero none found = sym (ap (λ (x : ℕ). bits * 1 + x) (no-places mantissa) ∙ add-zero (bits * 1) ∙ mul-one bits) ∙ found.followed
-all-places m mantissa bits (suc left) none found = absurd (not-suc-le-zero none)
+all_places : (m mantissa bits left : ℕ) → left ≤ 0 → Found m mantissa bits left → bits ≡ log_bits places m
+all_places m mantissa bits zero none found = sym (ap (λ (x : ℕ). bits * 1 + x) (no_places mantissa) ∙ add-zero (bits * 1) ∙ mul-one bits) ∙ found.followed
+all_places m mantissa bits (suc left) none found = absurd (not-suc-le-zero none)
 
-abbrev invariant-loop : tie.invariant-loop
-invariant-loop m mantissa₀ bits₀ left₀ mantissa bits left = Found m mantissa bits left
+abbrev invariant_loop : tie.invariant-loop-left
+invariant_loop m mantissa₀ bits₀ left₀ mantissa bits left = Found m mantissa bits left
 
-abbrev decreases-loop : tie.decreases-loop
-decreases-loop m mantissa₀ bits₀ left₀ mantissa bits left = left
+abbrev decreases_loop : tie.decreases-loop-left
+decreases_loop m mantissa₀ bits₀ left₀ mantissa bits left = left
 
-pub log-bits-spec : {M : Type 1} → statement M
-log-bits-spec =
-    tie.close (tie.spec invariant-loop decreases-loop
-    (λ c. record { is-mantissa = record { low = c.requires.0; high = c.requires.1 }; short = le_refl (2 ^ places); followed = zero-add (log_bits places c.args.m) })
-    (λ c κs. c.before.loop.invariant.is-mantissa.high) (λ c. omega arith) (λ c. omega (arith, few _ _ _ _ c.before.before.loop.invariant))
-    (λ c. omega (arith, few _ _ _ _ c.before.before.loop.invariant)) (λ c. omega arith) (λ c. omega arith)
-    (λ c. turn _ _ _ _ c.squared.result c.before.loop-test.true c.squared.ensures c.before.before.loop.invariant)
-    (λ c. all-places _ _ _ _ c.loop-test.false c.before.loop.invariant))
+pub log_bits_spec : {M : Type 1} → statement M
+log_bits_spec =
+    tie.close (tie.spec invariant_loop
+    decreases_loop
+    (λ c. record { is_mantissa = record { low = c.requires.0; high = c.requires.1 }; short = le_refl (2 ^ places); followed = zero-add (log_bits places c.args.m) })
+    (λ c κs. c.loop-left.invariant.is_mantissa.high)
+    (λ c. omega arith)
+    (λ c. omega (arith, few _ _ _ _ c.loop-left.invariant))
+    (λ c. omega (arith, few _ _ _ _ c.loop-left.invariant))
+    (λ c. omega arith)
+    (λ c. omega arith)
+    (λ c. turn _ _ _ _ c.squared-square.result c.loop-left-test.true c.squared-square.ensures c.loop-left.invariant)
+    (λ c. all_places _ _ _ _ c.loop-left-test.false c.loop-left.invariant))

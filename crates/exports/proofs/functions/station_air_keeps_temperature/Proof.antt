@@ -1,8 +1,10 @@
 -- `exports::functions::station_air_keeps_temperature` meets its contract: it asks whether the resolved reading is given. Assumes nothing.
-use Rattle.arithmetic.proofs.Kit.{needs, ap, ◌∙◌}
+use Rattle.arithmetic.proofs.Kit.{rules, ap, ◌∙◌}
 use Rattle.exports.specs.Readings.{is_given}
 use Rattle.exports.proofs.functions.station_air_keeps_temperature.Statement.{statement}
 use Rattle.exports.proofs.functions.station_air_keeps_temperature.Tie as tie
 
-pub station-air-keeps-temperature-spec : {M : Type 1} → statement M
-station-air-keeps-temperature-spec = tie.close (tie.spec (λ c κs. search needs) (λ c κs. search needs) (λ c. c.is-given.ensures ∙ ap is_given c.before.resolve-station-temperature.ensures))
+pub station_air_keeps_temperature_spec : {M : Type 1} → statement M
+station_air_keeps_temperature_spec = tie.close (tie.spec (λ c κs. search rules)
+    (λ c κs. search rules)
+    (λ c. c.is_given.ensures ∙ ap is_given c.resolve_station_temperature.ensures))

@@ -1,13 +1,16 @@
 -- `exports::records::station_air_to_doubles` meets its contract, by what `put_length` leaves of the writer's answer. Assumes nothing.
-use Rattle.arithmetic.proofs.Kit.{refl, needs}
+use Rattle.arithmetic.proofs.Kit.{refl, rules}
 use Rattle.exports.proofs.records.station_air_to_doubles.Statement.{statement}
 use Rattle.exports.proofs.records.station_air_to_doubles.Tie as tie
 
 returns : tie.Need-returns
 returns c =
-    let made = c.before.before.before.to-doubles.ensures in
-    let put = c.put-length.ensures in
+    let made = c.to_doubles.ensures in
+    let put = c.put_length.ensures in
     rw (← made.0) (put.0, (made.1.0, (put.1, refl)))
 
-pub station-air-to-doubles-spec : {M : Type 1} → statement M
-station-air-to-doubles-spec = tie.close (tie.spec (λ c κs. search needs) (λ c κs. search needs) (λ c. search needs) returns)
+pub station_air_to_doubles_spec : {M : Type 1} → statement M
+station_air_to_doubles_spec = tie.close (tie.spec (λ c κs. search rules)
+    (λ c κs. search rules)
+    (λ c. search rules)
+    returns)

@@ -1,37 +1,43 @@
--- `exports::records::station_air_write` meets its contract: the arrays are tested, and then the writer answers. Assumes nothing.
-use Rattle.arithmetic.proofs.Kit.{refl, sym, ◌∙◌, needs, not_true, not-false, length}
-use Rattle.exports.proofs.Room.{all-roomy}
+-- `exports::records::station_air_write` meets its contract: the arrays are tested one after the other, and then the writer answers. Assumes nothing.
+use Rattle.arithmetic.proofs.Kit.{refl, sym, ◌∙◌, rules}
+use Rattle.fields.specs.Fields.{meanings}
+use Rattle.exports.proofs.Room.{short, roomy}
 use Rattle.exports.proofs.records.station_air_write.Statement.{statement}
 use Rattle.exports.proofs.records.station_air_write.Tie as tie
 
-returns : tie.Need-returns
-returns c = rw (sym c.before.have-room.ensures ∙ not_true _ c.if1.true) (refl, (refl, (refl, (refl, (refl, refl)))))
-
-are-forms-requires : tie.Need-are-forms-requires
-are-forms-requires c κs =
-    let a = c.before.before.before.before.before.before.args in
-    (all-roomy {y = length a.values.now} {z = length a.counts.now} (sym c.before.have-room.ensures ∙ not-false _ c.if1.false)).0
-
-returns-2 : tie.Need-returns-2
-returns-2 c =
-    let tested = c.before.before in
-    rw (sym tested.before.have-room.ensures ∙ not-false _ tested.if1.false, sym c.before.are-forms.ensures ∙ not_true _ c.if2.true)
+returns_3 : tie.Need-returns-then-counts-lt-MEANINGS
+returns_3 c =
+    rw (roomy meanings _ c.if-forms-lt-MEANINGS.false, roomy meanings _ c.if-values-lt-MEANINGS.false, short meanings _ c.if-counts-lt-MEANINGS.true)
     (refl, (refl, (refl, (refl, (refl, refl)))))
 
-readings-of-requires : tie.Need-readings-of-requires
-readings-of-requires c κs = let tested = c.before.before.before in all-roomy (sym tested.before.have-room.ensures ∙ not-false _ tested.if1.false)
+returns_4 : tie.Need-returns-then-not-are_forms
+returns_4 c =
+    let tested = c.before.before in
+    let unknown = sym c.are_forms.ensures ∙ c.if-not-are_forms.true in
+    rw (roomy meanings _ tested.if-forms-lt-MEANINGS.false, roomy meanings _ tested.if-values-lt-MEANINGS.false, roomy meanings _ tested.if-counts-lt-MEANINGS.false, unknown)
+    (refl, (refl, (refl, (refl, (refl, refl)))))
 
-returns-3 : tie.Need-returns-3
-returns-3 c =
+returns_5 : tie.Need-returns
+returns_5 c =
     let wrote = c.before.before.before in
     let read = wrote.before.before in
     let told = read.before.before in
     let tested = told.before.before in
+    let known = sym told.are_forms.ensures ∙ told.if-not-are_forms.false in
     let made = wrote.write.ensures in
-    let put = c.put-length.ensures in
-    rw (sym tested.before.have-room.ensures ∙ not-false _ tested.if1.false, sym told.before.are-forms.ensures ∙ not-false _ told.if2.false)
-    (rw (← read.readings-of.ensures, ← made.0) (put.0, (made.1, (put.1, (refl, (refl, refl))))))
+    let put = c.put_length.ensures in
+    rw (roomy meanings _ tested.if-forms-lt-MEANINGS.false, roomy meanings _ tested.if-values-lt-MEANINGS.false, roomy meanings _ tested.if-counts-lt-MEANINGS.false, known)
+    (rw (← read.readings_of.ensures, ← made.0) (put.0, (made.1, (put.1, (refl, (refl, refl))))))
 
-pub station-air-write-spec : {M : Type 1} → statement M
-station-air-write-spec =
-    tie.close (tie.spec (λ c κs. search needs) returns are-forms-requires returns-2 readings-of-requires (λ c κs. search needs) (λ c κs. search needs) (λ c. search needs) returns-3)
+pub station_air_write_spec : {M : Type 1} → statement M
+station_air_write_spec =
+    tie.close (tie.spec (λ c. rw (short meanings _ c.if-forms-lt-MEANINGS.true) (refl, (refl, (refl, (refl, (refl, refl))))))
+    (λ c. rw (roomy meanings _ c.if-forms-lt-MEANINGS.false, short meanings _ c.if-values-lt-MEANINGS.true) (refl, (refl, (refl, (refl, (refl, refl))))))
+    returns_3
+    (λ c κs. search rules)
+    returns_4
+    (λ c κs. search rules)
+    (λ c κs. search rules)
+    (λ c κs. search rules)
+    (λ c. search rules)
+    returns_5)

@@ -1,15 +1,19 @@
 -- `exports::stations::station_air_judge_strictly` meets its contract, by what `put_answer` leaves of the judge's answer. Assumes nothing.
-use Rattle.arithmetic.proofs.Kit.{needs, refl}
+use Rattle.arithmetic.proofs.Kit.{rules, refl}
 use Rattle.exports.proofs.Room.{short, roomy}
 use Rattle.exports.proofs.stations.station_air_judge_strictly.Statement.{statement}
 use Rattle.exports.proofs.stations.station_air_judge_strictly.Tie as tie
 
-returns-2 : tie.Need-returns-2
-returns-2 c =
+returns_2 : tie.Need-returns
+returns_2 c =
     let put = c.before.before in
     let judged = put.before in
-    let left = put.put-answer.ensures in
-    rw (roomy 8 _ judged.before.before.before.if1.false, ← judged.judge-strictly.ensures.0) (left.0, (left.1.0, (left.1.1, refl)))
+    let left = put.put_answer.ensures in
+    rw (roomy 8 _ judged.if-lent-lt8.false, ← judged.judge_strictly.ensures.0) (left.0, (left.1.0, (left.1.1, refl)))
 
-pub station-air-judge-strictly-spec : {M : Type 1} → statement M
-station-air-judge-strictly-spec = tie.close (tie.spec (λ c. rw (short 8 _ c.if1.true) (refl, (refl, (refl, refl)))) (λ c κs. search needs) (λ c κs. search needs) (λ c. search needs) returns-2)
+pub station_air_judge_strictly_spec : {M : Type 1} → statement M
+station_air_judge_strictly_spec = tie.close (tie.spec (λ c. rw (short 8 _ c.if-lent-lt8.true) (refl, (refl, (refl, refl))))
+    (λ c κs. search rules)
+    (λ c κs. search rules)
+    (λ c. search rules)
+    returns_2)

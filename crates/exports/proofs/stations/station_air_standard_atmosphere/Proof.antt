@@ -1,14 +1,18 @@
 -- `exports::stations::station_air_standard_atmosphere` meets its contract. Assumes nothing.
-use Rattle.arithmetic.proofs.Kit.{needs, refl}
+use Rattle.arithmetic.proofs.Kit.{rules, refl}
 use Rattle.exports.proofs.Room.{short, roomy}
 use Rattle.exports.proofs.stations.station_air_standard_atmosphere.Statement.{statement}
 use Rattle.exports.proofs.stations.station_air_standard_atmosphere.Tie as tie
 
-returns-2 : tie.Need-returns-2
-returns-2 c =
+returns_2 : tie.Need-returns
+returns_2 c =
     let put = c.before.before in
     let called = put.before.before in
-    rw (roomy 2 _ called.before.if1.false, ← called.calculate-icao-standard-atmosphere.ensures) (refl, put.put_two.ensures)
+    rw (roomy 2 _ called.if-lent-lt2.false, ← called.calculate_icao_standard_atmosphere-air.ensures) (refl, put.put_two.ensures)
 
-pub station-air-standard-atmosphere-spec : {M : Type 1} → statement M
-station-air-standard-atmosphere-spec = tie.close (tie.spec (λ c. rw (short 2 _ c.if1.true) (refl, refl)) (λ c κs. search needs) (λ c κs. search needs) (λ c. search needs) returns-2)
+pub station_air_standard_atmosphere_spec : {M : Type 1} → statement M
+station_air_standard_atmosphere_spec = tie.close (tie.spec (λ c. rw (short 2 _ c.if-lent-lt2.true) (refl, refl))
+    (λ c κs. search rules)
+    (λ c κs. search rules)
+    (λ c. search rules)
+    returns_2)

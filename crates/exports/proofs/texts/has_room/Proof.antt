@@ -10,8 +10,9 @@ halved page bytes most = go (leb (2842 + 2 * bytes) page) refl
     go true e = let room = leb-true (2842 + 2 * bytes) page e in le-leb bytes ((page - 2842) / 2) (omega (arith, room))
     go false e = let few = leb-false (2842 + 2 * bytes) page e in lt-leb bytes ((page - 2842) / 2) (omega (arith, few, most))
 
-returns : tie.Need-returns
-returns c = sym (lt-leb (2842 + 2 * c.before.args.«record») c.before.args.page (omega (arith, c.if1.true)))
+returns : tie.Need-returns-then-page-lt-REPORT
+returns c = sym (lt-leb (2842 + 2 * c.args.«record») c.args.page (omega (arith, c.if-page-lt-REPORT.true)))
 
-pub has-room-spec : {M : Type 1} → statement M
-has-room-spec = tie.close (tie.spec returns (λ c. halved c.before.args.page c.before.args.«record» c.if1.false))
+pub has_room_spec : {M : Type 1} → statement M
+has_room_spec = tie.close (tie.spec returns
+    (λ c. halved c.args.page c.args.«record» c.if-page-lt-REPORT.false))

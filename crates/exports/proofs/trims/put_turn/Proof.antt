@@ -1,5 +1,5 @@
 -- `exports::trims::put_turn` meets its contract. Assumes nothing.
-use Rattle.arithmetic.proofs.Kit.{◌∙◌, needs}
+use Rattle.arithmetic.proofs.Kit.{◌∙◌, rules}
 use Rattle.exports.proofs.Four.{held, by_equals}
 use Rattle.exports.proofs.trims.put_turn.Statement.{statement}
 use Rattle.exports.proofs.trims.put_turn.Tie as tie
@@ -12,11 +12,17 @@ returns c =
     let tenths = first.before.before in
     let tag = tenths.before in
     put.put_four.ensures
-    ∙ by_equals tag.before.before.args.answer.now
-    (held (search needs) first.signed.ensures)
-    (held (search needs) tag.tag_of.ensures)
-    (held (search needs) tenths.signed-tenths.ensures)
-    (held (search needs) last.signed2.ensures)
+    ∙ by_equals tag.args.answer.now
+    (held (search rules) first.signed.ensures)
+    (held (search rules) tag.tag_of-tag.ensures)
+    (held (search rules) tenths.signed_tenths-tenths.ensures)
+    (held (search rules) last.signed-2.ensures)
 
-pub put-turn-spec : {M : Type 1} → statement M
-put-turn-spec = tie.close (tie.spec (λ c κs. search needs) (λ c κs. search needs) (λ c κs. search needs) (λ c κs. search needs) (λ c κs. search needs) (λ c. search needs) returns)
+pub put_turn_spec : {M : Type 1} → statement M
+put_turn_spec = tie.close (tie.spec (λ c κs. search rules)
+    (λ c κs. search rules)
+    (λ c κs. search rules)
+    (λ c κs. search rules)
+    (λ c κs. search rules)
+    (λ c. search rules)
+    returns)

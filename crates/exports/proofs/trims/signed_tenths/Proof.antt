@@ -1,5 +1,5 @@
 -- `exports::trims::signed_tenths` meets its contract: each arm knows the direction. Assumes nothing.
-use Rattle.arithmetic.proofs.Kit.{◌≡◌, ℕ, zero, suc, ◌<◌, arith, needs, ℤ, pos, neg_ℤ, ◌-ℤ◌, w32, SFits}
+use Rattle.arithmetic.proofs.Kit.{◌≡◌, ℕ, zero, suc, ◌<◌, arith, rules, ℤ, pos, neg_ℤ, ◌-ℤ◌, w32, SFits}
 use lib.IntN.{+ℤ_idl}
 use mir.Facts.{to_z-of_z}
 use Rattle.exports.proofs.Four.{held}
@@ -7,24 +7,29 @@ use Rattle.exports.proofs.trims.signed_tenths.Statement.{statement}
 use Rattle.exports.proofs.trims.signed_tenths.Tie as tie
 
 -- a byte with a minus is in range
-minus-fits : (k : ℕ) → k < 256 → SFits w32 (neg_ℤ (pos k))
-minus-fits zero h = record { sfits = omega arith }
-minus-fits (suc k) h = record { sfits = omega arith }
+minus_fits : (k : ℕ) → k < 256 → SFits w32 (neg_ℤ (pos k))
+minus_fits zero h = record { sfits = omega arith }
+minus_fits (suc k) h = record { sfits = omega arith }
 
 minus : {z : ℤ} (k : ℕ) → z ≡ pos k → pos 0 -ℤ z ≡ neg_ℤ (pos k)
 minus k e = rw e (+ℤ_idl (neg_ℤ (pos k)))
 
-sub-result : tie.Need-overflow-sub-result
-sub-result c =
-    let x = c.before.before.before.args in
-    rw (minus x.tenths (held (search needs) c.signed2.ensures)) (minus-fits x.tenths (search needs))
+sub_result : tie.Need-overflow_sub-result
+sub_result c =
+    let x = c.args in
+    rw (minus x.tenths (held (search rules) c.signed-in-Down.ensures)) (minus_fits x.tenths (search rules))
 
-returns-2 : tie.Need-returns-2
-returns-2 c =
-    let x = c.before.before.before.args in
-    rw (c.before.enum-told2.given.1, minus x.tenths (held (search needs) c.signed2.ensures)) (to_z-of_z (minus-fits x.tenths (search needs)))
+returns_2 : tie.Need-returns-in-Down
+returns_2 c =
+    let x = c.args in
+    rw (c.in-Down.is, minus x.tenths (held (search rules) c.signed-in-Down.ensures)) (to_z-of_z (minus_fits x.tenths (search rules)))
 
-pub signed-tenths-spec : {M : Type 1} → statement M
-signed-tenths-spec =
-    tie.close (tie.spec (λ c. search needs) (λ c κs. search needs) (λ c. search needs) (λ c κs. search needs) sub-result
-    (λ c. rw c.before.enum_told.given.1 (held (search needs) c.signed.ensures)) returns-2)
+pub signed_tenths_spec : {M : Type 1} → statement M
+signed_tenths_spec =
+    tie.close (tie.spec (λ c. search rules)
+    (λ c κs. search rules)
+    (λ c. search rules)
+    (λ c κs. search rules)
+    sub_result
+    (λ c. rw c.in-Up.is (held (search rules) c.signed.ensures))
+    returns_2)

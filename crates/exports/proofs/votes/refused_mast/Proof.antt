@@ -1,7 +1,12 @@
 -- `exports::votes::refused_mast` meets its contract: each arm knows the vote. Assumes nothing.
-use Rattle.arithmetic.proofs.Kit.{needs, refl}
+use Rattle.arithmetic.proofs.Kit.{rules, refl}
 use Rattle.exports.proofs.votes.refused_mast.Statement.{statement}
 use Rattle.exports.proofs.votes.refused_mast.Tie as tie
 
-pub refused-mast-spec : {M : Type 1} → statement M
-refused-mast-spec = tie.close (tie.spec (λ c. search needs) (λ c. search needs) (λ c. search needs) (λ c. search needs) (λ c. rw c.before.voted.given.1 refl) (λ c. search needs))
+pub refused_mast_spec : {M : Type 1} → statement M
+refused_mast_spec = tie.close (tie.spec (λ c. search rules)
+    (λ c. search rules)
+    (λ c. search rules)
+    (λ c. search rules)
+    (λ c. rw c.in-Mast.is refl)
+    (λ c. search rules))

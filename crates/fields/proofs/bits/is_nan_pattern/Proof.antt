@@ -5,5 +5,5 @@ use lib.Ieee.Bits.{nan_bits_is, nan_bits_above}
 use Rattle.fields.proofs.bits.is_nan_pattern.Statement.{statement}
 use Rattle.fields.proofs.bits.is_nan_pattern.Tie as tie
 
-pub is-nan-pattern-spec : {M : Type 1} → statement M
-is-nan-pattern-spec = tie.close (tie.spec (λ c. sym (nan_bits_above binary64 c.args.bits) ∙ nan_bits_is binary64 c.args.bits))
+pub is_nan_pattern_spec : {M : Type 1} → statement M
+is_nan_pattern_spec = tie.close (tie.spec (λ c. sym (nan_bits_above binary64 c.args.bits) ∙ nan_bits_is binary64 c.args.bits))

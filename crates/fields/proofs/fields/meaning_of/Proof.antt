@@ -1,13 +1,16 @@
 -- `fields::fields::meaning_of` meets its contract. Assumes nothing.
-use Rattle.fields.proofs.Kit.{sym, ◌∙◌, arith, needs}
+use Rattle.fields.proofs.Kit.{sym, ◌∙◌, arith, rules}
 use Rattle.fields.proofs.Forms.{from_first}
 use Rattle.fields.proofs.fields.meaning_of.Statement.{statement}
 use Rattle.fields.proofs.fields.meaning_of.Tie as tie
 
-pub meaning-of-spec : {M : Type 1} → statement M
-meaning-of-spec =
-    tie.close (tie.spec (λ c κs. search needs)
-    (λ c. omega (arith, from_first c.before.before.args.tag (sym c.before.is-count-tag.ensures ∙ c.if1.true))) (λ c. search needs)
-    (λ c. simp (sym c.before.is-count-tag.ensures ∙ c.if1.true))
-    (λ c. simp (sym c.before.before.is-count-tag.ensures ∙ c.before.if1.false, c.if2.true)) (λ c. search needs) (λ c. search needs)
-    (λ c. simp (sym c.before.before.is-count-tag.ensures ∙ c.before.if1.false)))
+pub meaning_of_spec : {M : Type 1} → statement M
+meaning_of_spec =
+    tie.close (tie.spec (λ c κs. search rules)
+    (λ c. omega (arith, from_first c.args.tag (sym c.is_count_tag.ensures ∙ c.if-is_count_tag.true)))
+    (λ c. search rules)
+    (λ c. simp (sym c.is_count_tag.ensures ∙ c.if-is_count_tag.true))
+    (λ c. simp c.if-tag-eq0.true)
+    (λ c. search rules)
+    (λ c. search rules)
+    (λ c. simp (sym c.is_count_tag.ensures ∙ c.if-is_count_tag.false)))

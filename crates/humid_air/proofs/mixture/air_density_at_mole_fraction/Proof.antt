@@ -1,5 +1,5 @@
 -- `humid_air::mixture::air_density_at_mole_fraction` meets its contract, by what its callees ensure. Assumes nothing.
-use Rattle.arithmetic.proofs.Kit.{needs}
+use Rattle.arithmetic.proofs.Kit.{rules}
 use Rattle.humid_air.specs.MoistAir.{air_density_at}
 use Rattle.humid_air.proofs.mixture.air_density_at_mole_fraction.Statement.{statement}
 use Rattle.humid_air.proofs.mixture.air_density_at_mole_fraction.Tie as tie
@@ -8,7 +8,10 @@ returns : tie.Need-returns
 unfolding air_density_at
 returns c =
     let compressed = c.before in
-    simp (c.moist-molar-mass-ratio.ensures, compressed.enhanced-compressibility-factor.ensures, compressed.before.max.ensures)
+    simp (c.moist_molar_mass_ratio.ensures, compressed.enhanced_compressibility_factor-z.ensures, compressed.max-p_pa.ensures)
 
-pub air-density-at-mole-fraction-spec : {M : Type 1} → statement M
-air-density-at-mole-fraction-spec = tie.close (tie.spec (λ c κs. search needs) (λ c κs. search needs) (λ c κs. search needs) returns)
+pub air_density_at_mole_fraction_spec : {M : Type 1} → statement M
+air_density_at_mole_fraction_spec = tie.close (tie.spec (λ c κs. search rules)
+    (λ c κs. search rules)
+    (λ c κs. search rules)
+    returns)

@@ -2,5 +2,6 @@
 use Rattle.humid_air.proofs.mixture.capped_vapor_mole_fraction.Statement.{statement}
 use Rattle.humid_air.proofs.mixture.capped_vapor_mole_fraction.Tie as tie
 
-pub capped-vapor-mole-fraction-spec : {M : Type 1} → statement M
-capped-vapor-mole-fraction-spec = tie.close (tie.spec (λ c. simp c.if1.true) (λ c. simp c.if1.false))
+pub capped_vapor_mole_fraction_spec : {M : Type 1} → statement M
+capped_vapor_mole_fraction_spec = tie.close (tie.spec (λ c. simp c.if-mole_fraction_vapor.true)
+    (λ c. simp c.if-mole_fraction_vapor.false))

@@ -1,5 +1,5 @@
 -- `lines::asked::put_function_answer` meets its contract. Assumes nothing.
-use Rattle.arithmetic.proofs.Kit.{◌≡◌, refl, sym, ap, ap₂, ◌∙◌, true, false, List, [], ℕ, ◌≤◌, ◌<◌, lt-ltb, le-ltb, get_or, needs}
+use Rattle.arithmetic.proofs.Kit.{◌≡◌, refl, sym, ap, ap₂, ◌∙◌, true, false, List, [], ℕ, ◌≤◌, ◌<◌, lt-ltb, le-ltb, get_or, rules}
 use Rattle.pages.proofs.Growing.{same_more}
 use Rattle.questions.specs.Words.{place_in}
 use Rattle.questions.specs.Words.{line_parts}
@@ -23,28 +23,39 @@ module _ (line : List ℕ) {n : ℕ} (is : n ≡ place_in function_names (get_or
   wrong : n < 36 → fits (line_parts line) (get_or function_shapes n []) ≡ false → wrong_line (get_or function_names n []) (get_or function_shapes n []) ≡ function_answer line
   wrong h f = sym (rw (lt-ltb n 36 h, f)) ∙ answered
 
-returns : tie.Need-returns
+returns : tie.Need-returns-then-number-ge36
 unfolding name_text unknown_line
 returns c =
-    let line = c.before.before.before.before.before.before.before.before.before.before.before.before.args.line.now in
-    (same_more (unknown line (c.before.before.before.before.before.before.place.ensures.0 ∙ ap (place_in function_names) c.before.before.before.before.before.before.before.before.nth-word.ensures.0) c.before.before.before.before.before.if1.true) c.before.before.put.ensures.0, refl)
+    let line = c.args.line.now in
+    (same_more (unknown line (c.place-number.ensures.0 ∙ ap (place_in function_names) c.nth_word.ensures.0) c.if-number-ge36.true) c.put.ensures.0, refl)
 
-returns-2 : tie.Need-returns-2
+returns_2 : tie.Need-returns-then-fits
 unfolding name_text shape_text
-returns-2 c =
-    let line = c.before.before.before.before.before.before.before.before.before.before.before.before.before.before.before.before.args.line.now in
-    let fit : fits (line_parts line) (get_or function_shapes c.before.before.before.before.before.before.before.before.before.before.place.result []) ≡ true = ap (fits (line_parts line)) (sym c.before.before.before.before.before.before.nth-word2.ensures.0) ∙ sym c.before.before.before.before.before.fits2.ensures.0 ∙ c.before.before.before.before.if2.true in
-    (same_more (known line (c.before.before.before.before.before.before.before.before.before.before.place.ensures.0 ∙ ap (place_in function_names) c.before.before.before.before.before.before.before.before.before.before.before.before.nth-word.ensures.0) c.before.before.before.before.before.before.before.before.before.if1.false fit) c.before.before.put-numbered.ensures, refl)
+returns_2 c =
+    let line = c.args.line.now in
+    let fit : fits (line_parts line) (get_or function_shapes c.place-number.result []) ≡ true = ap (fits (line_parts line)) (sym c.nth_word-shape.ensures.0) ∙ sym c.fits.ensures.0 ∙ c.if-fits.true in
+    (same_more (known line (c.place-number.ensures.0 ∙ ap (place_in function_names) c.nth_word.ensures.0) c.if-number-ge36.false fit) c.put_numbered.ensures, refl)
 
-returns-3 : tie.Need-returns-3
+returns_3 : tie.Need-returns
 unfolding name_text shape_text
-returns-3 c =
-    let line = c.before.before.before.before.before.before.before.before.before.before.before.before.before.before.before.before.before.before.args.line.now in
-    let fit : fits (line_parts line) (get_or function_shapes c.before.before.before.before.before.before.before.before.before.before.before.before.place.result []) ≡ false = ap (fits (line_parts line)) (sym c.before.before.before.before.before.before.before.before.nth-word2.ensures.0) ∙ sym c.before.before.before.before.before.before.before.fits2.ensures.0 ∙ c.before.before.before.before.before.before.if2.false in
-    (same_more (ap₂ wrong_line c.before.before.before.nth-word3.ensures.0 c.before.before.before.before.before.before.before.before.nth-word2.ensures.0 ∙ wrong line (c.before.before.before.before.before.before.before.before.before.before.before.before.place.ensures.0 ∙ ap (place_in function_names) c.before.before.before.before.before.before.before.before.before.before.before.before.before.before.nth-word.ensures.0) c.before.before.before.before.before.before.before.before.before.before.before.if1.false fit) c.before.before.put_wrong.ensures.0, refl)
+returns_3 c =
+    let line = c.args.line.now in
+    let fit : fits (line_parts line) (get_or function_shapes c.place-number.result []) ≡ false = ap (fits (line_parts line)) (sym c.nth_word-shape.ensures.0) ∙ sym c.fits.ensures.0 ∙ c.if-fits.false in
+    (same_more (ap₂ wrong_line c.nth_word-2.ensures.0 c.nth_word-shape.ensures.0 ∙ wrong line (c.place-number.ensures.0 ∙ ap (place_in function_names) c.nth_word.ensures.0) c.if-number-ge36.false fit) c.put_wrong.ensures.0, refl)
 
-pub put-function-answer-spec : {M : Type 1} → statement M
-put-function-answer-spec =
-    tie.close (tie.spec (λ c κs. search needs) (λ c κs. search needs) (λ c. search needs) (λ c κs. search needs) (λ c. search needs) returns
-    (λ c κs. search needs) (λ c κs. search needs) (λ c κs. search needs) (λ c. search needs) returns-2 (λ c κs. search needs) (λ c κs. search needs)
-    (λ c. search needs) returns-3)
+pub put_function_answer_spec : {M : Type 1} → statement M
+put_function_answer_spec =
+    tie.close (tie.spec (λ c κs. search rules)
+    (λ c κs. search rules)
+    (λ c κs. search rules)
+    (λ c. search rules)
+    returns
+    (λ c κs. search rules)
+    (λ c κs. search rules)
+    (λ c κs. search rules)
+    (λ c. search rules)
+    returns_2
+    (λ c κs. search rules)
+    (λ c κs. search rules)
+    (λ c. search rules)
+    returns_3)

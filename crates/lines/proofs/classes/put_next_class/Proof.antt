@@ -1,24 +1,36 @@
 -- `lines::classes::put_next_class` meets its contract. Assumes nothing.
-use Rattle.arithmetic.proofs.Kit.{refl, sym, ap, ◌∙◌, needs}
+use Rattle.arithmetic.proofs.Kit.{refl, sym, ap, ◌∙◌, rules}
 use Rattle.trim.specs.Search.{trim_outcome}
 use Rattle.pages.proofs.Growing.{and_then, same_more}
 use Rattle.lines.specs.Classes.{class_text}
 use Rattle.lines.proofs.classes.put_next_class.Statement.{statement}
 use Rattle.lines.proofs.classes.put_next_class.Tie as tie
 
-returns : tie.Need-returns
+returns : tie.Need-returns-in-Turns
 returns c =
-    (same_more (ap class_text (ap trim_outcome (sym c.before.before.before.before.before.before.before.before.before.class.given.1) ∙ c.before.before.before.before.before.before.before.before.before.before.before.next-trim-class.ensures.0)) (and_then c.before.before.before.before.before.before.put-class.ensures c.before.before.put-turn.ensures), refl)
+    (same_more (ap class_text (ap trim_outcome (sym c.in-Turns.is) ∙ c.next_trim_class.ensures.0)) (and_then c.put_class-classed.ensures c.put_turn.ensures), refl)
 
-returns-2 : tie.Need-returns-2
-returns-2 c =
-    (same_more (ap class_text (ap trim_outcome (sym c.before.before.before.before.before.before.before.before.before.before.class2.given.1) ∙ c.before.before.before.before.before.before.before.before.before.before.before.before.next-trim-class.ensures.0)) (and_then c.before.before.before.before.before.before.before.put-class2.ensures c.before.before.put.ensures.0), refl)
+returns_2 : tie.Need-returns-in-NoChange
+returns_2 c =
+    (same_more (ap class_text (ap trim_outcome (sym c.in-NoChange.is) ∙ c.next_trim_class.ensures.0)) (and_then c.put_class-classed-in-NoChange.ensures c.put.ensures.0), refl)
 
-returns-3 : tie.Need-returns-3
-returns-3 c = (same_more (ap class_text (ap trim_outcome (sym c.before.before.before.before.before.refusal.given.1) ∙ c.before.before.before.before.before.before.before.next-trim-class.ensures.0)) c.before.before.put-refusal.ensures, refl)
+returns_3 : tie.Need-returns-in-Refused
+returns_3 c = (same_more (ap class_text (ap trim_outcome (sym c.in-Refused.is) ∙ c.next_trim_class.ensures.0)) c.put_refusal.ensures, refl)
 
-pub put-next-class-spec : {M : Type 1} → statement M
-put-next-class-spec =
-    tie.close (tie.spec (λ c κs. search needs) (λ c. search needs) (λ c κs. search needs) (λ c κs. search needs) (λ c. search needs) (λ c κs. search needs)
-    (λ c. search needs) (λ c κs. search needs) (λ c. search needs) (λ c κs. search needs) (λ c. search needs) returns (λ c. search needs) returns-2
-    (λ c. search needs) returns-3)
+pub put_next_class_spec : {M : Type 1} → statement M
+put_next_class_spec =
+    tie.close (tie.spec (λ c κs. search rules)
+    (λ c. search rules)
+    (λ c κs. search rules)
+    (λ c κs. search rules)
+    (λ c. search rules)
+    (λ c κs. search rules)
+    (λ c κs. search rules)
+    (λ c. search rules)
+    (λ c κs. search rules)
+    (λ c. search rules)
+    returns
+    (λ c. search rules)
+    returns_2
+    (λ c. search rules)
+    returns_3)

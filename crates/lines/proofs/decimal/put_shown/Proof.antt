@@ -1,5 +1,5 @@
 -- `lines::decimal::put_shown` meets its contract. Assumes nothing.
-use Rattle.arithmetic.proofs.Kit.{◌≡◌, refl, sym, ap, ◌∙◌, Bool, true, false, true≢false, ◌||◌, List, ◌++◌, ℕ, ◌≤◌, arith, ltb-true, ltb-false, ne_eqb, ltb, eqb, length, needs}
+use Rattle.arithmetic.proofs.Kit.{◌≡◌, refl, sym, ap, ◌∙◌, Bool, true, false, true≢false, ◌||◌, List, ◌++◌, ℕ, ◌≤◌, arith, ltb-true, ltb-false, ne_eqb, ltb, eqb, length, rules}
 use Rattle.arithmetic.specs.Ascii.{ascii}
 use Rattle.pages.proofs.Growing.{and_then, same_more}
 use Rattle.decimals.proofs.Places.{too_long_lem, its_length, its_text}
@@ -32,31 +32,37 @@ module _ (t : List ℕ) {r : DecimalText} (is : r ≡ in_sixteen t) where
       go true e = long r.len e ∙ sym (long (length t) (too_long_lem t is (ltb-true 16 r.len e)))
       go false e = ap none (its_length t is (ltb-false 16 r.len e))
 
-  none-shown : none r.len ≡ true → ascii "none\n" ≡ shown_line t
+  none_shown : none r.len ≡ true → ascii "none\n" ≡ shown_line t
   unfolding shown_line
-  none-shown e = rw (sym tested ∙ e)
+  none_shown e = rw (sym tested ∙ e)
 
   shown : none r.len ≡ false → t ++ ascii "\n" ≡ shown_line t
   unfolding shown_line
   shown e = rw (sym tested ∙ e)
 
-returns : tie.Need-returns
+returns : tie.Need-returns-then-len
 returns c =
-    let test = c.before.before.before.before.before in
-    let a = test.before.before.before.args in
-    same_more (none-shown (decimal_text a.decimals a.x) test.before.decimal-text.ensures test.if1.true) c.before.before.put.ensures.0
+    let test = c in
+    let a = test.args in
+    same_more (none_shown (decimal_text a.decimals a.x) test.decimal_text-text.ensures test.if-len.true) c.put.ensures.0
 
-returns-2 : tie.Need-returns-2
-returns-2 c =
-    let last = c.before.before.before.before.before.before.before in
-    let test = last.before.before.before.before in
-    let a = test.before.before.before.args in
+returns_2 : tie.Need-returns
+returns_2 c =
+    let last = c in
+    let test = c in
+    let a = test.args in
     let t = decimal_text a.decimals a.x in
-    let is = test.before.decimal-text.ensures in
-    same_more (shown t is test.if1.false)
-    (and_then (same_more (its_text t is (few _ test.if1.false)) last.put_last.ensures) c.before.before.put2.ensures.0)
+    let is = test.decimal_text-text.ensures in
+    same_more (shown t is test.if-len.false)
+    (and_then (same_more (its_text t is (few _ test.if-len.false)) last.put_last-shown.ensures) c.put-2.ensures.0)
 
-pub put-shown-spec : {M : Type 1} → statement M
-put-shown-spec =
-    tie.close (tie.spec (λ c κs. search needs) (λ c. search needs) (λ c κs. search needs) (λ c. search needs) returns (λ c κs. search needs) (λ c. search needs)
-    (λ c κs. search needs) (λ c. search needs) returns-2)
+pub put_shown_spec : {M : Type 1} → statement M
+put_shown_spec =
+    tie.close (tie.spec (λ c κs. search rules)
+    (λ c κs. search rules)
+    (λ c. search rules)
+    returns
+    (λ c κs. search rules)
+    (λ c κs. search rules)
+    (λ c. search rules)
+    returns_2)

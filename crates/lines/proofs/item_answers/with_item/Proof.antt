@@ -1,5 +1,5 @@
 -- `lines::item_answers::with_item` meets its contract. Assumes nothing.
-use Rattle.arithmetic.proofs.Kit.{◌≡◌, sym, ap, ap₂, ◌∙◌, true, false, not_true, not-false, ℕ, needs}
+use Rattle.arithmetic.proofs.Kit.{◌≡◌, sym, ap, ap₂, ◌∙◌, true, false, ℕ, rules}
 use Rattle.fields.specs.declared.fields.Value.{Value}
 use Rattle.fields.specs.Fields.{meaning_of}
 use Rattle.record.specs.declared.entries.Readings.{Readings}
@@ -8,28 +8,36 @@ use Rattle.lines.specs.Items.{item_tag, given, with_item, items_of}
 use Rattle.lines.proofs.item_answers.with_item.Statement.{statement}
 use Rattle.lines.proofs.item_answers.with_item.Tie as tie
 
-returns-2 : tie.Need-returns-2
+returns_2 : tie.Need-returns-then-is_present
 unfolding with_item
-returns-2 c =
-    let r = c.before.before.before.before.before.before.before.before.before.args.readings in
-    let m : c.before.before.before.before.meaning-of.result ≡ meaning_of (item_tag c.before.before.before.before.before.before.before.before.before.args.item.now) = c.before.before.before.before.meaning-of.ensures ∙ ap meaning_of c.before.before.before.before.before.tag_in.ensures in
-    let there : is_present (entry_of r (meaning_of (item_tag c.before.before.before.before.before.before.before.before.before.args.item.now))) ≡ true =
-    ap (λ (k : ℕ). is_present (entry_of r k)) (sym m) ∙ ap is_present (sym c.before.before.before.entry_of.ensures) ∙ sym c.before.before.is-present.ensures ∙ c.before.if2.true in
-    rw (sym c.before.before.before.before.before.before.before.is-item.ensures ∙ not-false _ c.before.before.before.before.before.before.if1.false, there) c.wrong2.ensures
+returns_2 c =
+    let r = c.args.readings in
+    let m : c.meaning_of-meaning.result ≡ meaning_of (item_tag c.args.item.now) = c.meaning_of-meaning.ensures ∙ ap meaning_of c.tag_in.ensures in
+    let there : is_present (entry_of r (meaning_of (item_tag c.args.item.now))) ≡ true =
+    ap (λ (k : ℕ). is_present (entry_of r k)) (sym m) ∙ ap is_present (sym c.entry_of.ensures) ∙ sym c.is_present.ensures ∙ c.if-is_present.true in
+    rw (sym c.is_item.ensures ∙ c.if-not-is_item.false, there) c.wrong-then-is_present.ensures
 
-returns-3 : tie.Need-returns-3
+returns_3 : tie.Need-returns
 unfolding with_item
-returns-3 c =
-    let r = c.before.before.before.before.before.before.before.before.before.before.args.readings in
-    let m : c.before.before.before.before.before.meaning-of.result ≡ meaning_of (item_tag c.before.before.before.before.before.before.before.before.before.before.args.item.now) = c.before.before.before.before.before.meaning-of.ensures ∙ ap meaning_of c.before.before.before.before.before.before.tag_in.ensures in
-    let absent : is_present (entry_of r (meaning_of (item_tag c.before.before.before.before.before.before.before.before.before.before.args.item.now))) ≡ false =
-    ap (λ (k : ℕ). is_present (entry_of r k)) (sym m) ∙ ap is_present (sym c.before.before.before.before.entry_of.ensures) ∙ sym c.before.before.before.is-present.ensures ∙ c.before.before.if2.false in
-    rw (sym c.before.before.before.before.before.before.before.before.is-item.ensures ∙ not-false _ c.before.before.before.before.before.before.before.if1.false, absent)
-    (ap (λ (q : Readings). items_of (given q)) (c.with_value.ensures ∙ ap₂ (λ (k : ℕ) (v : Value). with_value r k v) m c.before.value_in.ensures))
+returns_3 c =
+    let r = c.args.readings in
+    let m : c.meaning_of-meaning.result ≡ meaning_of (item_tag c.args.item.now) = c.meaning_of-meaning.ensures ∙ ap meaning_of c.tag_in.ensures in
+    let absent : is_present (entry_of r (meaning_of (item_tag c.args.item.now))) ≡ false =
+    ap (λ (k : ℕ). is_present (entry_of r k)) (sym m) ∙ ap is_present (sym c.entry_of.ensures) ∙ sym c.is_present.ensures ∙ c.if-is_present.false in
+    rw (sym c.is_item.ensures ∙ c.if-not-is_item.false, absent)
+    (ap (λ (q : Readings). items_of (given q)) (c.with_value.ensures ∙ ap₂ (λ (k : ℕ) (v : Value). with_value r k v) m c.value_in.ensures))
 
-pub with-item-spec : {M : Type 1} → statement M
-with-item-spec =
-    tie.close (tie.spec (λ c κs. search needs) (λ c κs. search needs)
-    (λ c. unfold with_item in rw (sym c.before.before.is-item.ensures ∙ not_true _ c.before.if1.true) c.wrong.ensures) (λ c κs. search needs)
-    (λ c κs. search needs) (λ c κs. search needs) (λ c κs. search needs) (λ c κs. search needs) returns-2 (λ c κs. search needs) (λ c κs. search needs)
-    returns-3)
+pub with_item_spec : {M : Type 1} → statement M
+with_item_spec =
+    tie.close (tie.spec (λ c κs. search rules)
+    (λ c κs. search rules)
+    (λ c. unfold with_item in rw (sym c.is_item.ensures ∙ c.if-not-is_item.true) c.wrong.ensures)
+    (λ c κs. search rules)
+    (λ c κs. search rules)
+    (λ c κs. search rules)
+    (λ c κs. search rules)
+    (λ c κs. search rules)
+    returns_2
+    (λ c κs. search rules)
+    (λ c κs. search rules)
+    returns_3)

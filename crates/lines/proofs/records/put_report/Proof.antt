@@ -1,5 +1,5 @@
 -- `lines::records::put_report` meets its contract: a refusal of the reading is the last word. Assumes nothing.
-use Rattle.arithmetic.proofs.Kit.{◌≡◌, sym, ap, ◌∙◌, false, List, ℕ, needs}
+use Rattle.arithmetic.proofs.Kit.{◌≡◌, sym, ap, ◌∙◌, false, List, ℕ, rules}
 use Rattle.refusal.specs.declared.Check.{Check}
 use Rattle.refusal.specs.Outcomes.{accepted, ◌⟫◌, checked}
 use Rattle.record.specs.declared.readings.Read.{Read}
@@ -14,11 +14,19 @@ by_read : (s : List ℕ) (r : Read) {k : Check} → r.check ≡ k → parts r �
     → read_text (checked k ⟫ (λ _. accepted r.readings)) ≡ read_text (read_record false s)
 by_read s r told e = ap read_text (ap (λ (k : Check). checked k ⟫ (λ _. accepted r.readings)) (sym told) ∙ outcome-of-parts r (read_record false s) e)
 
-returns : tie.Need-returns
-returns c = same_more (by_read c.before.before.before.before.before.before.before.before.before.before.args.record.now c.before.before.before.before.before.before.before.read-record.result c.before.before.before.before.before.check.given.1 c.before.before.before.before.before.before.before.read-record.ensures.0) c.before.before.put-refusal.ensures
+returns : tie.Need-returns-in-Refused
+returns c = same_more (by_read c.args.record.now c.read_record-read.result c.in-Refused.is c.read_record-read.ensures.0) c.put_refusal.ensures
 
-returns-2 : tie.Need-returns-2
-returns-2 c = same_more (by_read c.before.before.before.before.before.before.before.before.before.args.record.now c.before.before.before.before.before.before.read-record.result c.before.before.before.before.enum_told.given.1 c.before.before.before.before.before.before.read-record.ensures.0) c.before.before.put-report.ensures
+returns_2 : tie.Need-returns-in-Passed
+returns_2 c = same_more (by_read c.args.record.now c.read_record-read.result c.in-Passed.is c.read_record-read.ensures.0) c.put_report.ensures
 
-pub put-report-spec : {M : Type 1} → statement M
-put-report-spec = tie.close (tie.spec (λ c κs. search needs) (λ c. search needs) (λ c κs. search needs) (λ c. search needs) (λ c κs. search needs) (λ c. search needs) returns (λ c. search needs) returns-2)
+pub put_report_spec : {M : Type 1} → statement M
+put_report_spec = tie.close (tie.spec (λ c κs. search rules)
+    (λ c. search rules)
+    (λ c κs. search rules)
+    (λ c. search rules)
+    (λ c κs. search rules)
+    (λ c. search rules)
+    returns
+    (λ c. search rules)
+    returns_2)

@@ -3,5 +3,7 @@ use Rattle.arithmetic.proofs.Kit.{arith}
 use Rattle.lines.proofs.rules.part_of.Statement.{statement}
 use Rattle.lines.proofs.rules.part_of.Tie as tie
 
-pub part-of-spec : {M : Type 1} → statement M
-part-of-spec = tie.close (tie.spec (λ c. rw c.before.before.if1.true (omega arith)) (λ c. rw c.before.before.before.if1.true) (λ c. rw c.if1.false))
+pub part_of_spec : {M : Type 1} → statement M
+part_of_spec = tie.close (tie.spec (λ c. rw c.if-w.true (omega arith))
+    (λ c. rw c.if-w.true)
+    (λ c. rw c.if-w.false))

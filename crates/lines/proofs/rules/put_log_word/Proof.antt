@@ -1,5 +1,5 @@
 -- `lines::rules::put_log_word` meets its contract. Assumes nothing.
-use Rattle.arithmetic.proofs.Kit.{ap, ◌∙◌, needs}
+use Rattle.arithmetic.proofs.Kit.{ap, ◌∙◌, rules}
 use Rattle.arithmetic.specs.Places.{places}
 use Rattle.antilog.specs.Log.{logarithm}
 use Rattle.pages.proofs.Growing.{same_more}
@@ -9,7 +9,11 @@ use Rattle.lines.proofs.rules.put_log_word.Tie as tie
 
 returns : tie.Need-returns
 unfolding log_answer
-returns c = same_more (ap log_line (c.before.before.before.before.log-word.ensures ∙ ap (logarithm places) c.before.before.before.before.before.double-at.ensures.0)) c.before.before.put-logarithm.ensures
+returns c = same_more (ap log_line (c.log_word-logarithm.ensures ∙ ap (logarithm places) c.double_at.ensures.0)) c.put_logarithm.ensures
 
-pub put-log-word-spec : {M : Type 1} → statement M
-put-log-word-spec = tie.close (tie.spec (λ c κs. search needs) (λ c κs. search needs) (λ c κs. search needs) (λ c. search needs) returns)
+pub put_log_word_spec : {M : Type 1} → statement M
+put_log_word_spec = tie.close (tie.spec (λ c κs. search rules)
+    (λ c κs. search rules)
+    (λ c κs. search rules)
+    (λ c. search rules)
+    returns)

@@ -1,22 +1,34 @@
 -- `lines::source::air_value` meets its contract: each arm has its number. Assumes nothing.
-use Rattle.arithmetic.proofs.Kit.{ne_eqb, needs}
+use Rattle.arithmetic.proofs.Kit.{ne_eqb, rules}
 use Rattle.lines.proofs.source.air_value.Statement.{statement}
 use Rattle.lines.proofs.source.air_value.Tie as tie
 
-returns-11 : tie.Need-returns-11
-returns-11 c =
-    let others = c.before.match.rest in
-    rw (ne_eqb _ _ others.0.0.0.0.0.0.0.0.0.1, ne_eqb _ _ others.0.0.0.0.0.0.0.0.1, ne_eqb _ _ others.0.0.0.0.0.0.0.1, ne_eqb _ _ others.0.0.0.0.0.0.1, ne_eqb _ _ others.0.0.0.0.0.1, ne_eqb _ _ others.0.0.0.0.1, ne_eqb _ _ others.0.0.0.1, ne_eqb _ _ others.0.0.1, ne_eqb _ _ others.0.1, ne_eqb _ _ others.1) c.moist-speed-of-sound.ensures
+returns_11 : tie.Need-returns-in_default
+returns_11 c =
+    let others = c.in_default.in_default-own.rest in
+    rw (ne_eqb _ _ others.0.0.0.0.0.0.0.0.0.1, ne_eqb _ _ others.0.0.0.0.0.0.0.0.1, ne_eqb _ _ others.0.0.0.0.0.0.0.1, ne_eqb _ _ others.0.0.0.0.0.0.1, ne_eqb _ _ others.0.0.0.0.0.1, ne_eqb _ _ others.0.0.0.0.1, ne_eqb _ _ others.0.0.0.1, ne_eqb _ _ others.0.0.1, ne_eqb _ _ others.0.1, ne_eqb _ _ others.1) c.moist_speed_of_sound.ensures
 
-pub air-value-spec : {M : Type 1} → statement M
-air-value-spec =
-    tie.close (tie.spec (λ c κs. search needs) (λ c κs. search needs) (λ c κs. search needs) (λ c κs. search needs) (λ c κs. search needs)
-    (λ c κs. search needs) (λ c κs. search needs) (λ c κs. search needs) (λ c κs. search needs) (λ c κs. search needs) (λ c κs. search needs)
-    (λ c. rw c.before.match.keys1 c.enhanced-saturation-vapor-pressure.ensures)
-    (λ c. rw c.before.match.keys2 c.enhanced-enhancement-factor.ensures)
-    (λ c. rw c.before.match.keys3 c.enhanced-compressibility-factor.ensures) (λ c. rw c.before.match.keys4 c.vapor-mole-fraction.ensures)
-    (λ c. rw c.before.match.keys5 c.capped-vapor-mole-fraction.ensures)
-    (λ c. rw c.before.match.keys6 c.water-vapor-mole-fraction-uncapped.ensures)
-    (λ c. rw c.before.match.keys7 c.moist-air-vapor-mole-fraction.ensures) (λ c. rw c.before.match.keys8 c.moist-molar-mass-ratio.ensures)
-    (λ c. rw c.before.match.keys9 c.calculate-air-density-cimp.ensures)
-    (λ c. rw c.before.match.keys10 c.moist-sound-speed-at-mole-fraction.ensures) returns-11)
+pub air_value_spec : {M : Type 1} → statement M
+air_value_spec =
+    tie.close (tie.spec (λ c κs. search rules)
+    (λ c κs. search rules)
+    (λ c κs. search rules)
+    (λ c κs. search rules)
+    (λ c κs. search rules)
+    (λ c κs. search rules)
+    (λ c κs. search rules)
+    (λ c κs. search rules)
+    (λ c κs. search rules)
+    (λ c κs. search rules)
+    (λ c κs. search rules)
+    (λ c. rw c.in-0.is c.enhanced_saturation_vapor_pressure.ensures)
+    (λ c. rw c.in-1.is c.enhanced_enhancement_factor.ensures)
+    (λ c. rw c.in-2.is c.enhanced_compressibility_factor.ensures)
+    (λ c. rw c.in-3.is c.vapor_mole_fraction.ensures)
+    (λ c. rw c.in-4.is c.capped_vapor_mole_fraction.ensures)
+    (λ c. rw c.in-5.is c.water_vapor_mole_fraction_uncapped.ensures)
+    (λ c. rw c.in-6.is c.moist_air_vapor_mole_fraction.ensures)
+    (λ c. rw c.in-7.is c.moist_molar_mass_ratio.ensures)
+    (λ c. rw c.in-8.is c.calculate_air_density_cimp.ensures)
+    (λ c. rw c.in-9.is c.moist_sound_speed_at_mole_fraction.ensures)
+    returns_11)

@@ -1,16 +1,23 @@
 -- `lines::stations::put_found` meets its contract. Assumes nothing.
-use Rattle.arithmetic.proofs.Kit.{sym, ap, needs}
+use Rattle.arithmetic.proofs.Kit.{sym, ap, rules}
 use Rattle.refusal.specs.Inverted.{inverse_outcome}
 use Rattle.pages.proofs.Growing.{same_more}
 use Rattle.lines.specs.Stations.{inverse_line}
 use Rattle.lines.proofs.stations.put_found.Statement.{statement}
 use Rattle.lines.proofs.stations.put_found.Tie as tie
 
-returns : tie.Need-returns
-returns c = same_more (sym (ap (λ a. inverse_line (inverse_outcome a)) c.before.before.before.before.before.answer.given.1)) c.before.before.put-accepted.ensures
+returns : tie.Need-returns-in-Station
+returns c = same_more (sym (ap (λ a. inverse_line (inverse_outcome a)) c.in-Station.is)) c.put_accepted.ensures
 
-returns-2 : tie.Need-returns-2
-returns-2 c = same_more (sym (ap (λ a. inverse_line (inverse_outcome a)) c.before.before.before.before.before.answer2.given.1)) c.before.before.put-refusal-values.ensures
+returns_2 : tie.Need-returns-in-Refused
+returns_2 c = same_more (sym (ap (λ a. inverse_line (inverse_outcome a)) c.in-Refused.is)) c.put_refusal_values.ensures
 
-pub put-found-spec : {M : Type 1} → statement M
-put-found-spec = tie.close (tie.spec (λ c. search needs) (λ c κs. search needs) (λ c. search needs) (λ c κs. search needs) (λ c. search needs) returns (λ c. search needs) returns-2)
+pub put_found_spec : {M : Type 1} → statement M
+put_found_spec = tie.close (tie.spec (λ c. search rules)
+    (λ c κs. search rules)
+    (λ c. search rules)
+    (λ c κs. search rules)
+    (λ c. search rules)
+    returns
+    (λ c. search rules)
+    returns_2)

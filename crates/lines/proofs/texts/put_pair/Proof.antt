@@ -1,13 +1,17 @@
 -- `lines::texts::put_pair` meets its contract. Assumes nothing.
 use Rattle.pages.proofs.Growing.{and_then}
 use Rattle.lines.specs.Texts.{pair_line}
-use Rattle.arithmetic.proofs.Kit.{needs}
+use Rattle.arithmetic.proofs.Kit.{rules}
 use Rattle.lines.proofs.texts.put_pair.Statement.{statement}
 use Rattle.lines.proofs.texts.put_pair.Tie as tie
 
 returns : tie.Need-returns
 unfolding pair_line
-returns c = and_then (and_then c.before.before.before.before.before.before.before.before.before.before.before.put-value.ensures c.before.before.before.before.before.before.before.put-next-value.ensures) c.before.before.put.ensures.0
+returns c = and_then (and_then c.put_value-first.ensures c.put_next_value-second.ensures) c.put.ensures.0
 
-pub put-pair-spec : {M : Type 1} → statement M
-put-pair-spec = tie.close (tie.spec (λ c κs. search needs) (λ c κs. search needs) (λ c. search needs) (λ c κs. search needs) (λ c. search needs) returns)
+pub put_pair_spec : {M : Type 1} → statement M
+put_pair_spec = tie.close (tie.spec (λ c κs. search rules)
+    (λ c κs. search rules)
+    (λ c κs. search rules)
+    (λ c. search rules)
+    returns)

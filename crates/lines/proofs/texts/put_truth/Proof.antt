@@ -1,10 +1,13 @@
 -- `lines::texts::put_truth` meets its contract. Assumes nothing.
-use Rattle.arithmetic.proofs.Kit.{needs}
+use Rattle.arithmetic.proofs.Kit.{rules}
 use Rattle.lines.proofs.texts.put_truth.Statement.{statement}
 use Rattle.lines.proofs.texts.put_truth.Tie as tie
 
-pub put-truth-spec : {M : Type 1} → statement M
-put-truth-spec =
-    tie.close (tie.spec (λ c. search needs) (λ c κs. search needs) (λ c. search needs)
-    (λ c. rw c.before.before.before.before.before.if1.true c.before.before.put.ensures.0) (λ c. search needs) (λ c κs. search needs)
-    (λ c. search needs) (λ c. rw c.before.before.before.before.before.if1.false c.before.before.put2.ensures.0))
+pub put_truth_spec : {M : Type 1} → statement M
+put_truth_spec =
+    tie.close (tie.spec (λ c κs. search rules)
+    (λ c. search rules)
+    (λ c. rw c.if-truth.true c.put.ensures.0)
+    (λ c κs. search rules)
+    (λ c. search rules)
+    (λ c. rw c.if-truth.false c.put-2.ensures.0))

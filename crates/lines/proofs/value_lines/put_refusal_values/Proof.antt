@@ -1,5 +1,5 @@
 -- `lines::value_lines::put_refusal_values` meets its contract. Assumes nothing.
-use Rattle.arithmetic.proofs.Kit.{ap, needs}
+use Rattle.arithmetic.proofs.Kit.{ap, rules}
 use Rattle.pages.specs.Characters.{number_text}
 use Rattle.pages.proofs.Growing.{and_then, same_more}
 use Rattle.lines.specs.Values.{values_text, refusal_values}
@@ -10,10 +10,16 @@ returns : tie.Need-returns
 unfolding refusal_values
 returns c =
     and_then
-    (and_then (and_then c.before.before.before.before.before.before.before.before.before.before.before.before.before.before.before.before.before.put.ensures.0 (same_more (ap number_text c.before.before.before.before.before.before.before.before.before.before.before.before.before.number.ensures) c.before.before.before.before.before.before.before.before.before.before.before.before.put-number.ensures)) (same_more (ap values_text c.before.before.before.before.before.before.before.before.Handed-out.ensures) c.before.before.before.before.before.before.before.put-handed-out.ensures))
-    c.before.before.put2.ensures.0
+    (and_then (and_then c.put-word.ensures.0 (same_more (ap number_text c.number.ensures) c.put_number-numbered.ensures)) (same_more (ap values_text c.handed_out.ensures) c.put_handed_out-valued.ensures))
+    c.put.ensures.0
 
-pub put-refusal-values-spec : {M : Type 1} → statement M
-put-refusal-values-spec =
-    tie.close (tie.spec (λ c. search needs) (λ c κs. search needs) (λ c κs. search needs) (λ c κs. search needs) (λ c κs. search needs) (λ c κs. search needs)
-    (λ c. search needs) (λ c κs. search needs) (λ c. search needs) returns)
+pub put_refusal_values_spec : {M : Type 1} → statement M
+put_refusal_values_spec =
+    tie.close (tie.spec (λ c κs. search rules)
+    (λ c κs. search rules)
+    (λ c κs. search rules)
+    (λ c κs. search rules)
+    (λ c κs. search rules)
+    (λ c κs. search rules)
+    (λ c. search rules)
+    returns)

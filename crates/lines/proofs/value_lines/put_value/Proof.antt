@@ -1,5 +1,5 @@
 -- `lines::value_lines::put_value` meets its contract: only a NaN differs from itself. Assumes nothing.
-use Rattle.arithmetic.proofs.Kit.{◌≡◌, refl, sym, ap, subst, Bool, true, false, not, T, is_nan, differs_from_itself, needs}
+use Rattle.arithmetic.proofs.Kit.{◌≡◌, refl, sym, ap, subst, Bool, true, false, not, T, is_nan, differs_from_itself, rules}
 use Rattle.arithmetic.proofs.Parts.{not_nan}
 use Rattle.pages.specs.Characters.{hex_digits}
 use Rattle.pages.proofs.Growing.{same_more}
@@ -7,17 +7,23 @@ use Rattle.lines.specs.Values.{value_text}
 use Rattle.lines.proofs.value_lines.put_value.Statement.{statement}
 use Rattle.lines.proofs.value_lines.put_value.Tie as tie
 
-is-not : (b : Bool) → T (not b) → b ≡ false
-is-not true h = absurd h
-is-not false h = refl
+is_not : (b : Bool) → T (not b) → b ≡ false
+is_not true h = absurd h
+is_not false h = refl
 
-returns : tie.Need-returns
+returns : tie.Need-returns-then-x
 unfolding value_text is_nan
-returns c = same_more (sym (ap value_text (differs_from_itself c.before.before.before.before.before.before.before.args.x (subst T (sym c.before.before.before.before.before.if1.true) tt)))) c.before.before.put.ensures.0
+returns c = same_more (sym (ap value_text (differs_from_itself c.args.x (subst T (sym c.if-x.true) tt)))) c.put.ensures.0
 
-returns-2 : tie.Need-returns-2
+returns_2 : tie.Need-returns
 unfolding value_text
-returns-2 c = rw (is-not (is_nan c.before.before.before.before.before.before.before.args.x) (not_nan c.before.before.before.before.before.before.before.args.x c.before.before.before.before.before.if1.false)) (same_more (ap (hex_digits 16) c.before.before.before.pattern.ensures) c.before.before.put-digits.ensures)
+returns_2 c = rw (is_not (is_nan c.args.x) (not_nan c.args.x c.if-x.false)) (same_more (ap (hex_digits 16) c.pattern.ensures) c.put_digits.ensures)
 
-pub put-value-spec : {M : Type 1} → statement M
-put-value-spec = tie.close (tie.spec (λ c. search needs) (λ c κs. search needs) (λ c. search needs) returns (λ c κs. search needs) (λ c κs. search needs) (λ c. search needs) returns-2)
+pub put_value_spec : {M : Type 1} → statement M
+put_value_spec = tie.close (tie.spec (λ c κs. search rules)
+    (λ c. search rules)
+    returns
+    (λ c κs. search rules)
+    (λ c κs. search rules)
+    (λ c. search rules)
+    returns_2)

@@ -1,24 +1,35 @@
 -- `lines::votes::put_vote` meets its contract. Assumes nothing.
-use Rattle.arithmetic.proofs.Kit.{refl, sym, ap, ◌∙◌, needs}
+use Rattle.arithmetic.proofs.Kit.{refl, sym, ap, ◌∙◌, rules}
 use Rattle.vote.specs.Vote.{vote_outcome}
 use Rattle.pages.proofs.Growing.{same_more}
 use Rattle.lines.specs.Votes.{mast_text, vote_text}
 use Rattle.lines.proofs.votes.put_vote.Statement.{statement}
 use Rattle.lines.proofs.votes.put_vote.Tie as tie
 
-returns : tie.Need-returns
+returns : tie.Need-returns-in-Figures
 unfolding vote_text mast_text
-returns c = (same_more (ap vote_text (ap vote_outcome (sym c.before.before.before.before.before.figures.given.1) ∙ c.before.before.before.before.before.before.before.vote.ensures.0)) c.before.before.put-figures.ensures, (refl, (refl, refl)))
+returns c = (same_more (ap vote_text (ap vote_outcome (sym c.in-Figures.is) ∙ c.vote.ensures.0)) c.put_figures.ensures, (refl, (refl, refl)))
 
-returns-2 : tie.Need-returns-2
+returns_2 : tie.Need-returns-in-Mast
 unfolding vote_text
-returns-2 c = (same_more (ap vote_text (ap vote_outcome (sym c.before.before.before.before.before.mast.given.1) ∙ c.before.before.before.before.before.before.before.vote.ensures.0)) c.before.before.put-mast.ensures, (refl, (refl, refl)))
+returns_2 c = (same_more (ap vote_text (ap vote_outcome (sym c.in-Mast.is) ∙ c.vote.ensures.0)) c.put_mast.ensures, (refl, (refl, refl)))
 
-returns-3 : tie.Need-returns-3
+returns_3 : tie.Need-returns-in-Refused
 unfolding vote_text mast_text
-returns-3 c = (same_more (ap vote_text (ap vote_outcome (sym c.before.before.before.before.before.refusal.given.1) ∙ c.before.before.before.before.before.before.before.vote.ensures.0)) c.before.before.put-refusal.ensures, (refl, (refl, refl)))
+returns_3 c = (same_more (ap vote_text (ap vote_outcome (sym c.in-Refused.is) ∙ c.vote.ensures.0)) c.put_refusal.ensures, (refl, (refl, refl)))
 
-pub put-vote-spec : {M : Type 1} → statement M
-put-vote-spec =
-    tie.close (tie.spec (λ c κs. search needs) (λ c. search needs) (λ c κs. search needs) (λ c. search needs) (λ c κs. search needs) (λ c. search needs)
-    (λ c κs. search needs) (λ c. search needs) returns (λ c. search needs) returns-2 (λ c. search needs) returns-3)
+pub put_vote_spec : {M : Type 1} → statement M
+put_vote_spec =
+    tie.close (tie.spec (λ c κs. search rules)
+    (λ c. search rules)
+    (λ c κs. search rules)
+    (λ c. search rules)
+    (λ c κs. search rules)
+    (λ c. search rules)
+    (λ c κs. search rules)
+    (λ c. search rules)
+    returns
+    (λ c. search rules)
+    returns_2
+    (λ c. search rules)
+    returns_3)

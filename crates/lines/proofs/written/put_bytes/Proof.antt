@@ -1,12 +1,14 @@
 -- `lines::written::put_bytes` meets its contract. Assumes nothing.
-use Rattle.arithmetic.proofs.Kit.{eq-eqb, ne_eqb, needs}
+use Rattle.arithmetic.proofs.Kit.{eq-eqb, ne_eqb, rules}
 use Rattle.lines.specs.Written.{bytes_text}
 use Rattle.lines.proofs.written.put_bytes.Statement.{statement}
 use Rattle.lines.proofs.written.put_bytes.Tie as tie
 
-pub put-bytes-spec : {M : Type 1} → statement M
-put-bytes-spec =
-    tie.close (tie.spec (λ c. search needs) (λ c κs. search needs) (λ c. search needs)
-    (λ c. unfold bytes_text in rw (eq-eqb _ _ c.before.before.before.before.before.if1.true) c.before.before.put.ensures.0)
-    (λ c κs. search needs) (λ c. search needs)
-    (λ c. unfold bytes_text in rw (ne_eqb _ _ c.before.before.before.before.if1.false) c.before.before.put-hex.ensures.0))
+pub put_bytes_spec : {M : Type 1} → statement M
+put_bytes_spec =
+    tie.close (tie.spec (λ c κs. search rules)
+    (λ c. search rules)
+    (λ c. unfold bytes_text in rw (eq-eqb _ _ c.if-bytes-eq0.true) c.put.ensures.0)
+    (λ c κs. search rules)
+    (λ c. search rules)
+    (λ c. unfold bytes_text in rw (ne_eqb _ _ c.if-bytes-eq0.false) c.put_hex.ensures.0))

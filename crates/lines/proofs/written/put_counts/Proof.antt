@@ -1,5 +1,5 @@
 -- `lines::written::put_counts` meets its contract. Assumes nothing.
-use Rattle.arithmetic.proofs.Kit.{refl, true, needs}
+use Rattle.arithmetic.proofs.Kit.{refl, true, rules}
 use Rattle.writer.specs.Conversion.{converted}
 use Rattle.pages.proofs.Growing.{same_more}
 use Rattle.lines.specs.Written.{length_text, written_text}
@@ -7,18 +7,23 @@ use Rattle.lines.proofs.InRoom.{kept}
 use Rattle.lines.proofs.written.put_counts.Statement.{statement}
 use Rattle.lines.proofs.written.put_counts.Tie as tie
 
-put-written-requires : tie.Need-put-written-requires
-put-written-requires c κs =
-    let wrote = c.before.before.before in
-    let buffer = kept length_text (converted true wrote.before.before.before.before.args.«record».now) wrote.to-counts.ensures.0 wrote.to-counts.ensures.1.0 in
+put_written_requires : tie.Need-put_written-requires
+put_written_requires c κs =
+    let wrote = c in
+    let buffer = kept length_text (converted true wrote.args.«record».now) wrote.to_counts-answer.ensures.0 wrote.to_counts-answer.ensures.1.0 in
     (buffer.sized, buffer.few)
 
 returns : tie.Need-returns
 unfolding written_text
 returns c =
-    let put = c.before.before in
-    let wrote = put.before.before.before.before in
-    (same_more (kept length_text (converted true wrote.before.before.before.before.args.«record».now) wrote.to-counts.ensures.0 wrote.to-counts.ensures.1.0).is put.Put-written.ensures, refl)
+    let put = c in
+    let wrote = c in
+    (same_more (kept length_text (converted true wrote.args.«record».now) wrote.to_counts-answer.ensures.0 wrote.to_counts-answer.ensures.1.0).is put.put_written.ensures, refl)
 
-pub put-counts-spec : {M : Type 1} → statement M
-put-counts-spec = tie.close (tie.spec (λ c. search needs) (λ c κs. search needs) (λ c. search needs) put-written-requires (λ c. search needs) returns)
+pub put_counts_spec : {M : Type 1} → statement M
+put_counts_spec = tie.close (tie.spec (λ c. search rules)
+    (λ c κs. search rules)
+    (λ c. search rules)
+    put_written_requires
+    (λ c. search rules)
+    returns)

@@ -4,22 +4,27 @@ use Rattle.writer.specs.Records.{record_of}
 use Rattle.pages.proofs.Growing.{same_more}
 use Rattle.lines.specs.Written.{length_text, written_text}
 use Rattle.lines.proofs.InRoom.{kept}
-use Rattle.arithmetic.proofs.Kit.{needs}
+use Rattle.arithmetic.proofs.Kit.{rules}
 use Rattle.lines.proofs.written.put_record.Statement.{statement}
 use Rattle.lines.proofs.written.put_record.Tie as tie
 
-put-written-requires : tie.Need-put-written-requires
-put-written-requires c κs =
-    let wrote = c.before.before.before in
-    let buffer = kept length_text (accepted (record_of wrote.before.before.before.args.readings)) wrote.write.ensures.0 wrote.write.ensures.1 in
+put_written_requires : tie.Need-put_written-requires
+put_written_requires c κs =
+    let wrote = c in
+    let buffer = kept length_text (accepted (record_of wrote.args.readings)) wrote.write-answer.ensures.0 wrote.write-answer.ensures.1 in
     (buffer.sized, buffer.few)
 
 returns : tie.Need-returns
 unfolding written_text
 returns c =
-    let put = c.before.before in
-    let wrote = put.before.before.before.before in
-    same_more (kept length_text (accepted (record_of wrote.before.before.before.args.readings)) wrote.write.ensures.0 wrote.write.ensures.1).is put.Put-written.ensures
+    let put = c in
+    let wrote = c in
+    same_more (kept length_text (accepted (record_of wrote.args.readings)) wrote.write-answer.ensures.0 wrote.write-answer.ensures.1).is put.put_written.ensures
 
-pub put-record-spec : {M : Type 1} → statement M
-put-record-spec = tie.close (tie.spec (λ c. search needs) (λ c κs. search needs) (λ c. search needs) put-written-requires (λ c. search needs) returns)
+pub put_record_spec : {M : Type 1} → statement M
+put_record_spec = tie.close (tie.spec (λ c. search rules)
+    (λ c κs. search rules)
+    (λ c. search rules)
+    put_written_requires
+    (λ c. search rules)
+    returns)

@@ -1,5 +1,5 @@
 -- `load_text::asked::whole_in` meets its contract: a count from 0 on is its own word. Assumes nothing.
-use Rattle.load_text.proofs.Kit.{◌≡◌, refl, sym, ap, ◌∙◌, true, false, cond, true≢false, ℕ, ◌/◌, ◌%◌, needs, eq-eqb, ne_eqb, eqb, ℤ, pos, negsuc, w32, SFits, of_z, to_z, to_z-of_z, twos_complement, whole_in}
+use Rattle.load_text.proofs.Kit.{◌≡◌, refl, sym, ap, ◌∙◌, true, false, cond, true≢false, ℕ, ◌/◌, ◌%◌, rules, eq-eqb, ne_eqb, eqb, ℤ, pos, negsuc, w32, SFits, of_z, to_z, to_z-of_z, twos_complement, whole_in}
 use lib.Dec.{leb-zero}
 use lib.Signed.{le_z}
 use Rattle.load_text.specs.declared.asked.Asked.{Asked}
@@ -11,27 +11,30 @@ use Rattle.load_text.proofs.asked.whole_in.Tie as tie
 abbrev back : ℤ → ℤ
 back z = to_z w32 (of_z w32 z)
 
-abbrev ofWord : ℕ → Asked
-ofWord n = cond (eqb (n % 1000) 0) (Records (n / 1000)) Unknown
+abbrev of_word : ℕ → Asked
+of_word n = cond (eqb (n % 1000) 0) (Records (n / 1000)) Unknown
 
-from_zero : (z : ℤ) {n : ℕ} → SFits w32 z → le_z (pos 0) (back z) ≡ true → n ≡ twos_complement (back z) → whole_in z ≡ ofWord n
+from_zero : (z : ℤ) {n : ℕ} → SFits w32 z → le_z (pos 0) (back z) ≡ true → n ≡ twos_complement (back z) → whole_in z ≡ of_word n
 unfolding twos_complement
-from_zero (pos n) fits test e = ap ofWord (sym (e ∙ ap twos_complement (to_z-of_z w32 (pos n) fits)))
+from_zero (pos n) fits test e = ap of_word (sym (e ∙ ap twos_complement (to_z-of_z w32 (pos n) fits)))
 from_zero (negsuc n) fits test e = absurd (true≢false (sym test ∙ ap (le_z (pos 0)) (to_z-of_z w32 (negsuc n) fits)))
 
-below-zero : (z : ℤ) → SFits w32 z → le_z (pos 0) (back z) ≡ false → whole_in z ≡ Unknown
-below-zero (pos n) fits test = absurd (true≢false (sym (leb-zero n) ∙ sym (ap (le_z (pos 0)) (to_z-of_z w32 (pos n) fits)) ∙ test))
-below-zero (negsuc n) fits test = refl
+below_zero : (z : ℤ) → SFits w32 z → le_z (pos 0) (back z) ≡ false → whole_in z ≡ Unknown
+below_zero (pos n) fits test = absurd (true≢false (sym (leb-zero n) ∙ sym (ap (le_z (pos 0)) (to_z-of_z w32 (pos n) fits)) ∙ test))
+below_zero (negsuc n) fits test = refl
 
-returns : tie.Need-returns
+returns : tie.Need-returns-then-thousandths-eq0
 returns c =
-    let start = c.before.before.before in
-    sym (from_zero start.args.count start.ranges.count c.before.before.if1.true c.before.word-from.ensures ∙ simp (eq-eqb _ _ c.if2.true))
+    let start = c in
+    sym (from_zero start.args.count start.ranges.count c.if-count-ge0.true c.word_from-thousandths.ensures ∙ simp (eq-eqb _ _ c.if-thousandths-eq0.true))
 
-returns-2 : tie.Need-returns-2
-returns-2 c =
-    let start = c.before.before.before in
-    sym (from_zero start.args.count start.ranges.count c.before.before.if1.true c.before.word-from.ensures ∙ simp (ne_eqb _ _ c.if2.false))
+returns_2 : tie.Need-returns-else-thousandths-eq0
+returns_2 c =
+    let start = c in
+    sym (from_zero start.args.count start.ranges.count c.if-count-ge0.true c.word_from-thousandths.ensures ∙ simp (ne_eqb _ _ c.if-thousandths-eq0.false))
 
-pub whole-in-spec : {M : Type 1} → statement M
-whole-in-spec = tie.close (tie.spec (λ c κs. search needs) returns returns-2 (λ c. sym (below-zero c.before.args.count c.before.ranges.count c.if1.false)))
+pub whole_in_spec : {M : Type 1} → statement M
+whole_in_spec = tie.close (tie.spec (λ c κs. search rules)
+    returns
+    returns_2
+    (λ c. sym (below_zero c.args.count c.ranges.count c.if-count-ge0.false)))

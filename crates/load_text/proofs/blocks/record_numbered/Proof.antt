@@ -1,13 +1,16 @@
 -- `load_text::blocks::record_numbered` meets its contract. Assumes nothing.
-use Rattle.load_text.proofs.Kit.{needs}
+use Rattle.load_text.proofs.Kit.{rules}
 use Rattle.load_text.proofs.Lent.{holds}
 use Rattle.load_text.proofs.blocks.record_numbered.Statement.{statement}
 use Rattle.load_text.proofs.blocks.record_numbered.Tie as tie
 
 returns : tie.Need-returns
 returns c =
-    let wrote = c.before.before in
-    holds wrote.before.before.args.number c.length-of.ensures wrote.write-load-record.ensures.0 wrote.write-load-record.ensures.1
+    let wrote = c in
+    holds wrote.args.number c.length_of-len.ensures wrote.write_load_record.ensures.0 wrote.write_load_record.ensures.1
 
-pub record-numbered-spec : {M : Type 1} → statement M
-record-numbered-spec = tie.close (tie.spec (λ c. search needs) (λ c κs. search needs) (λ c κs. search needs) returns)
+pub record_numbered_spec : {M : Type 1} → statement M
+record_numbered_spec = tie.close (tie.spec (λ c. search rules)
+    (λ c κs. search rules)
+    (λ c κs. search rules)
+    returns)

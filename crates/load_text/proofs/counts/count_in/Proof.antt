@@ -4,9 +4,9 @@ use lib.Signed.{mag}
 use Rattle.load_text.proofs.counts.count_in.Statement.{statement}
 use Rattle.load_text.proofs.counts.count_in.Tie as tie
 
-mag-lt : (z : ℤ) (r : ℕ) → mag z < 2 ^ 30 → r < 2 ^ 30 → mag (z +ℤ pos r) < 2 ^ 31
-mag-lt (pos a) r h l = omega arith
-mag-lt (negsuc a) r h l = go (ltb r (suc a)) refl
+mag_lt : (z : ℤ) (r : ℕ) → mag z < 2 ^ 30 → r < 2 ^ 30 → mag (z +ℤ pos r) < 2 ^ 31
+mag_lt (pos a) r h l = omega arith
+mag_lt (negsuc a) r h l = go (ltb r (suc a)) refl
   where
     go : (b : Bool) → ltb r (suc a) ≡ b → mag (cond b (negsuc (suc a - suc r)) (pos (r - suc a))) < 2 ^ 31
     go true e = omega arith
@@ -22,14 +22,17 @@ module _ (c : tie.Start) where
   same_low : to_z w32 (of_z w32 c.args.low) ≡ c.args.low
   same_low = to_z-of_z w32 c.args.low c.ranges.low
 
-  rest-fits : SFits w32 (pos rest)
-  rest-fits = record { sfits = omega (arith, rest_lt) }
+  rest_fits : SFits w32 (pos rest)
+  rest_fits = record { sfits = omega (arith, rest_lt) }
 
   same_rest : to_z w32 rest ≡ pos rest
-  same_rest = to_z-of_z w32 (pos rest) rest-fits
+  same_rest = to_z-of_z w32 (pos rest) rest_fits
 
   sum_fits : SFits w32 (to_z w32 (of_z w32 c.args.low) +ℤ to_z w32 rest)
-  sum_fits = rw (same_low, same_rest) (record { sfits = mag-lt c.args.low rest c.requires.0 rest_lt })
+  sum_fits = rw (same_low, same_rest) (record { sfits = mag_lt c.args.low rest c.requires.0 rest_lt })
 
-pub count-in-spec : {M : Type 1} → statement M
-count-in-spec = tie.close (tie.spec (λ c. c.requires.1) rest-fits sum_fits (λ c. to_z-of_z w32 _ (sum_fits c) ∙ ap₂ (λ (x y : ℤ). x +ℤ y) (same_low c) (same_rest c)))
+pub count_in_spec : {M : Type 1} → statement M
+count_in_spec = tie.close (tie.spec (λ c. c.requires.1)
+    rest_fits
+    sum_fits
+    (λ c. to_z-of_z w32 _ (sum_fits c) ∙ ap₂ (λ (x y : ℤ). x +ℤ y) (same_low c) (same_rest c)))

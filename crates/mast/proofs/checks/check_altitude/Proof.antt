@@ -1,10 +1,12 @@
 -- `mast::checks::check_altitude` meets its contract. Assumes nothing.
-use Rattle.mast.proofs.Kit.{sym, ap, ◌∙◌, needs, Entry, passed, finite_rows, present}
+use Rattle.mast.proofs.Kit.{sym, ap, ◌∙◌, rules, Entry, passed, finite_rows, present}
 use Rattle.mast.proofs.checks.check_altitude.Statement.{statement}
 use Rattle.mast.proofs.checks.check_altitude.Tie as tie
 
-pub check-altitude-spec : {M : Type 1} → statement M
-check-altitude-spec =
-    tie.close (tie.spec (λ c. search needs) (λ c. search needs) (λ c κs. search needs)
-    (λ c. ap (λ (e : Entry). passed (present finite_rows e)) (sym c.enum_told.given.1))
-    (λ c. c.check-finite.ensures ∙ ap (λ (e : Entry). passed (present finite_rows e)) (sym c.before.before.entry.given.1)))
+pub check_altitude_spec : {M : Type 1} → statement M
+check_altitude_spec =
+    tie.close (tie.spec (λ c. search rules)
+    (λ c. search rules)
+    (λ c κs. search rules)
+    (λ c. ap (λ (e : Entry). passed (present finite_rows e)) (sym c.in-Absent.is))
+    (λ c. c.check_finite.ensures ∙ ap (λ (e : Entry). passed (present finite_rows e)) (sym c.in-Present.is)))

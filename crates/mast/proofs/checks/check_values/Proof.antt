@@ -1,5 +1,5 @@
 -- `mast::checks::check_values` meets its contract: its checks are the rows, in their order. Assumes nothing.
-use Rattle.mast.proofs.Kit.{◌≡◌, ap, ◌∙◌, List, ◌++◌, Float, needs, Entry, Outcome, Row, passed, first-passed, temperature_rows, altitude, temperature, station_pressure, qnh, humidity, measured_pressure, entry_of, finite_rows, pressure_rows, humidity_rows, present}
+use Rattle.mast.proofs.Kit.{◌≡◌, ap, ◌∙◌, List, ◌++◌, Float, rules, Entry, Outcome, Row, passed, first-passed, temperature_rows, altitude, temperature, station_pressure, qnh, humidity, measured_pressure, entry_of, finite_rows, pressure_rows, humidity_rows, present}
 use Rattle.mast.proofs.checks.check_values.Statement.{statement}
 use Rattle.mast.proofs.checks.check_values.Tie as tie
 
@@ -14,26 +14,41 @@ returns c =
     let to03 = to04.before.before.before in
     let to02 = to03.before.before.before in
     let first = to02.before.before.before in
-    let r = first.before.before.args.readings in
+    let r = first.args.readings in
     let rows01 = present finite_rows (entry_of r altitude) in
     let rows02 = present temperature_rows (entry_of r temperature) in
     let rows03 = present pressure_rows (entry_of r station_pressure) in
     let rows04 = present pressure_rows (entry_of r qnh) in
     let rows05 = present humidity_rows (entry_of r humidity) in
-    first-passed (rows01 ++ rows02 ++ rows03 ++ rows04 ++ rows05) (present pressure_rows (entry_of r measured_pressure)) c.first-of5.ensures
-    (first-passed (rows01 ++ rows02 ++ rows03 ++ rows04) rows05 to05.first-of4.ensures
-    (first-passed (rows01 ++ rows02 ++ rows03) rows04 to04.first-of3.ensures
-    (first-passed (rows01 ++ rows02) rows03 to03.first-of2.ensures
-    (first-passed rows01 rows02 to02.first_of.ensures
-    (of finite_rows first.check-altitude.ensures first.before.entry_of.ensures)
-    (of temperature_rows to02.before.check-celsius.ensures to02.before.before.entry-of2.ensures))
-    (of pressure_rows to03.before.check-pressure.ensures to03.before.before.entry-of3.ensures))
-    (of pressure_rows to04.before.check-pressure2.ensures to04.before.before.entry-of4.ensures))
-    (of humidity_rows to05.before.check-humidity.ensures to05.before.before.entry-of5.ensures))
-    (of pressure_rows c.before.check-pressure3.ensures c.before.before.entry-of6.ensures)
+    first-passed (rows01 ++ rows02 ++ rows03 ++ rows04 ++ rows05) (present pressure_rows (entry_of r measured_pressure)) c.first_of.ensures
+    (first-passed (rows01 ++ rows02 ++ rows03 ++ rows04) rows05 to05.first_of-to_05.ensures
+    (first-passed (rows01 ++ rows02 ++ rows03) rows04 to04.first_of-to_04.ensures
+    (first-passed (rows01 ++ rows02) rows03 to03.first_of-to_03.ensures
+    (first-passed rows01 rows02 to02.first_of-to_02.ensures
+    (of finite_rows first.check_altitude.ensures first.entry_of.ensures)
+    (of temperature_rows to02.check_celsius.ensures to02.entry_of-2.ensures))
+    (of pressure_rows to03.check_pressure.ensures to03.entry_of-3.ensures))
+    (of pressure_rows to04.check_pressure-2.ensures to04.entry_of-4.ensures))
+    (of humidity_rows to05.check_humidity.ensures to05.entry_of-5.ensures))
+    (of pressure_rows c.check_pressure-3.ensures c.entry_of-6.ensures)
 
-pub check-values-spec : {M : Type 1} → statement M
-check-values-spec =
-    tie.close (tie.spec (λ c κs. search needs) (λ c κs. search needs) (λ c κs. search needs) (λ c κs. search needs) (λ c κs. search needs)
-    (λ c κs. search needs) (λ c κs. search needs) (λ c κs. search needs) (λ c κs. search needs) (λ c κs. search needs) (λ c κs. search needs)
-    (λ c κs. search needs) (λ c κs. search needs) (λ c κs. search needs) (λ c κs. search needs) (λ c κs. search needs) (λ c κs. search needs) returns)
+pub check_values_spec : {M : Type 1} → statement M
+check_values_spec =
+    tie.close (tie.spec (λ c κs. search rules)
+    (λ c κs. search rules)
+    (λ c κs. search rules)
+    (λ c κs. search rules)
+    (λ c κs. search rules)
+    (λ c κs. search rules)
+    (λ c κs. search rules)
+    (λ c κs. search rules)
+    (λ c κs. search rules)
+    (λ c κs. search rules)
+    (λ c κs. search rules)
+    (λ c κs. search rules)
+    (λ c κs. search rules)
+    (λ c κs. search rules)
+    (λ c κs. search rules)
+    (λ c κs. search rules)
+    (λ c κs. search rules)
+    returns)

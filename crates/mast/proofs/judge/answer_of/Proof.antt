@@ -1,5 +1,5 @@
 -- `mast::judge::answer_of` meets its contract, by the tests of the vapour and of the figures. Assumes nothing.
-use Rattle.mast.proofs.Kit.{◌≡◌, refl, sym, ap, ap₂, ◌∙◌, Bool, not, cond, [], lt, needs, one, Outcome, accepted, refused, Figures, Resolved, station_figures, is_air, air_outcome}
+use Rattle.mast.proofs.Kit.{◌≡◌, refl, sym, ap, ap₂, ◌∙◌, Bool, not, cond, [], lt, rules, one, Outcome, accepted, refused, Figures, Resolved, station_figures, is_air, air_outcome}
 use Rattle.station.specs.declared.figures.StationFigures.{StationFigures}
 use Rattle.mast.proofs.judge.answer_of.Statement.{statement}
 use Rattle.mast.proofs.judge.answer_of.Tie as tie
@@ -14,11 +14,14 @@ tested a f e first second =
     ap₂ (λ (b d : Bool). by b d f) (sym first) (sym second) ∙ ap (λ (g : StationFigures). by (lt one g.uncapped_vapor_mole_fraction) (not (is_air g.figures)) g) e
 
 -- past the first test
-figured : {d : Bool} (c : tie.After-is-air) → not c.is-air.result ≡ d
-    → let found = c.before.before.before.before in cond d (refused 15 []) (accepted found.figures-of.result.figures) ≡ air_outcome found.before.args.resolved
-figured c e = let test = c.before.before in tested _ _ test.before.before.figures-of.ensures test.if1.false (ap not (sym c.is-air.ensures) ∙ e)
+figured : {d : Bool} (c : tie.After-is_air) → not c.is_air.result ≡ d
+    → let found = c.before.before.before.before in cond d (refused 15 []) (accepted found.figures_of-found.result.figures) ≡ air_outcome found.args.resolved
+figured c e = let test = c.before.before in tested _ _ test.figures_of-found.ensures test.if-found.false (ap not (sym c.is_air.ensures) ∙ e)
 
-pub answer-of-spec : {M : Type 1} → statement M
-answer-of-spec =
-    tie.close (tie.spec (λ c κs. search needs) (λ c. tested _ _ c.before.before.figures-of.ensures c.if1.true refl) (λ c κs. search needs)
-    (λ c. figured c.before c.if2.true) (λ c. figured c.before c.if2.false))
+pub answer_of_spec : {M : Type 1} → statement M
+answer_of_spec =
+    tie.close (tie.spec (λ c κs. search rules)
+    (λ c. tested _ _ c.figures_of-found.ensures c.if-found.true refl)
+    (λ c κs. search rules)
+    (λ c. figured c.before (ap not c.if-not-is_air.true))
+    (λ c. figured c.before (ap not c.if-not-is_air.false)))

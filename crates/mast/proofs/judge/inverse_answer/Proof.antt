@@ -1,5 +1,5 @@
 -- `mast::judge::inverse_answer` meets its contract. Assumes nothing.
-use Rattle.mast.proofs.Kit.{◌≡◌, sym, ap, ◌∙◌, Float, needs, places, Reading, Outcome, accepted, ◌⟫◌, ◌then◌, then_append, then_next, resolve, station_rows, station, Figures, Present, Readings, temperature, humidity, entry_of, humidity_rows, present, given_temperature, at_station, air_outcome, way_rows, resolved_by}
+use Rattle.mast.proofs.Kit.{◌≡◌, sym, ap, ◌∙◌, Float, rules, places, Reading, Outcome, accepted, ◌⟫◌, ◌then◌, then_append, then_next, resolve, station_rows, station, Figures, Present, Readings, temperature, humidity, entry_of, humidity_rows, present, given_temperature, at_station, air_outcome, way_rows, resolved_by}
 use Rattle.refusal.specs.declared.inverse.Station.{Station}
 use Rattle.refusal.specs.declared.inverse.Answer.{Answer}
 use Rattle.refusal.specs.Inverted as inverse
@@ -19,21 +19,28 @@ after d r told e et =
     ∙ then_next (station_rows places d given) (accepted (resolve places d given)) (λ s. humid s r)
     ∙ sym (then_append (station_rows places d given) (present humidity_rows (entry_of r humidity)) (air_outcome (at_station (resolve places d given) r)))
 
-given : (c : tie.After-given-temperature) → c.given-temperature.result ≡ given_temperature (entry_of c.before.before.args.readings temperature)
-given c = c.given-temperature.ensures ∙ ap given_temperature c.before.entry_of.ensures
+given : (c : tie.After-given_temperature-temperature) → c.given_temperature-temperature.result ≡ given_temperature (entry_of c.args.readings temperature)
+given c = c.given_temperature-temperature.ensures ∙ ap given_temperature c.entry_of.ensures
 
-returns : tie.Need-returns
+returns : tie.Need-returns-in-Refused
 returns c =
-    let found = c.before.before.before in
-    let a = found.before.before.before.args in
-    after a.density-altitude-m a.readings c.before.refusal.given.1 found.station-for-density-altitude.ensures (given found.before)
+    let found = c.before in
+    let a = found.args in
+    after a.density_altitude_m a.readings c.in-Refused.is found.station_for_density_altitude.ensures (given found.before)
 
-returns-2 : tie.Need-returns-2
-returns-2 c =
-    let told = c.before.before in
-    let found = told.before.before in
-    let a = found.before.before.before.args in
-    c.humid-answer.ensures ∙ after a.density-altitude-m a.readings told.station.given.1 found.station-for-density-altitude.ensures (given found.before)
+returns_2 : tie.Need-returns-in-Station
+returns_2 c =
+    let told = c.before in
+    let found = told.before in
+    let a = found.args in
+    c.humid_answer.ensures ∙ after a.density_altitude_m a.readings told.in-Station.is found.station_for_density_altitude.ensures (given found.before)
 
-pub inverse-answer-spec : {M : Type 1} → statement M
-inverse-answer-spec = tie.close (tie.spec (λ c κs. search needs) (λ c κs. search needs) (λ c κs. search needs) (λ c. search needs) (λ c. search needs) (λ c κs. search needs) returns returns-2)
+pub inverse_answer_spec : {M : Type 1} → statement M
+inverse_answer_spec = tie.close (tie.spec (λ c κs. search rules)
+    (λ c κs. search rules)
+    (λ c κs. search rules)
+    (λ c. search rules)
+    (λ c. search rules)
+    (λ c κs. search rules)
+    returns
+    returns_2)

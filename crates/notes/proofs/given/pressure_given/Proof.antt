@@ -1,20 +1,22 @@
 -- `notes::given::pressure_given` meets its contract. Assumes nothing.
-use Rattle.arithmetic.proofs.Kit.{needs}
+use Rattle.arithmetic.proofs.Kit.{rules}
 use Rattle.notes.specs.Given.{pressure_given}
 use Rattle.notes.proofs.given.pressure_given.Statement.{statement}
 use Rattle.notes.proofs.given.pressure_given.Tie as tie
 
-returns : tie.Need-returns
+returns : tie.Need-returns-then-given
 unfolding pressure_given
-returns c = search needs
+returns c = search rules
 
-returns-2 : tie.Need-returns-2
+returns_2 : tie.Need-returns-then-given-2
 unfolding pressure_given
-returns-2 c = search needs
+returns_2 c = search rules
 
-returns-3 : tie.Need-returns-3
+returns_3 : tie.Need-returns
 unfolding pressure_given
-returns-3 c = search needs
+returns_3 c = search rules
 
-pub pressure-given-spec : {M : Type 1} → statement M
-pressure-given-spec = tie.close (tie.spec returns returns-2 returns-3)
+pub pressure_given_spec : {M : Type 1} → statement M
+pressure_given_spec = tie.close (tie.spec returns
+    returns_2
+    returns_3)

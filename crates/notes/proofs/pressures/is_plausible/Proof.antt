@@ -1,5 +1,5 @@
 -- `notes::pressures::is_plausible` meets its contract. Assumes nothing.
-use Rattle.arithmetic.proofs.Kit.{ap, not, needs}
+use Rattle.arithmetic.proofs.Kit.{ap, not, rules}
 use Rattle.atmosphere.specs.declared.plausibility.StationPressurePlausibility.{StationPressurePlausibility}
 use Rattle.notes.specs.Pressures.{is_plausible}
 use Rattle.notes.proofs.pressures.is_plausible.Statement.{statement}
@@ -7,7 +7,8 @@ use Rattle.notes.proofs.pressures.is_plausible.Tie as tie
 
 returns : tie.Need-returns
 unfolding is_plausible
-returns c = ap (λ (s : StationPressurePlausibility). not s.implausible) c.before.beside.ensures
+returns c = ap (λ (s : StationPressurePlausibility). not s.implausible) c.beside-found.ensures
 
-pub is-plausible-spec : {M : Type 1} → statement M
-is-plausible-spec = tie.close (tie.spec (λ c κs. search needs) returns)
+pub is_plausible_spec : {M : Type 1} → statement M
+is_plausible_spec = tie.close (tie.spec (λ c κs. search rules)
+    returns)

@@ -1,5 +1,5 @@
 -- `notes::pressures::put_pressures` meets its contract. Assumes nothing.
-use Rattle.arithmetic.proofs.Kit.{ap, needs}
+use Rattle.arithmetic.proofs.Kit.{ap, rules}
 use Rattle.atmosphere.specs.declared.plausibility.StationPressurePlausibility.{StationPressurePlausibility}
 use Rattle.pages.proofs.Growing.{and_then, same_more}
 use Rattle.notes.specs.Words.{printed}
@@ -11,15 +11,20 @@ use Rattle.notes.proofs.pressures.put_pressures.Tie as tie
 returns : tie.Need-returns
 unfolding notes_beside
 returns c =
-    let noted = c.before.before.before.before.before.before.before.before.before.before in
-    let found = noted.before.before.before.before.before.before in
-    let a = found.before.before.args in
-    let doubtful = is_doubtful a.given found.beside.result.implausible in
-    same_more (ap (λ (s : StationPressurePlausibility). printed (notes_beside a.given a.figures s)) found.beside.ensures)
-    (and_then noted.put-beside.ensures
+    let noted = c in
+    let found = c in
+    let a = found.args in
+    let doubtful = is_doubtful a.given found.beside-found.result.implausible in
+    same_more (ap (λ (s : StationPressurePlausibility). printed (notes_beside a.given a.figures s)) found.beside-found.ensures)
+    (and_then noted.put_beside-noted.ensures
     (and_notes (meant_notes doubtful a.given a.figures) (unit_notes doubtful a.given a.figures)
-    c.before.before.before.before.before.before.put-meant.ensures c.before.before.put-units.ensures))
+    c.put_meant-meant.ensures c.put_units.ensures))
 
-pub put-pressures-spec : {M : Type 1} → statement M
-put-pressures-spec =
-    tie.close (tie.spec (λ c κs. search needs) (λ c κs. search needs) (λ c κs. search needs) (λ c κs. search needs) (λ c. search needs) returns)
+pub put_pressures_spec : {M : Type 1} → statement M
+put_pressures_spec =
+    tie.close (tie.spec (λ c κs. search rules)
+    (λ c κs. search rules)
+    (λ c κs. search rules)
+    (λ c κs. search rules)
+    (λ c. search rules)
+    returns)

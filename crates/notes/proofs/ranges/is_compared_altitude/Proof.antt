@@ -8,5 +8,5 @@ returns : tie.Need-returns
 unfolding is_compared_altitude le neg of_bits
 returns c = refl
 
-pub is-compared-altitude-spec : {M : Type 1} → statement M
-is-compared-altitude-spec = tie.close (tie.spec returns)
+pub is_compared_altitude_spec : {M : Type 1} → statement M
+is_compared_altitude_spec = tie.close (tie.spec returns)

@@ -8,5 +8,5 @@ returns : tie.Need-returns
 unfolding is_compared_temperature le neg of_bits
 returns c = refl
 
-pub is-compared-temperature-spec : {M : Type 1} → statement M
-is-compared-temperature-spec = tie.close (tie.spec returns)
+pub is_compared_temperature_spec : {M : Type 1} → statement M
+is_compared_temperature_spec = tie.close (tie.spec returns)

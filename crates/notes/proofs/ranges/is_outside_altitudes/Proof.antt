@@ -8,5 +8,5 @@ returns : tie.Need-returns
 unfolding is_outside_altitudes lt neg of_bits
 returns c = refl
 
-pub is-outside-altitudes-spec : {M : Type 1} → statement M
-is-outside-altitudes-spec = tie.close (tie.spec returns)
+pub is_outside_altitudes_spec : {M : Type 1} → statement M
+is_outside_altitudes_spec = tie.close (tie.spec returns)

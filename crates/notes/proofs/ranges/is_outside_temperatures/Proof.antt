@@ -8,5 +8,5 @@ returns : tie.Need-returns
 unfolding is_outside_temperatures lt neg of_bits
 returns c = refl
 
-pub is-outside-temperatures-spec : {M : Type 1} → statement M
-is-outside-temperatures-spec = tie.close (tie.spec returns)
+pub is_outside_temperatures_spec : {M : Type 1} → statement M
+is_outside_temperatures_spec = tie.close (tie.spec returns)

@@ -1,5 +1,5 @@
 -- `notes::used::as_given` meets its contract. Assumes nothing.
-use Rattle.arithmetic.proofs.Kit.{ap, ap₂, ◌∙◌, needs}
+use Rattle.arithmetic.proofs.Kit.{ap, ap₂, ◌∙◌, rules}
 use Rattle.atmosphere.specs.declared.given.Reading.{Reading}
 use Rattle.fields.specs.Fields.{temperature, station_pressure}
 use Rattle.record.specs.declared.entries.Entry.{Entry}
@@ -15,13 +15,18 @@ with s t p = record { altitude_m = s.altitude_m; temperature = t; pressure = p; 
 
 returns : tie.Need-returns
 returns c =
-    let warm = c.before.before in
-    let station = warm.before.before in
-    let r = station.before.args.readings in
-    ap₂ (with station.ordinary.result) (warm.given-temperature.ensures ∙ ap given_temperature warm.before.entry_of.ensures)
-    (c.pressure-as-given.ensures ∙ ap (λ (e : Entry). pressure_as_given e station.ordinary.result.pressure) c.before.entry-of2.ensures)
-    ∙ ap (λ (s : Resolved). with s (given_temperature (entry_of r temperature)) (pressure_as_given (entry_of r station_pressure) s.pressure)) station.ordinary.ensures
+    let warm = c in
+    let station = c in
+    let r = station.args.readings in
+    ap₂ (with station.ordinary-station.result) (warm.given_temperature.ensures ∙ ap given_temperature warm.entry_of.ensures)
+    (c.pressure_as_given.ensures ∙ ap (λ (e : Entry). pressure_as_given e station.ordinary-station.result.pressure) c.entry_of-2.ensures)
+    ∙ ap (λ (s : Resolved). with s (given_temperature (entry_of r temperature)) (pressure_as_given (entry_of r station_pressure) s.pressure)) station.ordinary-station.ensures
 
-pub as-given-spec : {M : Type 1} → statement M
-as-given-spec =
-    tie.close (tie.spec (λ c κs. search needs) (λ c κs. search needs) (λ c κs. search needs) (λ c κs. search needs) (λ c κs. search needs) returns)
+pub as_given_spec : {M : Type 1} → statement M
+as_given_spec =
+    tie.close (tie.spec (λ c κs. search rules)
+    (λ c κs. search rules)
+    (λ c κs. search rules)
+    (λ c κs. search rules)
+    (λ c κs. search rules)
+    returns)

@@ -1,12 +1,14 @@
 -- `notes::used::is_pressure_default` meets its contract. Assumes nothing.
-use Rattle.arithmetic.proofs.Kit.{needs}
+use Rattle.arithmetic.proofs.Kit.{rules}
 use Rattle.notes.specs.Used.{is_pressure_default}
 use Rattle.notes.proofs.used.is_pressure_default.Statement.{statement}
 use Rattle.notes.proofs.used.is_pressure_default.Tie as tie
 
 returns : tie.Need-returns
 unfolding is_pressure_default
-returns c = rw (c.before.in-legacy-default-pressure-band.ensures, c.is-far.ensures)
+returns c = rw (c.in_legacy_default_pressure_band.ensures, c.is_far.ensures)
 
-pub is-pressure-default-spec : {M : Type 1} → statement M
-is-pressure-default-spec = tie.close (tie.spec (λ c κs. search needs) (λ c κs. search needs) returns)
+pub is_pressure_default_spec : {M : Type 1} → statement M
+is_pressure_default_spec = tie.close (tie.spec (λ c κs. search rules)
+    (λ c κs. search rules)
+    returns)

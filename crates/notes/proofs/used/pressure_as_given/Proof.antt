@@ -1,12 +1,15 @@
 -- `notes::used::pressure_as_given` meets its contract. Assumes nothing.
-use Rattle.arithmetic.proofs.Kit.{sym, ap, needs}
+use Rattle.arithmetic.proofs.Kit.{sym, ap, rules}
 use Rattle.record.specs.declared.entries.Entry.{Entry}
 use Rattle.notes.specs.Used.{pressure_as_given}
 use Rattle.notes.proofs.used.pressure_as_given.Statement.{statement}
 use Rattle.notes.proofs.used.pressure_as_given.Tie as tie
 
-returns : tie.Need-returns
-returns c = ap (λ (e : Entry). pressure_as_given e c.before.before.before.args.otherwise) (sym c.before.station-pressure.given.1)
+returns : tie.Need-returns-in-Present
+returns c = ap (λ (e : Entry). pressure_as_given e c.args.otherwise) (sym c.in-Present.is)
 
-pub pressure-as-given-spec : {M : Type 1} → statement M
-pressure-as-given-spec = tie.close (tie.spec (λ c. search needs) (λ c. search needs) returns (λ c. search needs))
+pub pressure_as_given_spec : {M : Type 1} → statement M
+pressure_as_given_spec = tie.close (tie.spec (λ c. search rules)
+    (λ c. search rules)
+    returns
+    (λ c. search rules))

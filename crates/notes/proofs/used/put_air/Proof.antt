@@ -1,5 +1,5 @@
 -- `notes::used::put_air` meets its contract. Assumes nothing.
-use Rattle.arithmetic.proofs.Kit.{sym, ap, needs}
+use Rattle.arithmetic.proofs.Kit.{sym, ap, rules}
 use Rattle.refusal.specs.declared.judge.Answer.{Answer}
 use Rattle.refusal.specs.Judged.{outcome}
 use Rattle.pages.specs.Characters.{number_text}
@@ -8,22 +8,31 @@ use Rattle.notes.specs.Used.{air_text}
 use Rattle.notes.proofs.used.put_air.Statement.{statement}
 use Rattle.notes.proofs.used.put_air.Tie as tie
 
-returns : tie.Need-returns
+returns : tie.Need-returns-in-Figures
 returns c =
-    let last = c.before.before in
-    let worded = last.before.before.before.before.before in
-    same_more (ap (λ (a : Answer). air_text (outcome a)) (sym worded.before.before.before.before.before.air.given.1))
-    (and_then worded.put-figured.ensures.0 (same_more (ap number_text last.before.trim-class.ensures) last.put-number.ensures))
+    let last = c in
+    let worded = c in
+    same_more (ap (λ (a : Answer). air_text (outcome a)) (sym worded.in-Figures.is))
+    (and_then worded.put_figured-worded.ensures.0 (same_more (ap number_text last.trim_class.ensures) last.put_number.ensures))
 
-returns-2 : tie.Need-returns-2
-returns-2 c =
-    let last = c.before.before in
-    let worded = last.before.before.before.before.before in
-    same_more (ap (λ (a : Answer). air_text (outcome a)) (sym worded.before.before.before.before.air2.given.1))
-    (and_then worded.put.ensures.0 (same_more (ap number_text last.before.number.ensures) last.put-number2.ensures))
+returns_2 : tie.Need-returns-in-Refused
+returns_2 c =
+    let last = c in
+    let worded = c in
+    same_more (ap (λ (a : Answer). air_text (outcome a)) (sym worded.in-Refused.is))
+    (and_then worded.put-worded.ensures.0 (same_more (ap number_text last.number.ensures) last.put_number-in-Refused.ensures))
 
-pub put-air-spec : {M : Type 1} → statement M
-put-air-spec =
-    tie.close (tie.spec (λ c. search needs) (λ c. search needs) (λ c. search needs) (λ c κs. search needs) (λ c κs. search needs) (λ c κs. search needs)
-    (λ c. search needs) (λ c. search needs) (λ c κs. search needs) (λ c κs. search needs) (λ c κs. search needs) (λ c. search needs) returns
-    (λ c. search needs) returns-2)
+pub put_air_spec : {M : Type 1} → statement M
+put_air_spec =
+    tie.close (tie.spec (λ c. search rules)
+    (λ c κs. search rules)
+    (λ c κs. search rules)
+    (λ c κs. search rules)
+    (λ c. search rules)
+    (λ c κs. search rules)
+    (λ c κs. search rules)
+    (λ c κs. search rules)
+    (λ c. search rules)
+    returns
+    (λ c. search rules)
+    returns_2)

@@ -1,28 +1,34 @@
 -- `notes::used::put_pressure_default` meets its contract. Assumes nothing.
-use Rattle.arithmetic.proofs.Kit.{sym, needs}
+use Rattle.arithmetic.proofs.Kit.{sym, rules}
 use Rattle.pages.proofs.Growing.{no_more, and_then}
 use Rattle.notes.specs.Used.{pressure_default}
 use Rattle.notes.proofs.used.put_pressure_default.Statement.{statement}
 use Rattle.notes.proofs.used.put_pressure_default.Tie as tie
 
-returns : tie.Need-returns
+returns : tie.Need-returns-then-is_pressure_default
 unfolding pressure_default
 returns c =
-    let told = c.before.before.before.before.before.before.before in
-    let used = told.before.before.before.before in
-    let typed = used.before.before.before.before.before.before in
-    let test = typed.before.before.before.before in
-    simp (sym test.before.is-pressure-default.ensures, test.if1.true)
-    (and_then (and_then (and_then typed.put-figured.ensures.0 used.put-figured2.ensures.0) told.put-air.ensures)
-    c.before.before.put.ensures.0)
+    let told = c in
+    let used = c in
+    let typed = c in
+    let test = c in
+    simp (sym test.is_pressure_default.ensures, test.if-is_pressure_default.true)
+    (and_then (and_then (and_then typed.put_figured-typed.ensures.0 used.put_figured-used.ensures.0) told.put_air-told.ensures)
+    c.put.ensures.0)
 
-returns-2 : tie.Need-returns-2
+returns_2 : tie.Need-returns
 unfolding pressure_default
-returns-2 c =
-    let a = c.before.before.before.args in
-    simp (sym c.before.is-pressure-default.ensures, c.if1.false) (no_more a.page.now a.at)
+returns_2 c =
+    let a = c.args in
+    simp (sym c.is_pressure_default.ensures, c.if-is_pressure_default.false) (no_more a.page.now a.at)
 
-pub put-pressure-default-spec : {M : Type 1} → statement M
-put-pressure-default-spec =
-    tie.close (tie.spec (λ c κs. search needs) (λ c. search needs) (λ c. search needs) (λ c κs. search needs) (λ c. search needs) (λ c. search needs)
-    (λ c κs. search needs) (λ c κs. search needs) (λ c. search needs) (λ c κs. search needs) (λ c. search needs) returns returns-2)
+pub put_pressure_default_spec : {M : Type 1} → statement M
+put_pressure_default_spec =
+    tie.close (tie.spec (λ c κs. search rules)
+    (λ c κs. search rules)
+    (λ c κs. search rules)
+    (λ c κs. search rules)
+    (λ c κs. search rules)
+    (λ c. search rules)
+    returns
+    returns_2)

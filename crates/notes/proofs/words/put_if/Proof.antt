@@ -1,14 +1,17 @@
 -- `notes::words::put_if` meets its contract. Assumes nothing.
-use Rattle.arithmetic.proofs.Kit.{refl, needs}
+use Rattle.arithmetic.proofs.Kit.{refl, rules}
 use Rattle.pages.proofs.Growing.{no_more}
 use Rattle.notes.proofs.words.put_if.Statement.{statement}
 use Rattle.notes.proofs.words.put_if.Tie as tie
 
-returns : tie.Need-returns
-returns c = (simp c.before.before.before.before.if1.true c.before.before.put.ensures.0, refl)
+returns : tie.Need-returns-then-holds
+returns c = (simp c.if-holds.true c.put.ensures.0, refl)
 
-returns-2 : tie.Need-returns-2
-returns-2 c = let a = c.before.before.before.args in (simp c.if1.false (no_more a.page.now a.at), refl)
+returns_2 : tie.Need-returns
+returns_2 c = let a = c.args in (simp c.if-holds.false (no_more a.page.now a.at), refl)
 
-pub put-if-spec : {M : Type 1} → statement M
-put-if-spec = tie.close (tie.spec (λ c κs. search needs) (λ c. search needs) returns returns-2)
+pub put_if_spec : {M : Type 1} → statement M
+put_if_spec = tie.close (tie.spec (λ c κs. search rules)
+    (λ c. search rules)
+    returns
+    returns_2)

@@ -1,23 +1,32 @@
 -- `park_text::park_lines::put_byte` meets its contract, by the byte. Assumes nothing.
-use Rattle.arithmetic.proofs.Kit.{◌≡◌, refl, sym, ap, ◌∙◌, Bool, ◌||◌, ltb, eq-eqb, ne_eqb, needs}
+use Rattle.arithmetic.proofs.Kit.{refl, sym, eq-eqb, ne_eqb, rules}
 use Rattle.pages.proofs.Growing.{and_then, same_more}
-use Rattle.park_text.specs.ParkLines.{byte_with}
 use Rattle.park_text.proofs.park_lines.put_byte.Statement.{statement}
 use Rattle.park_text.proofs.park_lines.put_byte.Tie as tie
 
-returns : tie.Need-returns
+returns : tie.Need-returns-then-byte-old
 returns c =
-    (same_more (sym (rw (eq-eqb _ _ c.before.before.before.before.if1.true))) c.before.before.put.ensures.0, c.before.before.put.ensures.1)
+    (same_more (sym (rw (eq-eqb _ _ c.if-byte-old.true))) c.put.ensures.0, c.put.ensures.1)
 
-returns-2 : tie.Need-returns-2
-returns-2 c =
-    (same_more (sym (rw (ne_eqb _ _ c.before.before.before.before.before.before.before.before.before.before.before.if1.false, c.before.before.before.before.before.before.before.before.before.before.if2.true))) (and_then c.before.before.before.before.before.before.before.put2.ensures.0 c.before.before.put-hex.ensures.0), refl)
+returns_2 : tie.Need-returns-then-byte
+returns_2 c =
+    (same_more (sym (rw (ne_eqb _ _ c.if-byte-old.false, c.if-byte.true))) (and_then c.put-code.ensures.0 c.put_hex.ensures.0), refl)
 
-returns-3 : tie.Need-returns-3
-returns-3 c =
-    (same_more (sym (rw (ne_eqb _ _ c.before.before.before.before.before.before.if1.false, c.before.before.before.before.before.if2.false))) c.before.before.put3.ensures.0, refl)
+returns_3 : tie.Need-returns
+returns_3 c =
+    (same_more (sym (rw (ne_eqb _ _ c.if-byte-old.false, c.if-byte.false))) c.put-2.ensures.0, refl)
 
-pub put-byte-spec : {M : Type 1} → statement M
-put-byte-spec =
-    tie.close (tie.spec (λ c κs. search needs) (λ c. search needs) returns (λ c. search needs) (λ c κs. search needs) (λ c. search needs)
-    (λ c κs. search needs) (λ c. search needs) returns-2 (λ c. search needs) (λ c κs. search needs) (λ c. search needs) returns-3)
+pub put_byte_spec : {M : Type 1} → statement M
+put_byte_spec =
+    tie.close (tie.spec (λ c κs. search rules)
+    (λ c. search rules)
+    returns
+    (λ c κs. search rules)
+    (λ c. search rules)
+    (λ c κs. search rules)
+    (λ c. search rules)
+    returns_2
+    (λ c. search rules)
+    (λ c κs. search rules)
+    (λ c. search rules)
+    returns_3)

@@ -1,96 +1,140 @@
 -- `park_text::park_lines::put_message` meets its contract, problem by problem. Assumes nothing.
-use Rattle.arithmetic.proofs.Kit.{sym, ap, needs}
+use Rattle.arithmetic.proofs.Kit.{sym, ap, rules}
 use Rattle.pages.proofs.Growing.{same_more}
 use Rattle.park_text.specs.ParkLines.{message_of}
 use Rattle.park_text.proofs.park_lines.put_message.Statement.{statement}
 use Rattle.park_text.proofs.park_lines.put_message.Tie as tie
 
-returns : tie.Need-returns
+returns : tie.Need-returns-in-RecordBeside
 unfolding message_of
 returns c =
-    let arm = c.before.before.before.before.before in
-    same_more (ap (message_of arm.before.before.before.before.args.word.now) (sym arm.enum_told.given.1)) c.before.before.put.ensures.0
+    let arm = c in
+    same_more (ap (message_of arm.args.word.now) (sym arm.in-RecordBeside.is)) c.put.ensures.0
 
-returns-2 : tie.Need-returns-2
+returns_2 : tie.Need-returns-in-NotARecord
 unfolding message_of
-returns-2 c =
-    let arm = c.before.before.before.before.before in
-    same_more (ap (message_of arm.before.before.before.before.args.word.now) (sym arm.enum-told2.given.1)) c.before.before.put2.ensures.0
+returns_2 c =
+    let arm = c in
+    same_more (ap (message_of arm.args.word.now) (sym arm.in-NotARecord.is)) c.put-in-NotARecord.ensures.0
 
-returns-3 : tie.Need-returns-3
+returns_3 : tie.Need-returns-in-RecordTooLong
 unfolding message_of
-returns-3 c =
-    let arm = c.before.before.before.before.before in
-    same_more (ap (message_of arm.before.before.before.before.args.word.now) (sym arm.enum-told3.given.1)) c.before.before.put3.ensures.0
+returns_3 c =
+    let arm = c in
+    same_more (ap (message_of arm.args.word.now) (sym arm.in-RecordTooLong.is)) c.put-in-RecordTooLong.ensures.0
 
-returns-4 : tie.Need-returns-4
+returns_4 : tie.Need-returns-in-NameAlone
 unfolding message_of
-returns-4 c =
-    let arm = c.before.before.before.before.before in
-    same_more (ap (message_of arm.before.before.before.before.args.word.now) (sym arm.problem.given.1)) c.before.before.put_alone.ensures
+returns_4 c =
+    let arm = c in
+    same_more (ap (message_of arm.args.word.now) (sym arm.in-NameAlone.is)) c.put_alone.ensures
 
-returns-5 : tie.Need-returns-5
+returns_5 : tie.Need-returns-in-UnknownWord
 unfolding message_of
-returns-5 c =
-    let arm = c.before.before.before.before.before in
-    same_more (ap (message_of arm.before.before.before.before.args.word.now) (sym arm.enum-told4.given.1)) c.before.before.put4.ensures.0
+returns_5 c =
+    let arm = c in
+    same_more (ap (message_of arm.args.word.now) (sym arm.in-UnknownWord.is)) c.put-in-UnknownWord.ensures.0
 
-returns-6 : tie.Need-returns-6
+returns_6 : tie.Need-returns-in-Blank
 unfolding message_of
-returns-6 c =
-    let arm = c.before.before.before.before in
-    same_more (ap (message_of arm.before.before.before.before.args.word.now) (sym arm.enum-told5.given.1)) c.before.before.put-blank.ensures
+returns_6 c =
+    let arm = c in
+    same_more (ap (message_of arm.args.word.now) (sym arm.in-Blank.is)) c.put_blank.ensures
 
-returns-7 : tie.Need-returns-7
+returns_7 : tie.Need-returns-in-Comma
 unfolding message_of
-returns-7 c =
-    let arm = c.before.before.before.before in
-    same_more (ap (message_of arm.before.before.before.before.args.word.now) (sym arm.enum-told6.given.1)) c.before.before.put-comma.ensures
+returns_7 c =
+    let arm = c in
+    same_more (ap (message_of arm.args.word.now) (sym arm.in-Comma.is)) c.put_comma.ensures
 
-returns-8 : tie.Need-returns-8
+returns_8 : tie.Need-returns-in-MinusSign
 unfolding message_of
-returns-8 c =
-    let arm = c.before.before.before.before in
-    same_more (ap (message_of arm.before.before.before.before.args.word.now) (sym arm.enum-told7.given.1))
-    c.before.before.put-hyphened.ensures
+returns_8 c =
+    let arm = c in
+    same_more (ap (message_of arm.args.word.now) (sym arm.in-MinusSign.is))
+    c.put_hyphened.ensures
 
-returns-9 : tie.Need-returns-9
+returns_9 : tie.Need-returns-in-NotANumber
 unfolding message_of
-returns-9 c =
-    let arm = c.before.before.before.before.before in
-    same_more (ap (message_of arm.before.before.before.before.args.word.now) (sym arm.enum-told8.given.1)) c.before.before.put5.ensures.0
+returns_9 c =
+    let arm = c in
+    same_more (ap (message_of arm.args.word.now) (sym arm.in-NotANumber.is)) c.put-in-NotANumber.ensures.0
 
-returns-10 : tie.Need-returns-10
+returns_10 : tie.Need-returns-in-UnknownUnit
 unfolding message_of
-returns-10 c =
-    let arm = c.before.before.before.before.before in
-    same_more (ap (message_of arm.before.before.before.before.args.word.now) (sym arm.problem2.given.1)) c.before.before.put-units.ensures
+returns_10 c =
+    let arm = c in
+    same_more (ap (message_of arm.args.word.now) (sym arm.in-UnknownUnit.is)) c.put_units.ensures
 
-returns-11 : tie.Need-returns-11
+returns_11 : tie.Need-returns-in-TooManyDecimals
 unfolding message_of
-returns-11 c =
-    let arm = c.before.before.before.before.before in
-    same_more (ap (message_of arm.before.before.before.before.args.word.now) (sym arm.problem3.given.1)) c.before.before.put-decimals.ensures
+returns_11 c =
+    let arm = c in
+    same_more (ap (message_of arm.args.word.now) (sym arm.in-TooManyDecimals.is)) c.put_decimals.ensures
 
-returns-12 : tie.Need-returns-12
+returns_12 : tie.Need-returns-in-OutOfRange
 unfolding message_of
-returns-12 c =
-    let arm = c.before.before.before.before.before in
-    same_more (ap (message_of arm.before.before.before.before.args.word.now) (sym arm.problem4.given.1)) c.before.before.put-range.ensures
+returns_12 c =
+    let arm = c in
+    same_more (ap (message_of arm.args.word.now) (sym arm.in-OutOfRange.is)) c.put_range.ensures
 
-returns-13 : tie.Need-returns-13
+returns_13 : tie.Need-returns-in-RepeatedWord
 unfolding message_of
-returns-13 c =
-    let arm = c.before.before.before.before.before in
-    same_more (ap (message_of arm.before.before.before.before.args.word.now) (sym arm.enum-told9.given.1)) c.before.before.put6.ensures.0
+returns_13 c =
+    let arm = c in
+    same_more (ap (message_of arm.args.word.now) (sym arm.in-RepeatedWord.is)) c.put-in-RepeatedWord.ensures.0
 
-pub put-message-spec : {M : Type 1} → statement M
-put-message-spec =
-    tie.close (tie.spec (λ c. search needs) (λ c. search needs) (λ c κs. search needs) (λ c. search needs) (λ c. search needs) (λ c κs. search needs)
-    (λ c. search needs) (λ c. search needs) (λ c κs. search needs) (λ c. search needs) (λ c κs. search needs) (λ c. search needs) (λ c. search needs)
-    (λ c κs. search needs) (λ c. search needs) (λ c κs. search needs) (λ c. search needs) (λ c κs. search needs) (λ c. search needs)
-    (λ c κs. search needs) (λ c. search needs) (λ c. search needs) (λ c κs. search needs) (λ c. search needs) (λ c κs. search needs)
-    (λ c. search needs) (λ c κs. search needs) (λ c. search needs) (λ c κs. search needs) (λ c. search needs) (λ c. search needs)
-    (λ c κs. search needs) (λ c. search needs) returns (λ c. search needs) returns-2 (λ c. search needs) returns-3 (λ c. search needs) returns-4
-    (λ c. search needs) returns-5 (λ c. search needs) returns-6 (λ c. search needs) returns-7 (λ c. search needs) returns-8 (λ c. search needs)
-    returns-9 (λ c. search needs) returns-10 (λ c. search needs) returns-11 (λ c. search needs) returns-12 (λ c. search needs) returns-13)
+pub put_message_spec : {M : Type 1} → statement M
+put_message_spec =
+    tie.close (tie.spec (λ c. search rules)
+    (λ c κs. search rules)
+    (λ c. search rules)
+    (λ c κs. search rules)
+    (λ c. search rules)
+    (λ c κs. search rules)
+    (λ c. search rules)
+    (λ c κs. search rules)
+    (λ c. search rules)
+    (λ c κs. search rules)
+    (λ c. search rules)
+    (λ c κs. search rules)
+    (λ c. search rules)
+    (λ c κs. search rules)
+    (λ c. search rules)
+    (λ c κs. search rules)
+    (λ c. search rules)
+    (λ c κs. search rules)
+    (λ c. search rules)
+    (λ c κs. search rules)
+    (λ c. search rules)
+    (λ c κs. search rules)
+    (λ c. search rules)
+    (λ c κs. search rules)
+    (λ c. search rules)
+    (λ c κs. search rules)
+    (λ c. search rules)
+    returns
+    (λ c. search rules)
+    returns_2
+    (λ c. search rules)
+    returns_3
+    (λ c. search rules)
+    returns_4
+    (λ c. search rules)
+    returns_5
+    (λ c. search rules)
+    returns_6
+    (λ c. search rules)
+    returns_7
+    (λ c. search rules)
+    returns_8
+    (λ c. search rules)
+    returns_9
+    (λ c. search rules)
+    returns_10
+    (λ c. search rules)
+    returns_11
+    (λ c. search rules)
+    returns_12
+    (λ c. search rules)
+    returns_13)

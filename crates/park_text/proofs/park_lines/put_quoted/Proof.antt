@@ -1,5 +1,5 @@
 -- `park_text::park_lines::put_quoted` meets its contract. Assumes nothing.
-use Rattle.arithmetic.proofs.Kit.{refl, ap, needs}
+use Rattle.arithmetic.proofs.Kit.{refl, ap, rules}
 use Rattle.pages.proofs.Growing.{and_then, same_more}
 use Rattle.park_text.specs.ParkLines.{as_typed, quoted}
 use Rattle.park_text.proofs.park_lines.put_quoted.Statement.{statement}
@@ -8,9 +8,13 @@ use Rattle.park_text.proofs.park_lines.put_quoted.Tie as tie
 returns : tie.Need-returns
 unfolding quoted
 returns c =
-    (and_then (and_then c.before.before.before.before.before.before.before.before.before.before.before.before.put.ensures.0 (same_more (ap as_typed c.before.before.before.before.before.before.before.before.first-bytes.ensures) c.before.before.before.before.before.before.before.put_Typed.ensures.0)) c.before.before.put2.ensures.0, refl)
+    (and_then (and_then c.put-quote.ensures.0 (same_more (ap as_typed c.first_bytes.ensures) c.put_typed-typed.ensures.0)) c.put.ensures.0, refl)
 
-pub put-quoted-spec : {M : Type 1} → statement M
-put-quoted-spec =
-    tie.close (tie.spec (λ c. search needs) (λ c κs. search needs) (λ c κs. search needs) (λ c κs. search needs) (λ c. search needs)
-    (λ c κs. search needs) (λ c. search needs) returns)
+pub put_quoted_spec : {M : Type 1} → statement M
+put_quoted_spec =
+    tie.close (tie.spec (λ c κs. search rules)
+    (λ c κs. search rules)
+    (λ c κs. search rules)
+    (λ c κs. search rules)
+    (λ c. search rules)
+    returns)

@@ -1,16 +1,20 @@
 -- `park_text::park_lines::put_range` meets its contract. Assumes nothing.
-use Rattle.arithmetic.proofs.Kit.{sym, eq-eqb, ne_eqb, needs}
+use Rattle.arithmetic.proofs.Kit.{sym, eq-eqb, ne_eqb, rules}
 use Rattle.pages.proofs.Growing.{same_more}
 use Rattle.park_text.proofs.park_lines.put_range.Statement.{statement}
 use Rattle.park_text.proofs.park_lines.put_range.Tie as tie
 
-returns : tie.Need-returns
-returns c = same_more (sym (rw (eq-eqb _ _ c.before.before.before.before.before.if1.true))) c.before.before.put.ensures.0
+returns : tie.Need-returns-then-places-eq4
+returns c = same_more (sym (rw (eq-eqb _ _ c.if-places-eq4.true))) c.put.ensures.0
 
-returns-2 : tie.Need-returns-2
-returns-2 c = same_more (sym (rw (ne_eqb _ _ c.before.before.before.before.before.if1.false))) c.before.before.put2.ensures.0
+returns_2 : tie.Need-returns
+returns_2 c = same_more (sym (rw (ne_eqb _ _ c.if-places-eq4.false))) c.put-2.ensures.0
 
-pub put-range-spec : {M : Type 1} → statement M
-put-range-spec =
-    tie.close (tie.spec (λ c. search needs) (λ c κs. search needs) (λ c. search needs) returns (λ c. search needs) (λ c κs. search needs)
-    (λ c. search needs) returns-2)
+pub put_range_spec : {M : Type 1} → statement M
+put_range_spec =
+    tie.close (tie.spec (λ c κs. search rules)
+    (λ c. search rules)
+    returns
+    (λ c κs. search rules)
+    (λ c. search rules)
+    returns_2)

@@ -1,26 +1,32 @@
 -- `park_text::park_lines::put_unit_line` meets its contract. Assumes nothing.
-use Rattle.arithmetic.proofs.Kit.{sym, ap, ◌∙◌, Bool, cond, List, [], needs}
+use Rattle.arithmetic.proofs.Kit.{sym, ap, ◌∙◌, Bool, cond, [], rules}
 use Rattle.pages.proofs.Growing.{no_more, same_more}
 use Rattle.park_text.specs.ParkLines.{reading_line, unit_line}
 use Rattle.park_text.proofs.park_lines.put_unit_line.Statement.{statement}
 use Rattle.park_text.proofs.park_lines.put_unit_line.Tie as tie
 
-returns : tie.Need-returns
+returns : tie.Need-returns-then-written
 returns c =
-    let w = c.before.before.before.before.before.before.before.before.before.before.args.word.now in
-    let g = c.before.before.before.before.before.before.read.given in
-    same_more (ap (λ (b : Bool). cond b (reading_line w g.0.0 g.0.1.0) []) (sym c.before.before.before.before.if1.true) ∙ ap (unit_line w) (sym g.1)) c.before.before.put-reading-of.ensures
+    let w = c.args.word.now in
+    let g = c.in-Reading in
+    same_more (ap (λ (b : Bool). cond b (reading_line w g.meaning g.x) []) (sym c.if-written.true) ∙ ap (unit_line w) (sym g.is)) c.put_reading_of.ensures
 
-returns-2 : tie.Need-returns-2
-returns-2 c =
-    let w = c.before.before.before.before.before.before.args.word.now in
-    let g = c.before.before.read.given in
-    same_more (ap (λ (b : Bool). cond b (reading_line w g.0.0 g.0.1.0) []) (sym c.if1.false) ∙ ap (unit_line w) (sym g.1)) (no_more c.before.before.before.before.before.before.args.page.now c.before.before.before.before.before.before.args.at)
+returns_2 : tie.Need-returns-else-written
+returns_2 c =
+    let w = c.args.word.now in
+    let g = c.in-Reading in
+    same_more (ap (λ (b : Bool). cond b (reading_line w g.meaning g.x) []) (sym c.if-written.false) ∙ ap (unit_line w) (sym g.is)) (no_more c.args.page.now c.args.at)
 
-returns-3 : tie.Need-returns-3
-returns-3 c =
-    same_more (ap (unit_line c.before.before.before.before.args.word.now) (sym c.enum_told.given.1)) (no_more c.before.before.before.before.args.page.now c.before.before.before.before.args.at)
+returns_3 : tie.Need-returns-in-Wrong
+returns_3 c =
+    same_more (ap (unit_line c.args.word.now) (sym c.in-Wrong.is)) (no_more c.args.page.now c.args.at)
 
-pub put-unit-line-spec : {M : Type 1} → statement M
-put-unit-line-spec =
-    tie.close (tie.spec (λ c. search needs) (λ c κs. search needs) (λ c. search needs) returns (λ c. search needs) returns-2 returns-3)
+pub put_unit_line_spec : {M : Type 1} → statement M
+put_unit_line_spec =
+    tie.close (tie.spec (λ c. search rules)
+    (λ c κs. search rules)
+    (λ c. search rules)
+    returns
+    (λ c. search rules)
+    returns_2
+    returns_3)

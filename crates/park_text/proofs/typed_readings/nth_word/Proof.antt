@@ -1,7 +1,7 @@
 -- `park_text::typed_readings::nth_word` meets its contract. Assumes nothing.
-use Rattle.arithmetic.proofs.Kit.{◌≡◌, refl, sym, ap, ◌∙◌, Bool, true, false, not, List, [], ℕ, ◌+◌, ◌-◌, ◌≤◌, ◌<◌, add-zero, needs, T, leb, leb→le, nleb→lt, length, get_or, take, drop, drop_of_length-le, get_or-drop}
+use Rattle.arithmetic.proofs.Kit.{◌≡◌, refl, sym, ap, ◌∙◌, Bool, true, false, not, List, [], ℕ, ◌+◌, ◌-◌, ◌≤◌, ◌<◌, add-zero, rules, T, leb, leb→le, nleb→lt, length, get_or, take, drop, drop_of_length-le, get_or-drop}
 use lib.Seq.{take-nil}
-use Rattle.bytes.specs.Bytes.{index_of, slice}
+use Rattle.pages.specs.Scan.{index_of, slice}
 use Rattle.park_text.specs.Words.{arguments}
 use Rattle.park_text.proofs.Split.{next_word}
 use Rattle.park_text.proofs.typed_readings.nth_word.Statement.{statement}
@@ -9,9 +9,9 @@ use Rattle.park_text.proofs.typed_readings.nth_word.Tie as tie
 
 -- the first word from a position on, and nothing at the text's end
 module _ (s : List ℕ) (at end : ℕ) (is : end ≡ at + index_of 10 (slice at (length s) s)) where
-  first-from : take (end - at) (drop at s) ≡ get_or (arguments (drop at s)) 0 []
+  first_from : take (end - at) (drop at s) ≡ get_or (arguments (drop at s)) 0 []
   unfolding arguments
-  first-from = go (leb (length s) at) (leb→le (length s) at) (nleb→lt (length s) at)
+  first_from = go (leb (length s) at) (leb→le (length s) at) (nleb→lt (length s) at)
     where
       go : (b : Bool) → (T b → length s ≤ at) → (T (not b) → at < length s) → take (end - at) (drop at s) ≡ get_or (arguments (drop at s)) 0 []
       go true l g =
@@ -21,16 +21,21 @@ module _ (s : List ℕ) (at end : ℕ) (is : end ≡ at + index_of 10 (slice at 
 
 returns : tie.Need-returns
 returns c =
-    let found = c.before in
-    let start = found.before in
-    let a = start.before.before.args in
+    let found = c in
+    let start = c in
+    let a = start.args in
     let s = a.text.now in (
-      first-from s start.word-start.result found.find.result found.find.ensures.0
-          ∙ ap (λ (ws : List (List ℕ)). get_or ws 0 []) start.word-start.ensures.0.rest
+      first_from s start.word_start-at.result found.find-end.result found.find-end.ensures.0
+          ∙ ap (λ (ws : List (List ℕ)). get_or ws 0 []) start.word_start-at.ensures.0.rest
           ∙ get_or-drop a.number (arguments s) 0 []
           ∙ ap (λ (n : ℕ). get_or (arguments s) n []) (add-zero a.number),
       refl,
     )
 
-pub nth-word-spec : {M : Type 1} → statement M
-nth-word-spec = tie.close (tie.spec (λ c κs. search needs) (λ c κs. search needs) (λ c. search needs) (λ c. search needs) (λ c. search needs) returns)
+pub nth_word_spec : {M : Type 1} → statement M
+nth_word_spec = tie.close (tie.spec (λ c κs. search rules)
+    (λ c κs. search rules)
+    (λ c. search rules)
+    (λ c. search rules)
+    (λ c. search rules)
+    returns)

@@ -1,5 +1,5 @@
 -- `park_text::typed_word::is_small` meets its contract. Assumes nothing.
-use Rattle.arithmetic.proofs.Kit.{◌≡◌, refl, sym, ap, ◌∙◌, Bool, true, false, ◌&&◌, ℕ, suc, ◌<◌, arith, ltb, ltb-true, ltb-false, lt-ltb, le-ltb, ℤ, pos, negsuc, w32, SFits, of_z, to_z, to_z-of_z, needs}
+use Rattle.arithmetic.proofs.Kit.{◌≡◌, refl, sym, ap, ◌∙◌, Bool, true, false, ◌&&◌, suc, arith, ltb, ltb-true, ltb-false, lt-ltb, le-ltb, ℤ, pos, negsuc, w32, to_z-of_z}
 use lib.Signed.{lt_z}
 use Rattle.park_text.specs.Word.{is_small}
 use Rattle.park_text.proofs.typed_word.is_small.Statement.{statement}
@@ -16,5 +16,5 @@ by_sign (negsuc n) = go (ltb n 9999) refl
 returns : tie.Need-returns
 returns c = let z : ℤ = c.args.count in ap (λ (y : ℤ). lt_z (negsuc 9999) y && lt_z y (pos 10000)) (to_z-of_z w32 z c.ranges.count) ∙ by_sign z
 
-pub is-small-spec : {M : Type 1} → statement M
-is-small-spec = tie.close (tie.spec returns)
+pub is_small_spec : {M : Type 1} → statement M
+is_small_spec = tie.close (tie.spec returns)

@@ -1,5 +1,5 @@
 -- `park_text::typed_word::read_number` meets its contract. Assumes nothing.
-use Rattle.arithmetic.proofs.Kit.{◌≡◌, refl, sym, ap, ap₂, ◌∙◌, Bool, List, ℕ, min, ltb, length, needs}
+use Rattle.arithmetic.proofs.Kit.{◌≡◌, refl, sym, ap, ap₂, ◌∙◌, Bool, ℕ, min, ltb, length, rules}
 use Rattle.decimals.specs.declared.typed.Typed.{Typed}
 use Rattle.decimals.specs.Typed.{typed}
 use Rattle.park_text.specs.declared.units.Unit.{Unit}
@@ -9,33 +9,42 @@ use Rattle.park_text.specs.Word.{value_for, no_unit, in_unit, read_number}
 use Rattle.park_text.proofs.typed_word.read_number.Statement.{statement}
 use Rattle.park_text.proofs.typed_word.read_number.Tie as tie
 
-at-most-four : (u : Unit) → min (places_of u) 4 ≡ places_of u
-at-most-four Plain = refl
-at-most-four Foot = refl
-at-most-four Fahrenheit = refl
-at-most-four Kelvin = refl
-at-most-four Kilopascal = refl
-at-most-four InchOfMercury = refl
+at_most_four : (u : Unit) → min (places_of u) 4 ≡ places_of u
+at_most_four Plain = refl
+at_most_four Foot = refl
+at_most_four Fahrenheit = refl
+at_most_four Kelvin = refl
+at_most_four Kilopascal = refl
+at_most_four InchOfMercury = refl
 
-returns : tie.Need-returns
+returns : tie.Need-returns-in-Known
 unfolding read_number
 returns c =
-    let a = c.before.before.before.before.before.before.before.before.before.before.args in
+    let a = c.args in
     let d = a.number.now in
     let w = a.name.now in
-    let u : Unit = c.before.before.before.before.before.unit.given.0.0 in
-    c.value-for.ensures
-    ∙ ap₂ (λ (t : Bool) (o : Typed). value_for a.meaning u (ltb 0 (length w)) t o) c.before.before.before.three-decimals.ensures
-    (c.before.read-decimal.ensures.0 ∙ ap (λ (k : ℕ). typed k d) (ap (λ (k : ℕ). min k 4) c.before.before.places.ensures ∙ at-most-four u))
-    ∙ ap (in_unit a.meaning d w) (sym c.before.before.before.before.before.unit.given.1 ∙ c.before.before.before.before.before.before.before.unit-named.ensures)
+    let u : Unit = c.in-Known.unit in
+    c.value_for.ensures
+    ∙ ap₂ (λ (t : Bool) (o : Typed). value_for a.meaning u (ltb 0 (length w)) t o) c.three_decimals.ensures
+    (c.read_decimal.ensures.0 ∙ ap (λ (k : ℕ). typed k d) (ap (λ (k : ℕ). min k 4) c.places.ensures ∙ at_most_four u))
+    ∙ ap (in_unit a.meaning d w) (sym c.in-Known.is ∙ c.unit_named.ensures)
 
-returns-2 : tie.Need-returns-2
+returns_2 : tie.Need-returns-in-Unknown
 unfolding read_number
-returns-2 c =
-    let a = c.before.before.before.before.before.before.before.args in
-    c.no-unit.ensures ∙ ap (no_unit a.meaning) c.before.read-decimal2.ensures.0 ∙ ap (in_unit a.meaning a.number.now a.name.now) (sym c.before.before.enum_told.given.1 ∙ c.before.before.before.before.unit-named.ensures)
+returns_2 c =
+    let a = c.args in
+    c.no_unit.ensures ∙ ap (no_unit a.meaning) c.read_decimal-in-Unknown.ensures.0 ∙ ap (in_unit a.meaning a.number.now a.name.now) (sym c.in-Unknown.is ∙ c.unit_named.ensures)
 
-pub read-number-spec : {M : Type 1} → statement M
-read-number-spec =
-    tie.close (tie.spec (λ c κs. search needs) (λ c. search needs) (λ c κs. search needs) (λ c κs. search needs) (λ c κs. search needs)
-    (λ c κs. search needs) (λ c. search needs) (λ c κs. search needs) (λ c κs. search needs) returns returns-2)
+pub read_number_spec : {M : Type 1} → statement M
+read_number_spec =
+    tie.close (tie.spec (λ c κs. search rules)
+    (λ c. search rules)
+    (λ c κs. search rules)
+    (λ c κs. search rules)
+    (λ c κs. search rules)
+    (λ c κs. search rules)
+    (λ c. search rules)
+    (λ c κs. search rules)
+    (λ c κs. search rules)
+    returns
+    returns_2)

@@ -1,5 +1,5 @@
 -- `park_text::typed_word::read_word` meets its contract, test by test. Assumes nothing.
-use Rattle.arithmetic.proofs.Kit.{◌≡◌, refl, sym, ◌∙◌, true, false, List, ℕ, needs}
+use Rattle.arithmetic.proofs.Kit.{◌≡◌, refl, sym, ◌∙◌, true, false, List, ℕ, rules}
 use Rattle.arithmetic.specs.Ascii.{ascii}
 use Rattle.pages.specs.Characters.{same}
 use Rattle.pages.proofs.Same.{compared}
@@ -15,37 +15,42 @@ module _ (w : List ℕ) where
   unfolding read_word
   beside is = rw is
 
-  name-alone : is_record w ≡ false → same w (ascii "record") ≡ true → Wrong (NameAlone meanings) ≡ read_word w
+  name_alone : is_record w ≡ false → same w (ascii "record") ≡ true → Wrong (NameAlone meanings) ≡ read_word w
   unfolding read_word
-  name-alone none is = rw (none, is)
+  name_alone none is = rw (none, is)
 
   other : is_record w ≡ false → same w (ascii "record") ≡ false → read_named w ≡ read_word w
   unfolding read_word
   other none neither = rw (none, neither)
 
-returns : tie.Need-returns
-returns c = let test = c.before in (beside test.before.before.args.word.now (sym test.is-record.ensures.0 ∙ c.if1.true), refl)
+returns : tie.Need-returns-then-is_record
+returns c = let test = c in (beside test.args.word.now (sym test.is_record.ensures.0 ∙ c.if-is_record.true), refl)
 
-returns-2 : tie.Need-returns-2
-returns-2 c =
-    let named = c.before in
-    let first = named.before.before in
-    let test = first.before in
-    let w = test.before.before.args.word.now in
-    (name-alone w (sym test.is-record.ensures.0 ∙ first.if1.false) (compared w (ascii "record") _ named.same.ensures ∙ c.if2.true), refl)
+returns_2 : tie.Need-returns-then-same
+returns_2 c =
+    let named = c in
+    let first = c in
+    let test = c in
+    let w = test.args.word.now in
+    (name_alone w (sym test.is_record.ensures.0 ∙ first.if-is_record.false) (compared w (ascii "record") _ named.same.ensures ∙ c.if-same.true), refl)
 
-returns-3 : tie.Need-returns-3
-returns-3 c =
-    let second = c.before in
-    let named = second.before in
-    let first = named.before.before in
-    let test = first.before in
-    let w = test.before.before.args.word.now in (
+returns_3 : tie.Need-returns
+returns_3 c =
+    let second = c in
+    let named = c in
+    let first = c in
+    let test = c in
+    let w = test.args.word.now in (
       c.read_named.ensures.0
-          ∙ other w (sym test.is-record.ensures.0 ∙ first.if1.false) (compared w (ascii "record") _ named.same.ensures ∙ second.if2.false),
+          ∙ other w (sym test.is_record.ensures.0 ∙ first.if-is_record.false) (compared w (ascii "record") _ named.same.ensures ∙ second.if-same.false),
       refl,
     )
 
-pub read-word-spec : {M : Type 1} → statement M
-read-word-spec =
-    tie.close (tie.spec (λ c κs. search needs) returns (λ c. search needs) (λ c κs. search needs) returns-2 (λ c κs. search needs) returns-3)
+pub read_word_spec : {M : Type 1} → statement M
+read_word_spec =
+    tie.close (tie.spec (λ c κs. search rules)
+    returns
+    (λ c κs. search rules)
+    returns_2
+    (λ c κs. search rules)
+    returns_3)

@@ -1,16 +1,13 @@
--- `park_text::units::length_unit` meets its contract, place by place. Assumes nothing.
-use Rattle.arithmetic.proofs.Kit.{List, [], ◌∷◌, arith, needs}
-use Rattle.park_text.specs.declared.units.Unit.TheVariants.{Plain, Foot}
-use Rattle.park_text.specs.declared.units.Named.{Named}
-use Rattle.park_text.specs.declared.units.Named.TheVariants.{Known}
-use Rattle.park_text.proofs.AtPlace.{at_place, past_all}
+-- `park_text::units::length_unit` meets its contract, name by name. Assumes nothing.
+use Rattle.arithmetic.proofs.Kit.{refl, rules}
+use Rattle.park_text.proofs.Chosen.{chosen, passed}
 use Rattle.park_text.proofs.units.length_unit.Statement.{statement}
 use Rattle.park_text.proofs.units.length_unit.Tie as tie
 
-abbrev units : List Named
-units = Known Plain ∷ Known Foot ∷ []
-
-pub length-unit-spec : {M : Type 1} → statement M
-length-unit-spec =
-    tie.close (tie.spec (λ c. search needs) (λ c κs. search needs) (λ c. at_place units c.before.place.ensures.0 c.match.keys1) (λ c. at_place units c.before.place.ensures.0 c.match.keys2)
-    (λ c. let others = c.match.rest in past_all units c.before.place.ensures.0 (omega (arith, others.0.1, others.1))))
+pub length_unit_spec : {M : Type 1} → statement M
+length_unit_spec =
+    tie.close (tie.spec (λ c κs. search rules)
+    (λ c. chosen c.same.ensures _ _ c.if-same.true)
+    (λ c κs. search rules)
+    (λ c. let one = c.before.before.before in passed one.same.ensures _ _ one.if-same.false (chosen c.same-2.ensures _ _ c.if-same-2.true))
+    (λ c. let one = c.before.before.before in passed one.same.ensures _ _ one.if-same.false (passed c.same-2.ensures _ _ c.if-same-2.false refl)))

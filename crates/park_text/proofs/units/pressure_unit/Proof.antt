@@ -1,17 +1,17 @@
--- `park_text::units::pressure_unit` meets its contract, place by place. Assumes nothing.
-use Rattle.arithmetic.proofs.Kit.{List, [], ◌∷◌, arith, needs}
-use Rattle.park_text.specs.declared.units.Unit.TheVariants.{Plain, Kilopascal, InchOfMercury}
-use Rattle.park_text.specs.declared.units.Named.{Named}
-use Rattle.park_text.specs.declared.units.Named.TheVariants.{Known}
-use Rattle.park_text.proofs.AtPlace.{at_place, past_all}
+-- `park_text::units::pressure_unit` meets its contract, name by name. Assumes nothing.
+use Rattle.arithmetic.proofs.Kit.{refl, rules}
+use Rattle.park_text.proofs.Chosen.{chosen, passed}
 use Rattle.park_text.proofs.units.pressure_unit.Statement.{statement}
 use Rattle.park_text.proofs.units.pressure_unit.Tie as tie
 
-abbrev units : List Named
-units = Known Plain ∷ Known Kilopascal ∷ Known InchOfMercury ∷ []
-
-pub pressure-unit-spec : {M : Type 1} → statement M
-pressure-unit-spec =
-    tie.close (tie.spec (λ c. search needs) (λ c κs. search needs) (λ c. at_place units c.before.place.ensures.0 c.match.keys1)
-    (λ c. at_place units c.before.place.ensures.0 c.match.keys2) (λ c. at_place units c.before.place.ensures.0 c.match.keys3)
-    (λ c. let others = c.match.rest in past_all units c.before.place.ensures.0 (omega (arith, others.0.0.1, others.0.1, others.1))))
+pub pressure_unit_spec : {M : Type 1} → statement M
+pressure_unit_spec =
+    tie.close (tie.spec (λ c κs. search rules)
+    (λ c. chosen c.same.ensures _ _ c.if-same.true)
+    (λ c κs. search rules)
+    (λ c. let one = c.before.before.before in passed one.same.ensures _ _ one.if-same.false (chosen c.same-2.ensures _ _ c.if-same-2.true))
+    (λ c κs. search rules)
+    (λ c. let two = c.before.before.before in let one = two.before.before.before in
+    passed one.same.ensures _ _ one.if-same.false (passed two.same-2.ensures _ _ two.if-same-2.false (chosen c.same-3.ensures _ _ c.if-same-3.true)))
+    (λ c. let two = c.before.before.before in let one = two.before.before.before in
+    passed one.same.ensures _ _ one.if-same.false (passed two.same-2.ensures _ _ two.if-same-2.false (passed c.same-3.ensures _ _ c.if-same-3.false refl))))

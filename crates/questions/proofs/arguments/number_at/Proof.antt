@@ -1,15 +1,20 @@
 -- `questions::arguments::number_at` meets its contract. Assumes nothing.
-use Rattle.arithmetic.proofs.Kit.{refl, sym, ap, ◌∙◌, needs}
+use Rattle.arithmetic.proofs.Kit.{refl, sym, ap, ◌∙◌, rules}
 use Rattle.questions.specs.Digits.{number_in}
 use Rattle.questions.specs.Arguments.{number_found}
 use Rattle.questions.proofs.arguments.number_at.Statement.{statement}
 use Rattle.questions.proofs.arguments.number_at.Tie as tie
 
-returns : tie.Need-returns
-returns c = (sym (ap number_found (sym (c.before.before.before.number_in.ensures.0 ∙ ap number_in c.before.before.before.before.nth-word.ensures.0) ∙ c.before.n.given.1)), refl)
+returns : tie.Need-returns-in-Of
+returns c = (sym (ap number_found (sym (c.number_in.ensures.0 ∙ ap number_in c.nth_word.ensures.0) ∙ c.in-Of.is)), refl)
 
-returns-2 : tie.Need-returns-2
-returns-2 c = (sym (ap number_found (sym (c.before.before.number_in.ensures.0 ∙ ap number_in c.before.before.before.nth-word.ensures.0) ∙ c.enum_told.given.1)), refl)
+returns_2 : tie.Need-returns-in-Nothing
+returns_2 c = (sym (ap number_found (sym (c.number_in.ensures.0 ∙ ap number_in c.nth_word.ensures.0) ∙ c.in-Nothing.is)), refl)
 
-pub number-at-spec : {M : Type 1} → statement M
-number-at-spec = tie.close (tie.spec (λ c κs. search needs) (λ c κs. search needs) (λ c. search needs) (λ c. search needs) returns returns-2)
+pub number_at_spec : {M : Type 1} → statement M
+number_at_spec = tie.close (tie.spec (λ c κs. search rules)
+    (λ c κs. search rules)
+    (λ c. search rules)
+    (λ c. search rules)
+    returns
+    returns_2)

@@ -1,6 +1,6 @@
 -- `questions::digits::number_in` meets its contract. The loop's invariant: the digits from the position on, behind the value so far, spell the number. Assumes
 -- nothing.
-use Rattle.arithmetic.proofs.Kit.{◌≡◌, refl, sym, ap, ◌∙◌, List, [], ◌∷◌, ℕ, ◌+◌, ◌-◌, ◌≤◌, ◌<◌, arith, length, drop, drop_of_length-le, needs}
+use Rattle.arithmetic.proofs.Kit.{◌≡◌, refl, sym, ap, ◌∙◌, List, [], ◌∷◌, ℕ, ◌+◌, ◌-◌, ◌≤◌, ◌<◌, arith, length, drop, drop_of_length-le, rules}
 use Rattle.questions.specs.declared.digits.Number.{Number}
 use Rattle.questions.specs.declared.digits.Number.TheVariants.{Nothing}
 use Rattle.questions.specs.Digits.{◌⟫◌, decimal_from, number_in}
@@ -8,49 +8,60 @@ use Rattle.questions.proofs.Passed.{number_passed}
 use Rattle.questions.proofs.digits.number_in.Statement.{statement}
 use Rattle.questions.proofs.digits.number_in.Tie as tie
 
-abbrev invariant-loop : tie.invariant-loop
-invariant-loop text value₀ i₀ value i = (i ≤ length text) × (decimal_from 0 text ≡ decimal_from value (drop i text))
+abbrev invariant_loop : tie.invariant-loop-i
+invariant_loop text value₀ i₀ value i = (i ≤ length text) × (decimal_from 0 text ≡ decimal_from value (drop i text))
 
-abbrev decreases-loop : tie.decreases-loop
-decreases-loop text value₀ i₀ value i = length text - i
+abbrev decreases_loop : tie.decreases-loop-i
+decreases_loop text value₀ i₀ value i = length text - i
 
 no_digit : (s : List ℕ) → length s ≡ 0 → Nothing ≡ number_in s
 unfolding number_in
 no_digit [] h = refl
 no_digit (b ∷ s) h = absurd (omega arith)
 
-some-digit : (s : List ℕ) → 0 < length s → number_in s ≡ decimal_from 0 s
+some_digit : (s : List ℕ) → 0 < length s → number_in s ≡ decimal_from 0 s
 unfolding number_in
-some-digit [] h = absurd (omega arith)
-some-digit (b ∷ s) h = refl
+some_digit [] h = absurd (omega arith)
+some_digit (b ∷ s) h = refl
 
-returns-2 : tie.Need-returns-2 invariant-loop decreases-loop
-returns-2 c =
-    let s = c.before.before.before.before.before.before.before.before.args.text.now in
-    let i : ℕ = c.before.before.before.before.before.loop.i in
+returns_2 : tie.Need-returns-in-Nothing invariant_loop decreases_loop
+returns_2 c =
+    let s = c.args.text.now in
+    let i : ℕ = c.loop-i.i in
     let rest : ℕ → Number = λ (w : ℕ). decimal_from w (drop (i + 1) s) in (
       sym
-          (some-digit s (omega arith)
-          ∙ c.before.before.before.before.before.loop.invariant.1
-          ∙ number_passed s i (omega arith) c.before.before.before.before.before.loop.value
-          ∙ ap (λ (n : Number). n ⟫ rest) (sym c.before.before.with-digit.ensures ∙ c.enum_told.given.1)),
+          (some_digit s (omega arith)
+          ∙ c.loop-i.invariant.1
+          ∙ number_passed s i (omega arith) c.loop-i.value
+          ∙ ap (λ (n : Number). n ⟫ rest) (sym c.with_digit.ensures ∙ c.in-Nothing.is)),
       refl,
     )
 
-loop-again : tie.Need-loop-preserved invariant-loop decreases-loop
-loop-again c =
-    let s = c.before.before.before.before.before.before.before.before.before.args.text.now in
-    let i : ℕ = c.before.before.before.before.before.before.loop.i in
+loop_again : tie.Need-loop-i-preserved invariant_loop decreases_loop
+loop_again c =
+    let s = c.args.text.now in
+    let i : ℕ = c.loop-i.i in
     let rest : ℕ → Number = λ (w : ℕ). decimal_from w (drop (i + 1) s) in
-    (omega arith, c.before.before.before.before.before.before.loop.invariant.1 ∙ number_passed s i (omega arith) c.before.before.before.before.before.before.loop.value ∙ ap (λ (n : Number). n ⟫ rest) (sym c.before.before.before.with-digit.ensures ∙ c.before.longer.given.1))
+    (omega arith, c.loop-i.invariant.1 ∙ number_passed s i (omega arith) c.loop-i.value ∙ ap (λ (n : Number). n ⟫ rest) (sym c.with_digit.ensures ∙ c.in-Of.is))
 
-returns-3 : tie.Need-returns-3 invariant-loop decreases-loop
+returns_3 : tie.Need-returns invariant_loop decreases_loop
 unfolding decimal_from
-returns-3 c =
-    let s = c.before.before.before.before.args.text.now in
-    (sym (some-digit s (omega arith) ∙ c.before.loop.invariant.1 ∙ ap (decimal_from c.before.loop.value) (drop_of_length-le s {i = c.before.loop.i} (omega arith))), refl)
+returns_3 c =
+    let s = c.args.text.now in
+    (sym (some_digit s (omega arith) ∙ c.loop-i.invariant.1 ∙ ap (decimal_from c.loop-i.value) (drop_of_length-le s {i = c.loop-i.i} (omega arith))), refl)
 
-pub number-in-spec : {M : Type 1} → statement M
-number-in-spec =
-    tie.close (tie.spec invariant-loop decreases-loop (λ c. (no_digit c.before.before.args.text.now (omega arith), refl)) (λ c. (omega arith, refl))
-    (λ c. search needs) (λ c κs. search needs) (λ c. search needs) (λ c. search needs) returns-2 (λ c. search needs) (λ c. search needs) loop-again returns-3)
+pub number_in_spec : {M : Type 1} → statement M
+number_in_spec =
+    tie.close (tie.spec invariant_loop
+    decreases_loop
+    (λ c. (no_digit c.args.text.now (omega arith), refl))
+    (λ c. (omega arith, refl))
+    (λ c. search rules)
+    (λ c κs. search rules)
+    (λ c. search rules)
+    (λ c. search rules)
+    returns_2
+    (λ c. search rules)
+    (λ c. search rules)
+    loop_again
+    returns_3)

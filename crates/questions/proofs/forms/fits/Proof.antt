@@ -1,17 +1,21 @@
 -- `questions::forms::fits` meets its contract. Assumes nothing.
-use Rattle.arithmetic.proofs.Kit.{refl, ◌+◌, arith, eq-eqb, ne_eqb, length, needs}
+use Rattle.arithmetic.proofs.Kit.{refl, ◌+◌, arith, eq-eqb, ne_eqb, length, rules}
 use Rattle.questions.specs.Words.{line_parts}
 use Rattle.questions.specs.Forms.{fits}
 use Rattle.questions.proofs.forms.fits.Statement.{statement}
 use Rattle.questions.proofs.forms.fits.Tie as tie
 
-returns : tie.Need-returns
+returns : tie.Need-returns-then-word_count-shape
 unfolding fits
-returns c = (rw (ne_eqb (length (line_parts c.before.before.before.before.args.line.now)) (length c.before.before.before.before.args.shape.now + 1) (λ e. omega (arith, c.before.word_count.ensures.0))), (refl, refl))
+returns c = (rw (ne_eqb (length (line_parts c.args.line.now)) (length c.args.shape.now + 1) (λ e. omega (arith, c.word_count.ensures.0))), (refl, refl))
 
-returns-2 : tie.Need-returns-2
+returns_2 : tie.Need-returns
 unfolding fits
-returns-2 c = (rw (eq-eqb (length (line_parts c.before.before.before.before.before.args.line.now)) (length c.before.before.before.before.before.args.shape.now + 1) (omega (arith, c.before.before.word_count.ensures.0))) c.are-of.ensures, (refl, refl))
+returns_2 c = (rw (eq-eqb (length (line_parts c.args.line.now)) (length c.args.shape.now + 1) (omega (arith, c.word_count.ensures.0))) c.are_of.ensures, (refl, refl))
 
-pub fits-spec : {M : Type 1} → statement M
-fits-spec = tie.close (tie.spec (λ c κs. search needs) (λ c. search needs) returns (λ c κs. search needs) returns-2)
+pub fits_spec : {M : Type 1} → statement M
+fits_spec = tie.close (tie.spec (λ c κs. search rules)
+    (λ c. search rules)
+    returns
+    (λ c κs. search rules)
+    returns_2)

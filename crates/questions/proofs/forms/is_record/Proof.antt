@@ -1,17 +1,22 @@
 -- `questions::forms::is_record` meets its contract. Assumes nothing.
-use Rattle.arithmetic.proofs.Kit.{◌∙◌, arith, lt-ltb, le-ltb, eq-eqb, ne_eqb, length, needs}
+use Rattle.arithmetic.proofs.Kit.{◌∙◌, arith, lt-ltb, le-ltb, eq-eqb, ne_eqb, length, rules}
 use Rattle.pages.proofs.Same.{compared}
 use Rattle.questions.proofs.forms.is_record.Statement.{statement}
 use Rattle.questions.proofs.forms.is_record.Tie as tie
 
-returns-2 : tie.Need-returns-2
-returns-2 c = rw (compared _ _ _ c.before.before.same.ensures ∙ c.before.if1.false, le-ltb 0 (length c.before.before.before.before.before.args.text.now) (omega arith))
+returns_2 : tie.Need-returns-then-text-eq0
+returns_2 c = rw (compared _ _ _ c.same.ensures ∙ c.if-same.false, le-ltb 0 (length c.args.text.now) (omega arith))
 
-returns-3 : tie.Need-returns-3
-returns-3 c = rw (compared _ _ _ c.before.before.before.same.ensures ∙ c.before.before.if1.false, lt-ltb 0 (length c.before.before.before.before.before.before.args.text.now) (omega arith), ne_eqb _ _ c.if3.true)
+returns_3 : tie.Need-returns-then-odd-ne0
+returns_3 c = rw (compared _ _ _ c.same.ensures ∙ c.if-same.false, lt-ltb 0 (length c.args.text.now) (omega arith), ne_eqb _ _ c.if-odd-ne0.true)
 
-returns-4 : tie.Need-returns-4
-returns-4 c = rw (compared _ _ _ c.before.before.before.before.same.ensures ∙ c.before.before.before.if1.false, lt-ltb 0 (length c.before.before.before.before.before.before.before.args.text.now) (omega arith), eq-eqb _ _ c.before.if3.false) c.are-hex.ensures.0
+returns_4 : tie.Need-returns
+returns_4 c = rw (compared _ _ _ c.same.ensures ∙ c.if-same.false, lt-ltb 0 (length c.args.text.now) (omega arith), eq-eqb _ _ c.if-odd-ne0.false) c.are_hex.ensures.0
 
-pub is-record-spec : {M : Type 1} → statement M
-is-record-spec = tie.close (tie.spec (λ c. search needs) (λ c κs. search needs) (λ c. rw (compared _ _ _ c.before.same.ensures ∙ c.if1.true)) returns-2 returns-3 (λ c κs. search needs) returns-4)
+pub is_record_spec : {M : Type 1} → statement M
+is_record_spec = tie.close (tie.spec (λ c κs. search rules)
+    (λ c. rw (compared _ _ _ c.same.ensures ∙ c.if-same.true))
+    returns_2
+    returns_3
+    (λ c κs. search rules)
+    returns_4)

@@ -1,7 +1,9 @@
 -- `record::entries::entry_of` meets its contract. Assumes nothing.
-use Rattle.record.proofs.Kit.{ap, ◌∙◌, needs, entry_for}
+use Rattle.record.proofs.Kit.{ap, ◌∙◌, rules, entry_for}
 use Rattle.record.proofs.entries.entry_of.Statement.{statement}
 use Rattle.record.proofs.entries.entry_of.Tie as tie
 
-pub entry-of-spec : {M : Type 1} → statement M
-entry-of-spec = tie.close (tie.spec (λ c κs. search needs) (λ c κs. search needs) (λ c. c.entry-for.ensures ∙ ap entry_for c.before.Stored-of.ensures))
+pub entry_of_spec : {M : Type 1} → statement M
+entry_of_spec = tie.close (tie.spec (λ c κs. search rules)
+    (λ c κs. search rules)
+    (λ c. c.entry_for.ensures ∙ ap entry_for c.stored_of.ensures))

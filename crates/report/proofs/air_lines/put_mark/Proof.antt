@@ -1,13 +1,15 @@
 -- `report::air_lines::put_mark` meets its contract. Assumes nothing.
-use Rattle.arithmetic.proofs.Kit.{sym, ap, needs}
+use Rattle.arithmetic.proofs.Kit.{sym, ap, rules}
 use Rattle.pages.proofs.Growing.{same_more}
 use Rattle.report.specs.AirLines.{mark_line}
 use Rattle.report.proofs.air_lines.put_mark.Statement.{statement}
 use Rattle.report.proofs.air_lines.put_mark.Tie as tie
 
-pub put-mark-spec : {M : Type 1} → statement M
-put-mark-spec =
-    tie.close (tie.spec (λ c. search needs) (λ c κs. search needs) (λ c. search needs)
-    (λ c. same_more (ap mark_line (sym c.before.before.before.before.before.if1.true)) c.before.before.put.ensures.0) (λ c. search needs)
-    (λ c κs. search needs) (λ c. search needs)
-    (λ c. same_more (ap mark_line (sym c.before.before.before.before.before.if1.false)) c.before.before.put2.ensures.0))
+pub put_mark_spec : {M : Type 1} → statement M
+put_mark_spec =
+    tie.close (tie.spec (λ c κs. search rules)
+    (λ c. search rules)
+    (λ c. same_more (ap mark_line (sym c.if-in_cipm_range.true)) c.put.ensures.0)
+    (λ c κs. search rules)
+    (λ c. search rules)
+    (λ c. same_more (ap mark_line (sym c.if-in_cipm_range.false)) c.put-2.ensures.0))

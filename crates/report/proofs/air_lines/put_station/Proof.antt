@@ -1,5 +1,5 @@
 -- `report::air_lines::put_station` meets its contract. Assumes nothing.
-use Rattle.arithmetic.proofs.Kit.{needs}
+use Rattle.arithmetic.proofs.Kit.{rules}
 use Rattle.pages.proofs.Growing.{and_then}
 use Rattle.report.specs.AirLines.{station_lines}
 use Rattle.report.proofs.air_lines.put_station.Statement.{statement}
@@ -8,12 +8,15 @@ use Rattle.report.proofs.air_lines.put_station.Tie as tie
 returns : tie.Need-returns
 unfolding station_lines
 returns c =
-    let pressure = c.before.before in
-    let temperature = pressure.before.before.before.before.before.before in
-    let altitude = temperature.before.before.before.before.before.before in
-    and_then (and_then altitude.put-figure.ensures.0 temperature.put-figure2.ensures.0) pressure.put-figure3.ensures.0
+    let pressure = c in
+    let temperature = c in
+    let altitude = c in
+    and_then (and_then altitude.put_figure-altitude.ensures.0 temperature.put_figure-temperature.ensures.0) pressure.put_figure.ensures.0
 
-pub put-station-spec : {M : Type 1} → statement M
-put-station-spec =
-    tie.close (tie.spec (λ c. search needs) (λ c. search needs) (λ c κs. search needs) (λ c. search needs) (λ c. search needs) (λ c κs. search needs)
-    (λ c. search needs) (λ c. search needs) (λ c κs. search needs) (λ c. search needs) returns)
+pub put_station_spec : {M : Type 1} → statement M
+put_station_spec =
+    tie.close (tie.spec (λ c κs. search rules)
+    (λ c κs. search rules)
+    (λ c κs. search rules)
+    (λ c. search rules)
+    returns)

@@ -1,26 +1,30 @@
 -- `report::fault::reading_of` meets its contract, number by number. Assumes nothing.
-use Rattle.arithmetic.proofs.Kit.{sym, ap, ◌∙◌, ne_eqb, needs}
+use Rattle.arithmetic.proofs.Kit.{sym, ap, ◌∙◌, ne_eqb, rules}
 use Rattle.report.specs.Fault.{reading_about}
 use Rattle.report.proofs.fault.reading_of.Statement.{statement}
 use Rattle.report.proofs.fault.reading_of.Tie as tie
 
-returns-5 : tie.Need-returns-5
+returns_5 : tie.Need-returns-then-number-eq11
 unfolding reading_about
-returns-5 c = c.first-not-finite.ensures ∙ ap (reading_about c.before.before.before.before.before.before.args.readings) (sym c.before.if5.true)
+returns_5 c = c.first_not_finite.ensures ∙ ap (reading_about c.args.readings) (sym c.if-number-eq11.true)
 
-returns-6 : tie.Need-returns-6
+returns_6 : tie.Need-returns-then-number-eq12
 unfolding reading_about
-returns-6 c = c.first-not-positive.ensures ∙ ap (reading_about c.before.before.before.before.before.before.before.args.readings) (sym c.before.if6.true)
+returns_6 c = c.first_not_positive.ensures ∙ ap (reading_about c.args.readings) (sym c.if-number-eq12.true)
 
-returns-8 : tie.Need-returns-8
+returns_8 : tie.Need-returns
 unfolding reading_about
-returns-8 c = simp (ne_eqb _ _ c.before.before.before.before.before.before.if1.false, ne_eqb _ _ c.before.before.before.before.before.if2.false, ne_eqb _ _ c.before.before.before.before.if3.false, ne_eqb _ _ c.before.before.before.if4.false, ne_eqb _ _ c.before.before.if5.false, ne_eqb _ _ c.before.if6.false, ne_eqb _ _ c.if7.false)
+returns_8 c = simp (ne_eqb _ _ c.if-number-eq1.false, ne_eqb _ _ c.if-number-eq2.false, ne_eqb _ _ c.if-number-eq3.false, ne_eqb _ _ c.if-number-eq4.false, ne_eqb _ _ c.if-number-eq11.false, ne_eqb _ _ c.if-number-eq12.false, ne_eqb _ _ c.if-number-eq13.false)
 
-pub reading-of-spec : {M : Type 1} → statement M
-reading-of-spec =
-    tie.close (tie.spec (λ c. unfold reading_about in ap (reading_about c.before.args.readings) (sym c.if1.true))
-    (λ c. unfold reading_about in ap (reading_about c.before.before.args.readings) (sym c.if2.true))
-    (λ c. unfold reading_about in ap (reading_about c.before.before.before.args.readings) (sym c.if3.true))
-    (λ c. unfold reading_about in ap (reading_about c.before.before.before.before.args.readings) (sym c.if4.true)) (λ c κs. search needs) returns-5
-    (λ c κs. search needs) returns-6
-    (λ c. unfold reading_about in ap (reading_about c.before.before.before.before.before.before.before.args.readings) (sym c.if7.true)) returns-8)
+pub reading_of_spec : {M : Type 1} → statement M
+reading_of_spec =
+    tie.close (tie.spec (λ c. unfold reading_about in ap (reading_about c.args.readings) (sym c.if-number-eq1.true))
+    (λ c. unfold reading_about in ap (reading_about c.args.readings) (sym c.if-number-eq2.true))
+    (λ c. unfold reading_about in ap (reading_about c.args.readings) (sym c.if-number-eq3.true))
+    (λ c. unfold reading_about in ap (reading_about c.args.readings) (sym c.if-number-eq4.true))
+    (λ c κs. search rules)
+    returns_5
+    (λ c κs. search rules)
+    returns_6
+    (λ c. unfold reading_about in ap (reading_about c.args.readings) (sym c.if-number-eq13.true))
+    returns_8)

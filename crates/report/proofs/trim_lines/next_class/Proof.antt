@@ -1,5 +1,5 @@
 -- `report::trim_lines::next_class` meets its contract. Assumes nothing.
-use Rattle.arithmetic.proofs.Kit.{◌≡◌, refl, sym, ap, ◌∙◌, needs}
+use Rattle.arithmetic.proofs.Kit.{◌≡◌, refl, sym, ap, ◌∙◌, rules}
 use Rattle.refusal.specs.declared.judge.Figures.{Figures}
 use Rattle.record.specs.declared.entries.Readings.{Readings}
 use Rattle.trim.specs.declared.search.Trim.{Trim}
@@ -16,24 +16,31 @@ module _ (r : Readings) (f : Figures) {k t : Trim} (told : k ≡ t) (found : tri
   kept : or_from_shown r f (trim_outcome t) ≡ trim_outcome t → trim_outcome k ≡ or_from_shown r f (next_of r)
   kept same = ap trim_outcome told ∙ sym same ∙ by_answer
 
-returns : tie.Need-returns
+returns : tie.Need-returns-in-Turns
 returns c =
-    let a = c.before.before.before.args in
-    kept a.readings a.figures c.enum_told.given.1 c.before.before.next-trim-class-of-readings.ensures refl
+    let a = c.args in
+    kept a.readings a.figures c.in-Turns.is c.next_trim_class_of_readings-next.ensures refl
 
-returns-2 : tie.Need-returns-2
-returns-2 c =
-    let a = c.before.before.before.args in
-    kept a.readings a.figures c.enum-told2.given.1 c.before.before.next-trim-class-of-readings.ensures refl
+returns_2 : tie.Need-returns-in-NoChange
+returns_2 c =
+    let a = c.args in
+    kept a.readings a.figures c.in-NoChange.is c.next_trim_class_of_readings-next.ensures refl
 
-returns-3 : tie.Need-returns-3
-returns-3 c =
-    let told = c.before.before in
-    let a = told.before.before.before.args in
-    c.next-trim-class-of-readings2.ensures ∙ ap next_of c.before.shown-station.ensures
-    ∙ by_answer a.readings a.figures told.enum-told3.given.1 told.before.before.next-trim-class-of-readings.ensures
+returns_3 : tie.Need-returns-in-Refused
+returns_3 c =
+    let told = c in
+    let a = told.args in
+    c.next_trim_class_of_readings.ensures ∙ ap next_of c.shown_station.ensures
+    ∙ by_answer a.readings a.figures told.in-Refused.is told.next_trim_class_of_readings-next.ensures
 
-pub next-class-spec : {M : Type 1} → statement M
-next-class-spec =
-    tie.close (tie.spec (λ c κs. search needs) (λ c. search needs) (λ c. search needs) (λ c. search needs) (λ c κs. search needs) (λ c κs. search needs)
-    returns returns-2 returns-3)
+pub next_class_spec : {M : Type 1} → statement M
+next_class_spec =
+    tie.close (tie.spec (λ c κs. search rules)
+    (λ c. search rules)
+    (λ c. search rules)
+    (λ c. search rules)
+    (λ c κs. search rules)
+    (λ c κs. search rules)
+    returns
+    returns_2
+    returns_3)

@@ -4,5 +4,5 @@ use Rattle.roots.proofs.Entry.{number_of}
 use Rattle.roots.proofs.quick.number.Statement.{statement}
 use Rattle.roots.proofs.quick.number.Tie as tie
 
-pub number-spec : {M : Type 1} → statement M
-number-spec = tie.close (tie.spec (λ c. number_of _ _ (omega arith)))
+pub number_spec : {M : Type 1} → statement M
+number_spec = tie.close (tie.spec (λ c. number_of _ _ (omega arith)))

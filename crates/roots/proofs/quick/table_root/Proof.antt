@@ -1,11 +1,21 @@
 -- `roots::quick::table_root` meets its contract: its tests are those of `served`, and what they ask for is what `root_from` wants. Assumes nothing.
-use Rattle.arithmetic.proofs.Kit.{◌≡◌, refl, sym, ap, ◌∙◌, subst, List, ℕ, ◌+◌, ◌-◌, ◌*◌, ◌/◌, ◌%◌, ◌^◌, ◌≤◌, ◌<◌, le_trans, lt_of_lt_of_le, mul-le-mul, arith, needs, lit≤, get_or}
+use Rattle.arithmetic.proofs.Kit.{◌≡◌, refl, sym, ap, ◌∙◌, subst, List, ℕ, ◌+◌, ◌-◌, ◌*◌, ◌/◌, ◌%◌, ◌^◌, ◌≤◌, ◌<◌, le_trans, lt_of_lt_of_le, mul-le-mul, arith, rules, lit≤, get_or}
 use Rattle.roots.specs.Root.{root}
 use Rattle.roots.specs.declared.quick.TableRoot.TheVariants.{Root, NotServed}
 use Rattle.roots.specs.Quick.{table_root}
-use Rattle.roots.proofs.Entry.{upper-word, top-fits, hi-fits, top-low, Serves, entry_for, is-served, is_not_served}
+use Rattle.roots.proofs.Entry.{number_of, Serves, entry_for, is-served, is_not_served}
 use Rattle.roots.proofs.quick.table_root.Statement.{statement}
 use Rattle.roots.proofs.quick.table_root.Tie as tie
+
+-- the upper bits of a number of 125 or 126 bits
+top_fits : (hi lo : ℕ) → hi / 2 ^ 52 < 1024 → lo < 2 ^ 64 → hi * 4 + lo / 2 ^ 62 < 2 ^ 64
+top_fits hi lo h l = omega arith
+
+hi_fits : (hi : ℕ) → hi / 2 ^ 52 < 1024 → hi * 4 < 2 ^ 64
+hi_fits hi h = omega arith
+
+top_low : (hi lo : ℕ) → 256 ≤ hi / 2 ^ 52 → 2 ^ 62 ≤ hi * 4 + lo / 2 ^ 62
+top_low hi lo h = omega arith
 
 square_le : (e : ℕ) → e < 2 ^ 15 → e * e ≤ (2 ^ 15 - 1) * (2 ^ 15 - 1)
 square_le e h = mul-le-mul {n₁ = e} {m₁ = e} {n₂ = 2 ^ 15 - 1} {m₂ = 2 ^ 15 - 1} (omega arith) (omega arith)
@@ -16,25 +26,29 @@ near_of n e d l h q small =
     let g = square_le e h in
     (l, h, omega arith, omega arith)
 
-mul-top : tie.Need-overflow-mul-top
-mul-top c =
-    let place = c.before.before.before.before in
-    let n = place.before.args.n in
-    record { fits = hi-fits n.hi (upper-word (λ (p : ℕ). p < 1024) n.hi n.lo (omega arith) place.number.ensures c.before.before.if2.true) }
+-- the test of the place, on the upper word
+upper_word : (P : ℕ → Type 0) (hi lo : ℕ) {p : ℕ} → lo < 2 ^ 64 → p ≡ (hi * 2 ^ 64 + lo) / 2 ^ 116 → P p → P (hi / 2 ^ 52)
+upper_word P hi lo l q = subst P (q ∙ sym (number_of hi lo l))
 
-add-top : tie.Need-overflow-add-top
-add-top c =
-    let place = c.before.before.before.before.before in
-    let n = place.before.args.n in
-    record { fits = top-fits n.hi n.lo (upper-word (λ (p : ℕ). p < 1024) n.hi n.lo (omega arith) place.number.ensures c.before.before.before.if2.true) (omega arith) }
+mul_top : tie.Need-overflow_mul-top
+mul_top c =
+    let place = c.before.before.before.before.before.before in
+    let n = place.args.n in
+    record { fits = hi_fits n.hi (upper_word (λ (p : ℕ). p < 1024) n.hi n.lo (omega arith) place.number-place.ensures c.if-place-lt1024.true) }
 
-root-from-requires : tie.Need-root-from-requires
-root-from-requires c κs =
-    let e-read = c.before.before.before.before.before in
-    let place = e-read.before.before.before in
-    let n = place.before.args.n in
-    let low = top-low n.hi n.lo (upper-word (λ (p : ℕ). 256 ≤ p) n.hi n.lo (omega arith) place.number.ensures e-read.before.before.if1.true) in
-    (refl, near_of _ _ _ low c.before.before.if3.true c.before.wrapping-sub-u64.ensures (lt_of_lt_of_le c.if4.true (lit≤ tt)))
+add_top : tie.Need-overflow_add-top
+add_top c =
+    let place = c.before.before.before.before.before.before.before in
+    let n = place.args.n in
+    record { fits = top_fits n.hi n.lo (upper_word (λ (p : ℕ). p < 1024) n.hi n.lo (omega arith) place.number-place.ensures c.if-place-lt1024.true) (omega arith) }
+
+root_from_requires : tie.Need-root_from-requires
+root_from_requires c κs =
+    let e_read = c.before.before.before.before.before.before.before in
+    let place = e_read.before.before.before in
+    let n = place.args.n in
+    let low = top_low n.hi n.lo (upper_word (λ (p : ℕ). 256 ≤ p) n.hi n.lo (omega arith) place.number-place.ensures e_read.if-place-ge256.true) in
+    (refl, (near_of _ _ _ low c.if-e-lt32768.true c.wrapping_sub_u64.ensures (lt_of_lt_of_le c.if-wrapping_sub_u64-lt27021597764222976.true (lit≤ tt)), c.from_half-i.ensures))
 
 -- ---- what is answered
 
@@ -46,44 +60,57 @@ module _ (table : List ℕ) (n : ℕ) {p : ℕ} (number : p ≡ n / 2 ^ 116) whe
   abbrev e : ℕ
   e = get_or table (p - 256) 0
 
-  same-entry : e ≡ entry_for table n
-  same-entry = ap (λ (q : ℕ). get_or table (q - 256) 0) number
+  same_entry : e ≡ entry_for table n
+  same_entry = ap (λ (q : ℕ). get_or table (q - 256) 0) number
 
-  from-entry : {top r : ℕ} → top ≡ n / 2 ^ 62 → 256 ≤ p → p < 1024 → (2 ^ 62 ≤ top) × (e < 2 ^ 15) × (e * e * 2 ^ 34 ≤ top) × (top < e * e * 2 ^ 34 + 3 * 2 ^ 53) → r ≡ root n → Root r ≡ table_root table n
-  from-entry upper from to near is =
+  from_entry : {top r : ℕ} → top ≡ n / 2 ^ 62 → 256 ≤ p → p < 1024 → (2 ^ 62 ≤ top) × (e < 2 ^ 15) × (e * e * 2 ^ 34 ≤ top) × (top < e * e * 2 ^ 34 + 3 * 2 ^ 53) → r ≡ root n → Root r ≡ table_root table n
+  from_entry upper from to near is =
       ap Root is
       ∙ sym
       (is-served table n
-      (subst (λ (x : ℕ). Serves n x) same-entry
+      (subst (λ (x : ℕ). Serves n x) same_entry
       (record { from = subst (λ (q : ℕ). 256 ≤ q) number from; to = subst (λ (q : ℕ). q < 1024) number to; low = near.1; square = subst (λ (t : ℕ). e * e * 2 ^ 34 ≤ t) upper near.2; rest = subst (λ (t : ℕ). t < e * e * 2 ^ 34 + 3 * 2 ^ 53) upper near.3 })))
 
-  not-served : (Serves n e → ⊥) → NotServed ≡ table_root table n
-  not-served far = is_not_served table n (λ (s : Serves n (entry_for table n)). far (subst (λ (x : ℕ). Serves n x) (sym same-entry) s))
+  not_served : (Serves n e → ⊥) → NotServed ≡ table_root table n
+  not_served far = is_not_served table n (λ (s : Serves n (entry_for table n)). far (subst (λ (x : ℕ). Serves n x) (sym same_entry) s))
 
-  number-low : p < 256 → NotServed ≡ table_root table n
-  number-low h = not-served (λ (s : Serves n e). omega (arith, s.from))
+  number_low : p < 256 → NotServed ≡ table_root table n
+  number_low h = not_served (λ (s : Serves n e). omega (arith, s.from))
 
-  number-high : 1024 ≤ p → NotServed ≡ table_root table n
-  number-high h = not-served (λ (s : Serves n e). omega (arith, s.to))
+  number_high : 1024 ≤ p → NotServed ≡ table_root table n
+  number_high h = not_served (λ (s : Serves n e). omega (arith, s.to))
 
-  entry-great : 2 ^ 15 ≤ e → NotServed ≡ table_root table n
-  entry-great h = not-served (λ (s : Serves n e). omega (arith, s.low))
+  entry_great : 2 ^ 15 ≤ e → NotServed ≡ table_root table n
+  entry_great h = not_served (λ (s : Serves n e). omega (arith, s.low))
 
-  entry-far : {top d : ℕ} → top ≡ n / 2 ^ 62 → d < 2 ^ 64 → (d + e * e * 2 ^ 34) % 2 ^ 64 ≡ top → 3 * 2 ^ 53 ≤ d → NotServed ≡ table_root table n
-  entry-far upper fits q h = not-served (λ (s : Serves n e). let g = square_le e s.low in omega (arith, s.square, s.rest))
+  entry_far : {top d : ℕ} → top ≡ n / 2 ^ 62 → d < 2 ^ 64 → (d + e * e * 2 ^ 34) % 2 ^ 64 ≡ top → 3 * 2 ^ 53 ≤ d → NotServed ≡ table_root table n
+  entry_far upper fits q h = not_served (λ (s : Serves n e). let g = square_le e s.low in omega (arith, s.square, s.rest))
 
-returns : tie.Need-returns
+returns : tie.Need-returns-then-wrapping_sub_u64-lt27021597764222976
 returns c =
-    let in_range_lem = c.before.before.before.before.before.before.before in
-    from-entry _ _ in_range_lem.before.before.number.ensures (top_of _ _) in_range_lem.before.if1.true in_range_lem.if2.true
-    (root-from-requires c.before tt).1 c.root-from.ensures
+    let in_range_lem = c.before.before.before.before.before.before.before.before.before in
+    from_entry _ _ in_range_lem.number-place.ensures (top_of _ _) in_range_lem.if-place-ge256.true in_range_lem.if-place-lt1024.true
+    (root_from_requires c.before tt).1.0 c.root_from.ensures
 
-returns-2 : tie.Need-returns-2
-returns-2 c = entry-far _ _ c.before.before.before.before.before.before.before.before.number.ensures (top_of _ _) (omega arith) c.before.wrapping-sub-u64.ensures (le_trans (lit≤ tt) c.if4.false)
+returns_2 : tie.Need-returns-else-wrapping_sub_u64-lt27021597764222976
+returns_2 c = entry_far _ _ c.number-place.ensures (top_of _ _) (omega arith) c.wrapping_sub_u64.ensures (le_trans (lit≤ tt) c.if-wrapping_sub_u64-lt27021597764222976.false)
 
-pub table-root-spec : {M : Type 1} → statement M
-table-root-spec =
-    tie.close (tie.spec (λ c κs. search needs) (λ c. search needs) (λ c. search needs) mul-top
-    add-top (λ c. omega (arith, square_le _ c.if3.true)) (λ c. omega (arith, square_le _ c.if3.true)) (λ c κs. search needs) root-from-requires
-    returns returns-2 (λ c. entry-great _ _ c.before.before.before.before.before.before.number.ensures c.if3.false)
-    (λ c. number-high _ _ c.before.before.number.ensures c.if2.false) (λ c. number-low _ _ c.before.number.ensures c.if1.false))
+pub table_root_spec : {M : Type 1} → statement M
+table_root_spec =
+    tie.close (tie.spec (λ c κs. search rules)
+    (λ c. search rules)
+    (λ c. search rules)
+    (λ c. search rules)
+    (λ c. search rules)
+    (λ c κs. search rules)
+    mul_top
+    add_top
+    (λ c. omega (arith, square_le _ c.if-e-lt32768.true))
+    (λ c. omega (arith, square_le _ c.if-e-lt32768.true))
+    (λ c κs. search rules)
+    root_from_requires
+    returns
+    returns_2
+    (λ c. entry_great _ _ c.number-place.ensures c.if-e-lt32768.false)
+    (λ c. number_high _ _ c.number-place.ensures c.if-place-lt1024.false)
+    (λ c. number_low _ _ c.number-place.ensures c.if-place-ge256.false))

@@ -48,9 +48,9 @@ record Less (n r : ℕ) : Type 0 where
   square : r * r ≤ n
   next : n < suc (suc r) * suc (suc r)
 
-less-of : (n s : ℕ) → n < 2 ^ 64 → Step n s (81 * 2 ^ 24) → Less n (s - 1)
-less-of n zero h g = absurd (omega (arith, g.low))
-less-of n (suc r) h g =
+less_of : (n s : ℕ) → n < 2 ^ 64 → Step n s (81 * 2 ^ 24) → Less n (s - 1)
+less_of n zero h g = absurd (omega (arith, g.low))
+less_of n (suc r) h g =
     let square : r * r ≤ n = omega (arith, g, next-square r) in
     let known : Less n r = record { low = omega (arith, g.low); high = suc-le-suc (roots-le n r (2 ^ 32 - 1) square h); square = square; next = g.next } in
     subst (Less n) (omega arith) known
@@ -72,23 +72,31 @@ module _ (c : tie.Start) where
   second = stepped top near (9 * 2 ^ 44) (81 * 2 ^ 24) (2 ^ 31) c.requires.0 c.ranges.top.fits (again top near first) first.low (omega arith)
 
   less : Less top (step top near - 1)
-  less = less-of top (step top near) c.ranges.top.fits second
+  less = less_of top (step top near) c.ranges.top.fits second
 
-returns : tie.Need-returns
+returns : tie.Need-returns-then-less-top
 returns c =
     let n = top c.before in
     let r = step n (near c.before) - 1 in
     add-one r ∙ is-root n (suc r) (omega (arith, less c.before, next-square r), (less c.before).next)
 
-returns-2 : tie.Need-returns-2
-returns-2 c =
+returns_2 : tie.Need-returns-else-less-top
+returns_2 c =
     let n = top c.before in
     let r = step n (near c.before) - 1 in
     is-root n r ((less c.before).square, omega (arith, less c.before, next-square r))
 
-pub word-root-from-spec : {M : Type 1} → statement M
-word-root-from-spec =
-    tie.close (tie.spec (λ c. omega (arith, known c)) (λ c. omega (arith, known c))
-    (λ c. omega (arith, known c, quotient-lt (top c) (c.args.e * 2 ^ 17) c.ranges.top.fits (known c).low)) (λ c. omega (arith, first c))
-    (λ c. omega (arith, first c, quotient-lt (top c) (near c) c.ranges.top.fits (again (top c) (near c) (first c)).low)) (λ c. omega (arith, second c))
-    (λ c. omega (arith, less c)) (λ c. omega (arith, less c)) (λ c. (less c).square) (λ c. omega (arith, less c.before)) returns returns-2)
+pub word_root_from_spec : {M : Type 1} → statement M
+word_root_from_spec =
+    tie.close (tie.spec (λ c. omega (arith, known c))
+    (λ c. omega (arith, known c))
+    (λ c. omega (arith, known c, quotient-lt (top c) (c.args.e * 2 ^ 17) c.ranges.top.fits (known c).low))
+    (λ c. omega (arith, first c))
+    (λ c. omega (arith, first c, quotient-lt (top c) (near c) c.ranges.top.fits (again (top c) (near c) (first c)).low))
+    (λ c. omega (arith, second c))
+    (λ c. omega (arith, less c))
+    (λ c. omega (arith, less c))
+    (λ c. (less c).square)
+    (λ c. omega (arith, less c.before))
+    returns
+    returns_2)

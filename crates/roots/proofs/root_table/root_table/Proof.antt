@@ -5,5 +5,5 @@ use Rattle.roots.specs.Tables.{values, entry, root_table}
 use Rattle.roots.proofs.root_table.root_table.Statement.{statement}
 use Rattle.roots.proofs.root_table.root_table.Tie as tie
 
-pub root-table-spec : {M : Type 1} → statement M
-root-table-spec = tie.close (tie.spec (λ c. unfold root_table values entry root root_in size in refl))
+pub root_table_spec : {M : Type 1} → statement M
+root_table_spec = tie.close (tie.spec (λ c. unfold root_table values entry root root_in size in refl))

@@ -1,5 +1,5 @@
 -- `roots::roots::floor_root` meets its contract: each function that it calls has the root of its part of the numbers. Assumes nothing.
-use Rattle.arithmetic.proofs.Kit.{◌≡◌, ap, ◌∙◌, ℕ, ◌+◌, ◌*◌, ◌^◌, arith, needs}
+use Rattle.arithmetic.proofs.Kit.{◌≡◌, ap, ◌∙◌, ℕ, ◌+◌, ◌*◌, ◌^◌, arith, rules}
 use Rattle.roots.specs.Root.{root}
 use Rattle.roots.proofs.roots.floor_root.Statement.{statement}
 use Rattle.roots.proofs.roots.floor_root.Tie as tie
@@ -7,8 +7,13 @@ use Rattle.roots.proofs.roots.floor_root.Tie as tie
 low_word : (hi lo : ℕ) → hi ≡ 0 → lo ≡ hi * 2 ^ 64 + lo
 low_word hi lo h = omega arith
 
-pub floor-root-spec : {M : Type 1} → statement M
-floor-root-spec =
-    tie.close (tie.spec (λ c κs. search needs) (λ c κs. search needs) (λ c κs. search needs) (λ c κs. search needs)
-    (λ c. c.word-root.ensures ∙ ap root (low_word c.before.before.args.n.hi c.before.before.args.n.lo c.before.if1.true))
-    (λ c. search needs) (λ c. search needs) (λ c. search needs))
+pub floor_root_spec : {M : Type 1} → statement M
+floor_root_spec =
+    tie.close (tie.spec (λ c κs. search rules)
+    (λ c κs. search rules)
+    (λ c κs. search rules)
+    (λ c κs. search rules)
+    (λ c. c.word_root.ensures ∙ ap root (low_word c.args.n.hi c.args.n.lo c.if-hi-eq0.true))
+    (λ c. search rules)
+    (λ c. search rules)
+    (λ c. search rules))

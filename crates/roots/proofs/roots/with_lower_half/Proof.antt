@@ -35,11 +35,21 @@ module _ (c : tie.Start) where
   whole : number (2 ^ 31) s (top - s * s) (lo / 2 ^ 31 % 2 ^ 31) (lo % 2 ^ 31) ≡ top * 2 ^ 62 + lo % 2 ^ 62
   whole = omega (arith, known)
 
-pub with-lower-half-spec : {M : Type 1} → statement M
-with-lower-half-spec =
-    tie.close (tie.spec (λ c. omega (arith, known c)) (λ c. (known c).square) (λ c. omega (arith, known c)) (λ c. omega (arith, known c))
-    (λ c. omega (arith, known c)) (λ c. omega (arith, known c)) (λ c. omega (arith, known c)) (λ c. omega (arith, known c)) (λ c. omega (arith, known c))
-    (λ c. omega (arith, known c, (step c).digit)) (λ c. omega (arith, mul-le-mul (step c).digit (step c).digit)) (λ c. omega (arith, known c, (step c).rest))
-    (λ c. omega (arith, known c, (step c).rest)) (λ c. omega (arith, known c.before))
-    (λ c. is-root _ _ ((step c.before).exact c.if1.true) ∙ ap root (whole c.before))
-    (λ c. is-root _ _ ((step c.before).less c.if1.false) ∙ ap root (whole c.before)))
+pub with_lower_half_spec : {M : Type 1} → statement M
+with_lower_half_spec =
+    tie.close (tie.spec (λ c. omega (arith, known c))
+    (λ c. (known c).square)
+    (λ c. omega (arith, known c))
+    (λ c. omega (arith, known c))
+    (λ c. omega (arith, known c))
+    (λ c. omega (arith, known c))
+    (λ c. omega (arith, known c))
+    (λ c. omega (arith, known c))
+    (λ c. omega (arith, known c))
+    (λ c. omega (arith, known c, (step c).digit))
+    (λ c. omega (arith, mul-le-mul (step c).digit (step c).digit))
+    (λ c. omega (arith, known c, (step c).rest))
+    (λ c. omega (arith, known c, (step c).rest))
+    (λ c. omega (arith, known c.before))
+    (λ c. is-root _ _ ((step c.before).exact c.if-q-u.true) ∙ ap root (whole c.before))
+    (λ c. is-root _ _ ((step c.before).less c.if-q-u.false) ∙ ap root (whole c.before)))

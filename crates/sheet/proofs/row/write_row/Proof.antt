@@ -1,30 +1,36 @@
 -- `sheet::row::write_row` meets its contract, by what the station's air says. Assumes nothing.
-use Rattle.sheet.proofs.Kit.{sym, ap, ◌∙◌, needs, over_or_left, bare}
+use Rattle.sheet.proofs.Kit.{sym, ap, ◌∙◌, rules, over_or_left, bare}
 use Rattle.refusal.specs.Judged.{outcome}
 use Rattle.sheet.proofs.Outcomes.{by-air}
 use Rattle.sheet.proofs.row.write_row.Statement.{statement}
 use Rattle.sheet.proofs.row.write_row.Tie as tie
 
-returns : tie.Need-returns
+returns : tie.Need-returns-in-Refused
 returns c =
-    let told = c.before in
-    let air = told.before.before in
-    let a = air.before.before.args in
+    let told = c in
+    let air = told.before in
+    let a = air.args in
     let refusal =
-    sym (by-air a.altitude-m a.pressure-hpa a.humidity-percent a.temperature-c
-    (sym air.answer-of.ensures ∙ ap outcome told.refusal.given.1)) in
+    sym (by-air a.altitude_m a.pressure_hpa a.humidity_percent a.temperature_c
+    (sym air.answer_of.ensures ∙ ap outcome told.in-Refused.is)) in
     (ap bare refusal, ap (over_or_left a.page.now a.at) refusal)
 
-returns-2 : tie.Need-returns-2
-returns-2 c =
+returns_2 : tie.Need-returns-in-Figures
+returns_2 c =
     let written = c.before.before in
-    let told = written.before.before.before in
-    let air = told.before.before in
-    let a = air.before.before.args in
+    let told = written.before.before in
+    let air = told.before in
+    let a = air.args in
     let row =
-    sym (by-air a.altitude-m a.pressure-hpa a.humidity-percent a.temperature-c
-    (sym air.answer-of.ensures ∙ ap outcome told.figures.given.1)) in
-    (written.write-figures.ensures.0 ∙ ap bare row, written.write-figures.ensures.1 ∙ ap (over_or_left a.page.now a.at) row)
+    sym (by-air a.altitude_m a.pressure_hpa a.humidity_percent a.temperature_c
+    (sym air.answer_of.ensures ∙ ap outcome told.in-Figures.is)) in
+    (written.write_figures.ensures.0 ∙ ap bare row, written.write_figures.ensures.1 ∙ ap (over_or_left a.page.now a.at) row)
 
-pub write-row-spec : {M : Type 1} → statement M
-write-row-spec = tie.close (tie.spec (λ c κs. search needs) (λ c. search needs) (λ c. search needs) (λ c κs. search needs) returns (λ c. search needs) returns-2)
+pub write_row_spec : {M : Type 1} → statement M
+write_row_spec = tie.close (tie.spec (λ c κs. search rules)
+    (λ c. search rules)
+    (λ c. search rules)
+    (λ c κs. search rules)
+    returns
+    (λ c. search rules)
+    returns_2)

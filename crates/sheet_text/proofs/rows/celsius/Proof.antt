@@ -1,5 +1,5 @@
 -- `sheet_text::rows::celsius` meets its contract. Assumes nothing.
-use Rattle.arithmetic.proofs.Kit.{◌≡◌, ap, ◌∙◌, Bool, true, false, cond, ℕ, suc, ◌-◌, ◌^◌, ◌<◌, ◌≤◌, lt_of_lt_of_le, lit≤, arith, needs, leb, ℤ, pos, negsuc, ◌-ℤ◌, binary64, minus, of_int, SFits, to_z, w32}
+use Rattle.arithmetic.proofs.Kit.{◌≡◌, ap, ◌∙◌, Bool, true, false, cond, ℕ, suc, ◌-◌, ◌^◌, ◌<◌, ◌≤◌, lt_of_lt_of_le, lit≤, arith, rules, leb, ℤ, pos, negsuc, ◌-ℤ◌, binary64, minus, of_int, SFits, to_z, w32}
 use lib.Signed.{mag}
 use mir.Facts.{to_z_pos, to_z-of_z}
 use Rattle.arithmetic.proofs.Differences.{minus_is}
@@ -18,14 +18,17 @@ module _ (n : ℕ) (h : n ≤ 51) where
       go true = omega arith
       go false = omega arith
 
-  difference-fits : SFits w32 (to_z w32 n -ℤ pos 10)
-  difference-fits = rw difference (record { sfits = small })
+  difference_fits : SFits w32 (to_z w32 n -ℤ pos 10)
+  difference_fits = rw difference (record { sfits = small })
 
 returns : tie.Need-returns
 unfolding celsius_of_row
 returns c =
-    let start = c.before in
-    ap (of_int binary64) (to_z-of_z (difference-fits start.args.n start.requires) ∙ difference start.args.n start.requires)
+    let start = c in
+    ap (of_int binary64) (to_z-of_z (difference_fits start.args.n start.requires) ∙ difference start.args.n start.requires)
 
-pub celsius-spec : {M : Type 1} → statement M
-celsius-spec = tie.close (tie.spec (λ c. search needs) (λ c. difference-fits c.args.n c.requires) (λ c. search needs) returns)
+pub celsius_spec : {M : Type 1} → statement M
+celsius_spec = tie.close (tie.spec (λ c. search rules)
+    (λ c. difference_fits c.args.n c.requires)
+    (λ c. search rules)
+    returns)

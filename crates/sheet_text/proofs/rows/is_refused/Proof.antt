@@ -1,5 +1,5 @@
 -- `sheet_text::rows::is_refused` meets its contract. Assumes nothing.
-use Rattle.arithmetic.proofs.Kit.{◌≡◌, refl, sym, ap, ap₂, ◌∙◌, Bool, true, false, Float, needs}
+use Rattle.arithmetic.proofs.Kit.{◌≡◌, refl, sym, ap, ◌∙◌, Bool, true, false, Float, rules}
 use Rattle.refusal.specs.declared.judge.Figures.{Figures}
 use Rattle.refusal.specs.declared.judge.Answer.{Answer}
 use Rattle.refusal.specs.declared.judge.Answer.TheVariants as answer
@@ -28,21 +28,27 @@ module _ (h p u t : Float) {k : Answer} {a : Resolved} (asked : outcome k ≡ ai
   pub accepted : {f : Figures} → k ≡ answer.Figures f → is_too_wide t f ≡ is_refused (row_outcome h p u t)
   accepted {f} told = wide t f ∙ sym (ap is_refused (by-air h p u t (ap air_outcome (sym station) ∙ sym asked ∙ ap outcome told)))
 
-returns : tie.Need-returns
+returns : tie.Need-returns-in-Refused
 returns c =
-    let answer = c.before.before in
-    let a = answer.before.before.args in
-    refused a.altitude-m a.pressure-hpa a.humidity-percent _ answer.answer-of.ensures answer.before.station-of-row.ensures c.enum_told.given.1
+    let answer = c in
+    let a = answer.args in
+    refused a.altitude_m a.pressure_hpa a.humidity_percent _ answer.answer_of.ensures answer.station_of_row.ensures c.in-Refused.is
 
-returns-2 : tie.Need-returns-2
-returns-2 c =
-    let told = c.before.before.before in
-    let answer = told.before.before in
-    let a = answer.before.before.args in
-    c.is-too-wide.ensures ∙ ap (λ (t : Float). is_too_wide t told.figures.given.0.0) c.before.celsius.ensures
-    ∙ accepted a.altitude-m a.pressure-hpa a.humidity-percent _ answer.answer-of.ensures answer.before.station-of-row.ensures told.figures.given.1
+returns_2 : tie.Need-returns-in-Figures
+returns_2 c =
+    let told = c in
+    let answer = c in
+    let a = answer.args in
+    c.is_too_wide.ensures ∙ ap (λ (t : Float). is_too_wide t told.in-Figures.figures) c.celsius.ensures
+    ∙ accepted a.altitude_m a.pressure_hpa a.humidity_percent _ answer.answer_of.ensures answer.station_of_row.ensures told.in-Figures.is
 
-pub is-refused-spec : {M : Type 1} → statement M
-is-refused-spec =
-    tie.close (tie.spec (λ c κs. search needs) (λ c κs. search needs) (λ c. search needs) (λ c. search needs) (λ c κs. search needs) (λ c κs. search needs)
-    returns returns-2)
+pub is_refused_spec : {M : Type 1} → statement M
+is_refused_spec =
+    tie.close (tie.spec (λ c κs. search rules)
+    (λ c κs. search rules)
+    (λ c. search rules)
+    (λ c. search rules)
+    (λ c κs. search rules)
+    (λ c κs. search rules)
+    returns
+    returns_2)

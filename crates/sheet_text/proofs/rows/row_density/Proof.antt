@@ -1,5 +1,5 @@
 -- `sheet_text::rows::row_density` meets its contract. Assumes nothing.
-use Rattle.arithmetic.proofs.Kit.{ap, ◌∙◌, needs}
+use Rattle.arithmetic.proofs.Kit.{ap, ◌∙◌, rules}
 use Rattle.station.specs.declared.figures.StationFigures.{StationFigures}
 use Rattle.station.specs.Figures.{station_figures}
 use Rattle.sheet_text.proofs.rows.row_density.Statement.{statement}
@@ -7,8 +7,10 @@ use Rattle.sheet_text.proofs.rows.row_density.Tie as tie
 
 returns : tie.Need-returns
 returns c =
-    ap (λ (f : StationFigures). f.figures.density_kg_m3) (c.before.figures-of.ensures ∙ ap station_figures c.before.before.station-of-row.ensures)
+    ap (λ (f : StationFigures). f.figures.density_kg_m3) (c.figures_of-found.ensures ∙ ap station_figures c.station_of_row.ensures)
 
-pub row-density-spec : {M : Type 1} → statement M
-row-density-spec =
-    tie.close (tie.spec (λ c κs. search needs) (λ c κs. search needs) returns)
+pub row_density_spec : {M : Type 1} → statement M
+row_density_spec =
+    tie.close (tie.spec (λ c κs. search rules)
+    (λ c κs. search rules)
+    returns)

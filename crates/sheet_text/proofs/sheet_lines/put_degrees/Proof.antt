@@ -1,5 +1,5 @@
 -- `sheet_text::sheet_lines::put_degrees` meets its contract. Assumes nothing.
-use Rattle.arithmetic.proofs.Kit.{ap, ◌∙◌, arith, le-ltb, lt-ltb, drop, Float, needs}
+use Rattle.arithmetic.proofs.Kit.{ap, ◌∙◌, arith, le-ltb, lt-ltb, drop, Float, rules}
 use Rattle.decimals.specs.declared.shown.DecimalText.{DecimalText}
 use Rattle.decimals.specs.Decimal.{decimal_text}
 use Rattle.decimals.specs.Places.{in_sixteen}
@@ -8,25 +8,31 @@ use Rattle.sheet_text.specs.Lines.{degree_places}
 use Rattle.sheet_text.proofs.sheet_lines.put_degrees.Statement.{statement}
 use Rattle.sheet_text.proofs.sheet_lines.put_degrees.Tie as tie
 
-returns : tie.Need-returns
+returns : tie.Need-returns-then-n-ge51
 unfolding degree_places
 returns c =
-    let test = c.before.before.before.before.before in
-    let n = test.before.before.args.n in
-    rw (le-ltb n 51 test.if1.true) c.before.before.put.ensures.0
+    let test = c in
+    let n = test.args.n in
+    rw (le-ltb n 51 test.if-n-ge51.true) c.put.ensures.0
 
-returns-2 : tie.Need-returns-2
+returns_2 : tie.Need-returns
 unfolding degree_places
-returns-2 c =
-    let put = c.before.before in
-    let text = put.before.before.before.before in
-    let test = text.before.before in
-    let n = test.before.before.args.n in
-    let same = text.decimal-text.ensures ∙ ap (λ (x : Float). in_sixteen (decimal_text 0 x)) text.before.celsius.ensures in
-    rw (lt-ltb n 51 (omega (arith, test.if1.false)))
+returns_2 c =
+    let put = c in
+    let text = c in
+    let test = c in
+    let n = test.args.n in
+    let same = text.decimal_text-text.ensures ∙ ap (λ (x : Float). in_sixteen (decimal_text 0 x)) text.celsius.ensures in
+    rw (lt-ltb n 51 (omega (arith, test.if-n-ge51.false)))
     (same_more (ap (λ (t : DecimalText). drop 11 t.bytes) same) put.put_last.ensures)
 
-pub put-degrees-spec : {M : Type 1} → statement M
-put-degrees-spec =
-    tie.close (tie.spec (λ c. search needs) (λ c κs. search needs) (λ c. search needs) returns (λ c κs. search needs) (λ c κs. search needs)
-    (λ c κs. search needs) (λ c. search needs) returns-2)
+pub put_degrees_spec : {M : Type 1} → statement M
+put_degrees_spec =
+    tie.close (tie.spec (λ c κs. search rules)
+    (λ c. search rules)
+    returns
+    (λ c κs. search rules)
+    (λ c κs. search rules)
+    (λ c κs. search rules)
+    (λ c. search rules)
+    returns_2)

@@ -1,5 +1,5 @@
 -- `sheet_text::sheet_lines::put_doubt` meets its contract. Assumes nothing.
-use Rattle.arithmetic.proofs.Kit.{sym, ap, ◌∙◌, Bool, needs}
+use Rattle.arithmetic.proofs.Kit.{sym, ap, ◌∙◌, Bool, rules}
 use Rattle.atmosphere.specs.declared.plausibility.StationPressurePlausibility.{StationPressurePlausibility}
 use Rattle.sheet_text.specs.Lines.{doubt_line}
 use Rattle.sheet_text.proofs.sheet_lines.put_doubt.Statement.{statement}
@@ -8,19 +8,24 @@ use Rattle.sheet_text.proofs.sheet_lines.put_doubt.Tie as tie
 abbrev mark : StationPressurePlausibility → Bool
 mark found = found.implausible
 
-returns : tie.Need-returns
+returns : tie.Need-returns-then-beside
 unfolding doubt_line
 returns c =
-    let test = c.before.before.before.before.before in
-    rw (sym (ap mark test.before.station-pressure-plausibility.ensures) ∙ test.if1.true) c.before.before.put.ensures.0
+    let test = c in
+    rw (sym (ap mark test.station_pressure_plausibility-beside.ensures) ∙ test.if-beside.true) c.put.ensures.0
 
-returns-2 : tie.Need-returns-2
+returns_2 : tie.Need-returns
 unfolding doubt_line
-returns-2 c =
-    let test = c.before.before.before.before.before in
-    rw (sym (ap mark test.before.station-pressure-plausibility.ensures) ∙ test.if1.false) c.before.before.put2.ensures.0
+returns_2 c =
+    let test = c in
+    rw (sym (ap mark test.station_pressure_plausibility-beside.ensures) ∙ test.if-beside.false) c.put-2.ensures.0
 
-pub put-doubt-spec : {M : Type 1} → statement M
-put-doubt-spec =
-    tie.close (tie.spec (λ c κs. search needs) (λ c. search needs) (λ c κs. search needs) (λ c. search needs) returns
-    (λ c. search needs) (λ c κs. search needs) (λ c. search needs) returns-2)
+pub put_doubt_spec : {M : Type 1} → statement M
+put_doubt_spec =
+    tie.close (tie.spec (λ c κs. search rules)
+    (λ c κs. search rules)
+    (λ c. search rules)
+    returns
+    (λ c κs. search rules)
+    (λ c. search rules)
+    returns_2)

@@ -1,5 +1,5 @@
 -- `sheet_text::sheet_lines::put_reading` meets its contract. Assumes nothing.
-use Rattle.arithmetic.proofs.Kit.{needs}
+use Rattle.arithmetic.proofs.Kit.{rules}
 use Rattle.pages.proofs.Growing.{and_then}
 use Rattle.sheet_text.specs.Lines.{heading_line}
 use Rattle.sheet_text.proofs.sheet_lines.put_reading.Statement.{statement}
@@ -8,11 +8,15 @@ use Rattle.sheet_text.proofs.sheet_lines.put_reading.Tie as tie
 returns : tie.Need-returns
 unfolding heading_line
 returns c =
-    let unit = c.before.before in
-    let read = unit.before.before.before.before in
-    let named = read.before.before.before.before in
-    and_then (and_then named.put.ensures.0 read.put-places.ensures) unit.put2.ensures.0
+    let unit = c in
+    let read = c in
+    let named = c in
+    and_then (and_then named.put-named.ensures.0 read.put_places-read.ensures) unit.put.ensures.0
 
-pub put-reading-spec : {M : Type 1} → statement M
-put-reading-spec =
-    tie.close (tie.spec (λ c κs. search needs) (λ c κs. search needs) (λ c κs. search needs) (λ c. search needs) returns)
+pub put_reading_spec : {M : Type 1} → statement M
+put_reading_spec =
+    tie.close (tie.spec (λ c κs. search rules)
+    (λ c κs. search rules)
+    (λ c κs. search rules)
+    (λ c. search rules)
+    returns)

@@ -1,6 +1,5 @@
 -- `sheet_text::sheet_lines::put_source` meets its contract. Assumes nothing.
-use Rattle.arithmetic.proofs.Kit.{◌≡◌, sym, ap, ◌∙◌, true, false, needs}
-use Rattle.record.specs.declared.entries.Entry.{Entry}
+use Rattle.arithmetic.proofs.Kit.{sym, ap, ◌∙◌, rules}
 use Rattle.record.specs.Entries.{is_present, value_or_zero}
 use Rattle.pages.proofs.Growing.{and_then, same_more}
 use Rattle.decimals.specs.Shown.{shown}
@@ -8,32 +7,46 @@ use Rattle.sheet_text.specs.Lines.{source_line}
 use Rattle.sheet_text.proofs.sheet_lines.put_source.Statement.{statement}
 use Rattle.sheet_text.proofs.sheet_lines.put_source.Tie as tie
 
-returns : tie.Need-returns
+returns : tie.Need-returns-then-is_present
 unfolding source_line
 returns c =
-    let test = c.before.before.before.before.before in
-    rw (sym (ap is_present test.before.before.entry_of.ensures) ∙ sym test.before.is-present.ensures ∙ test.if1.true) c.before.before.put.ensures.0
+    let test = c in
+    rw (sym (ap is_present test.entry_of.ensures) ∙ sym test.is_present.ensures ∙ test.if-is_present.true) c.put.ensures.0
 
-returns-2 : tie.Need-returns-2
+returns_2 : tie.Need-returns-then-is_present-2
 unfolding source_line
-returns-2 c =
-    let test = c.before.before.before.before in
-    let first = test.before.before.before in
-    rw (sym (ap is_present first.before.before.entry_of.ensures) ∙ sym first.before.is-present.ensures ∙ first.if1.false, sym (ap is_present test.before.before.entry-of2.ensures) ∙ sym test.before.is-present2.ensures ∙ test.if2.true) c.before.before.put-mast.ensures
+returns_2 c =
+    let test = c in
+    let first = c in
+    rw (sym (ap is_present first.entry_of.ensures) ∙ sym first.is_present.ensures ∙ first.if-is_present.false, sym (ap is_present test.entry_of-2.ensures) ∙ sym test.is_present-2.ensures ∙ test.if-is_present-2.true) c.put_mast.ensures
 
-returns-3 : tie.Need-returns-3
+returns_3 : tie.Need-returns
 unfolding source_line
-returns-3 c =
-    let end = c.before.before in
-    let read = end.before.before.before.before.before in
-    let word = read.before.before.before.before.before.before in
-    let test = word.before.before.before in
-    let first = test.before.before.before in
-    rw (sym (ap is_present first.before.before.entry_of.ensures) ∙ sym first.before.is-present.ensures ∙ first.if1.false, sym (ap is_present test.before.before.entry-of2.ensures) ∙ sym test.before.is-present2.ensures ∙ test.if2.false)
-    (and_then (and_then word.put2.ensures.0 (same_more (ap (shown 3) (read.before.value-or-zero.ensures ∙ ap value_or_zero read.before.before.entry-of3.ensures)) read.put-shown.ensures)) end.put3.ensures.0)
+returns_3 c =
+    let end = c in
+    let read = c in
+    let word = c in
+    let test = c in
+    let first = c in
+    rw (sym (ap is_present first.entry_of.ensures) ∙ sym first.is_present.ensures ∙ first.if-is_present.false, sym (ap is_present test.entry_of-2.ensures) ∙ sym test.is_present-2.ensures ∙ test.if-is_present-2.false)
+    (and_then (and_then word.put-word.ensures.0 (same_more (ap (shown 3) (read.value_or_zero.ensures ∙ ap value_or_zero read.entry_of-3.ensures)) read.put_shown-read.ensures)) end.put-2.ensures.0)
 
-pub put-source-spec : {M : Type 1} → statement M
-put-source-spec =
-    tie.close (tie.spec (λ c κs. search needs) (λ c κs. search needs) (λ c. search needs) (λ c κs. search needs) (λ c. search needs) returns
-    (λ c κs. search needs) (λ c κs. search needs) (λ c κs. search needs) (λ c. search needs) returns-2 (λ c. search needs) (λ c κs. search needs)
-    (λ c κs. search needs) (λ c κs. search needs) (λ c κs. search needs) (λ c. search needs) (λ c κs. search needs) (λ c. search needs) returns-3)
+pub put_source_spec : {M : Type 1} → statement M
+put_source_spec =
+    tie.close (tie.spec (λ c κs. search rules)
+    (λ c κs. search rules)
+    (λ c κs. search rules)
+    (λ c. search rules)
+    returns
+    (λ c κs. search rules)
+    (λ c κs. search rules)
+    (λ c κs. search rules)
+    (λ c. search rules)
+    returns_2
+    (λ c κs. search rules)
+    (λ c κs. search rules)
+    (λ c κs. search rules)
+    (λ c κs. search rules)
+    (λ c κs. search rules)
+    (λ c. search rules)
+    returns_3)

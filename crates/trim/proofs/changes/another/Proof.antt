@@ -1,18 +1,20 @@
 -- `trim::changes::another` meets its contract, by whether there is a class and whether it is another. Assumes nothing.
-use Rattle.trim.proofs.Kit.{◌≡◌, sym, ap, ◌∙◌, Bool, cond, ℕ, needs, eq-eqb, ne_eqb, eqb, Change, classified, another}
+use Rattle.trim.proofs.Kit.{◌≡◌, sym, ap, ◌∙◌, Bool, cond, ℕ, rules, eq-eqb, ne_eqb, eqb, Change, classified, another}
 use Rattle.trim.specs.declared.classes.Class.{Class}
 use Rattle.trim.specs.declared.classes.Class.TheVariants as class
 use Rattle.trim.specs.declared.changes.Found.TheVariants.{Turn, Nothing}
 use Rattle.trim.proofs.changes.another.Statement.{statement}
 use Rattle.trim.proofs.changes.another.Tie as tie
 
-by-class : (first : ℕ) (x : Change) {k : Class} {n : ℕ} {b : Bool} → k ≡ class.Of n → eqb n first ≡ b
+by_class : (first : ℕ) (x : Change) {k : Class} {n : ℕ} {b : Bool} → k ≡ class.Of n → eqb n first ≡ b
     → cond b Nothing (Turn (record { change = x; class = n })) ≡ another first x (classified k)
-by-class first x {k} {n} told e =
+by_class first x {k} {n} told e =
     ap (λ (b : Bool). cond b Nothing (Turn (record { change = x; class = n }))) (sym e) ∙ ap (λ (k : Class). another first x (classified k)) (sym told)
 
-pub another-spec : {M : Type 1} → statement M
-another-spec =
-    tie.close (tie.spec (λ c. search needs) (λ c. search needs)
-    (λ c. let told = c.before.before in by-class _ _ told.class.given.1 (eq-eqb _ _ c.if1.true)) (λ c. search needs)
-    (λ c. let told = c.before.before in by-class _ _ told.class.given.1 (ne_eqb _ _ c.if1.false)))
+pub another_spec : {M : Type 1} → statement M
+another_spec =
+    tie.close (tie.spec (λ c. search rules)
+    (λ c. search rules)
+    (λ c. let told = c.before in by_class _ _ told.in-Of.is (eq-eqb _ _ c.if-class-first.true))
+    (λ c. search rules)
+    (λ c. let told = c.before in by_class _ _ told.in-Of.is (ne_eqb _ _ c.if-class-first.false)))

@@ -1,6 +1,6 @@
 -- `trim::search::next_from` meets its contract. The loop's invariant: of all the changes, those of the counts left have the first that gives another class.
 -- The measure is the number of counts left. Assumes nothing.
-use Rattle.trim.proofs.Kit.{◌≡◌, refl, sym, ap, ◌∙◌, ℕ, suc, ◌+◌, ◌-◌, ◌≤◌, arith, needs, accepted, Found, Start, changes_of, changes_from, changes, or_else, first_of, next_from}
+use Rattle.trim.proofs.Kit.{◌≡◌, refl, sym, ap, ◌∙◌, ℕ, suc, ◌+◌, ◌-◌, ◌≤◌, arith, rules, accepted, Found, Start, changes_of, changes_from, changes, or_else, first_of, next_from}
 use Rattle.trim.proofs.First.{first-append}
 use Rattle.trim.proofs.search.next_from.Statement.{statement}
 use Rattle.trim.proofs.search.next_from.Tie as tie
@@ -23,35 +23,44 @@ found : (s : Start) {f : Found} → first_of s changes ≡ f → accepted (recor
 unfolding next_from
 found s e = ap (λ (f : Found). accepted (record { class = s.class; turn = f })) (sym e)
 
-abbrev invariant-loop : tie.invariant-loop
-invariant-loop start tenths₀ tenths = (tenths ≤ 201) × (first_of start changes ≡ from start tenths)
+abbrev invariant_loop : tie.invariant-loop-tenths
+invariant_loop start tenths₀ tenths = (tenths ≤ 201) × (first_of start changes ≡ from start tenths)
 
-abbrev decreases-loop : tie.decreases-loop
-decreases-loop start tenths₀ tenths = 201 - tenths
+abbrev decreases_loop : tie.decreases-loop-tenths
+decreases_loop start tenths₀ tenths = 201 - tenths
 
-returns : tie.Need-returns invariant-loop decreases-loop
+returns : tie.Need-returns-in-Turn invariant_loop decreases_loop
 returns c =
-    let told = c.before in
-    let first = told.before.before in
+    let told = c in
+    let first = told.before in
     let at = first.before.before in
-    let s = at.before.args.start in
-    found s (at.loop.invariant.1 ∙ by_count s at.loop.tenths (omega arith) (sym first.first_by.ensures ∙ told.turn.given.1))
+    let s = at.args.start in
+    found s (at.loop-tenths.invariant.1 ∙ by_count s at.loop-tenths.tenths (omega arith) (sym first.first_by.ensures ∙ told.in-Turn.is))
 
-loop-again : tie.Need-loop-preserved invariant-loop decreases-loop
-loop-again c =
-    let first = c.before.before in
+loop_again : tie.Need-loop-tenths-preserved invariant_loop decreases_loop
+loop_again c =
+    let first = c.before in
     let at = first.before.before in
-    let s = at.before.args.start in
-    (omega arith, at.loop.invariant.1 ∙ by_count s at.loop.tenths (omega arith) (sym first.first_by.ensures ∙ c.enum_told.given.1))
+    let s = at.args.start in
+    (omega arith, at.loop-tenths.invariant.1 ∙ by_count s at.loop-tenths.tenths (omega arith) (sym first.first_by.ensures ∙ c.in_default.is))
 
-returns-2 : tie.Need-returns-2 invariant-loop decreases-loop
+returns_2 : tie.Need-returns invariant_loop decreases_loop
 unfolding first_of changes_from
-returns-2 c =
+returns_2 c =
     let at = c.before in
-    let last : at.loop.tenths ≡ 201 = omega (arith, at.loop.invariant.0) in
-    found at.before.args.start (at.loop.invariant.1 ∙ ap (from at.before.args.start) last)
+    let last : at.loop-tenths.tenths ≡ 201 = omega (arith, at.loop-tenths.invariant.0) in
+    found at.args.start (at.loop-tenths.invariant.1 ∙ ap (from at.args.start) last)
 
-pub next-from-spec : {M : Type 1} → statement M
-next-from-spec =
-    tie.close (tie.spec invariant-loop decreases-loop (λ c. unfold changes in (omega arith, refl)) (λ c κs. search needs) (λ c. search needs) returns (λ c. search needs)
-    (λ c. omega arith) (λ c. omega arith) loop-again returns-2)
+pub next_from_spec : {M : Type 1} → statement M
+next_from_spec =
+    tie.close (tie.spec invariant_loop
+    decreases_loop
+    (λ c. unfold changes in (omega arith, refl))
+    (λ c κs. search rules)
+    (λ c. search rules)
+    returns
+    (λ c. search rules)
+    (λ c. omega arith)
+    (λ c. omega arith)
+    loop_again
+    returns_2)

@@ -1,5 +1,5 @@
 -- `trim::search::next_with` meets its contract, by the two entries. Assumes nothing.
-use Rattle.trim.proofs.Kit.{◌≡◌, refl, sym, ap₂, ◌∙◌, ℕ, needs, ◌⟫◌, Entry, Readings, temperature, measured_pressure, entry_of, next_from, start_of, next_with}
+use Rattle.trim.proofs.Kit.{◌≡◌, refl, sym, ap₂, ◌∙◌, ℕ, rules, ◌⟫◌, Entry, Readings, temperature, measured_pressure, entry_of, next_from, start_of, next_with}
 use Rattle.trim.proofs.search.next_with.Statement.{statement}
 use Rattle.trim.proofs.search.next_with.Tie as tie
 
@@ -8,30 +8,38 @@ by_entries : (r : Readings) (n : ℕ) {t t' p p' : Entry} → t ≡ entry_of r t
 unfolding next_with
 by_entries r n et told ep told' = ap₂ (λ (t p : Entry). start_of r n t p ⟫ next_from) (sym told ∙ et) (sym told' ∙ ep)
 
-returns : tie.Need-returns
+returns : tie.Need-returns-in-Absent
 returns c =
-    let t = c.before.before in
-    by_entries t.before.args.readings t.before.args.class t.entry_of.ensures c.enum_told.given.1 refl refl
+    let t = c.before in
+    by_entries t.args.readings t.args.class t.entry_of.ensures c.in-Absent.is refl refl
 
-returns-2 : tie.Need-returns-2
-returns-2 c =
-    let p = c.before.before in
-    let told = p.before.before in
-    let t = told.before.before in
-    let a = t.before.args in
-    by_entries a.readings a.class t.entry_of.ensures told.temperature-c.given.1 p.entry-of2.ensures c.enum-told2.given.1
+returns_2 : tie.Need-returns-in-Absent-entry_of
+returns_2 c =
+    let p = c.before in
+    let told = p.before in
+    let t = told.before in
+    let a = t.args in
+    by_entries a.readings a.class t.entry_of.ensures told.in-Present.is p.entry_of-in-Present.ensures c.in-Absent-entry_of.is
 
-returns-3 : tie.Need-returns-3
-returns-3 c =
-    let told' = c.before.before in
-    let p = told'.before.before in
-    let told = p.before.before in
-    let t = told.before.before in
-    let a = t.before.args in
-    c.next-from.ensures
-    ∙ by_entries a.readings a.class t.entry_of.ensures told.temperature-c.given.1 p.entry-of2.ensures told'.pressure-hpa.given.1
+returns_3 : tie.Need-returns-in-Present-entry_of
+returns_3 c =
+    let told' = c.before in
+    let p = told'.before in
+    let told = p.before in
+    let t = told.before in
+    let a = t.args in
+    c.next_from.ensures
+    ∙ by_entries a.readings a.class t.entry_of.ensures told.in-Present.is p.entry_of-in-Present.ensures told'.in-Present-entry_of.is
 
-pub next-with-spec : {M : Type 1} → statement M
-next-with-spec =
-    tie.close (tie.spec (λ c κs. search needs) (λ c. search needs) (λ c. search needs) (λ c κs. search needs) (λ c. search needs) (λ c. search needs)
-    (λ c κs. search needs) returns returns-2 returns-3)
+pub next_with_spec : {M : Type 1} → statement M
+next_with_spec =
+    tie.close (tie.spec (λ c κs. search rules)
+    (λ c. search rules)
+    (λ c. search rules)
+    (λ c κs. search rules)
+    (λ c. search rules)
+    (λ c. search rules)
+    (λ c κs. search rules)
+    returns
+    returns_2
+    returns_3)

@@ -1,5 +1,5 @@
 -- `vote::masts::vote` meets its contract: mast by mast, a refusal is the last word. Assumes nothing.
-use Rattle.vote.proofs.Kit.{◌≡◌, refl, sym, ap, ◌∙◌, List, ℕ, needs, Outcome, accepted, ◌⟫◌, checked, Readings, read_outcome, VoteOutcome, by_no_mast, accepted_readings, after_mast, vote, voted_outcome}
+use Rattle.vote.proofs.Kit.{◌≡◌, refl, sym, ap, ◌∙◌, List, ℕ, rules, Outcome, accepted, ◌⟫◌, checked, Readings, read_outcome, VoteOutcome, by_no_mast, accepted_readings, after_mast, vote, voted_outcome}
 use Rattle.refusal.specs.declared.Check.{Check}
 use Rattle.record.specs.declared.readings.Read.{Read}
 use Rattle.refusal.specs.declared.judge.Answer.{Answer}
@@ -13,44 +13,54 @@ mast : (n : ℕ) (s : List ℕ) (r : Read) {k : Check} (next : Readings → Vote
 mast n s r next e told = ap (λ (o : Outcome Readings). after_mast n o next) (ap (λ (k : Check). checked k ⟫ (λ _. accepted r.readings)) (sym told) ∙ e)
 
 -- what is left after the first mast, and after the second
-abbrev afterTwo : List ℕ → Readings → Readings → VoteOutcome
-afterTwo c r q = after_mast 3 (accepted_readings c) (λ p. by_no_mast (voted_outcome r q p))
+abbrev after_two : List ℕ → Readings → Readings → VoteOutcome
+after_two c r q = after_mast 3 (accepted_readings c) (λ p. by_no_mast (voted_outcome r q p))
 
-abbrev afterOne : List ℕ → List ℕ → Readings → VoteOutcome
-afterOne b c r = after_mast 2 (accepted_readings b) (afterTwo c r)
+abbrev after_one : List ℕ → List ℕ → Readings → VoteOutcome
+after_one b c r = after_mast 2 (accepted_readings b) (after_two c r)
 
-first : (c : tie.After-accepted-readings) {k : Check} → let a = c.before.before.before.before.args in let read = c.accepted-readings.result in
-    read.check ≡ k → after_mast 1 (checked k ⟫ (λ _. accepted read.readings)) (afterOne a.b.now a.c.now) ≡ vote a.a.now a.b.now a.c.now
+first : (c : tie.After-accepted_readings-first) {k : Check} → let a = c.args in let read = c.accepted_readings-first.result in
+    read.check ≡ k → after_mast 1 (checked k ⟫ (λ _. accepted read.readings)) (after_one a.b.now a.c.now) ≡ vote a.a.now a.b.now a.c.now
 unfolding vote
-first c told = let a = c.before.before.before.before.args in mast 1 a.a.now c.accepted-readings.result (afterOne a.b.now a.c.now) c.accepted-readings.ensures.0 told
+first c told = let a = c.args in mast 1 a.a.now c.accepted_readings-first.result (after_one a.b.now a.c.now) c.accepted_readings-first.ensures.0 told
 
-second : (c : tie.After-accepted-readings2) {k : Check} → let one = c.before.before.before in let a = one.before.before.before.before.args in let read = c.accepted-readings2.result in
-    read.check ≡ k → after_mast 2 (checked k ⟫ (λ _. accepted read.readings)) (afterTwo a.c.now one.accepted-readings.result.readings) ≡ vote a.a.now a.b.now a.c.now
+second : (c : tie.After-accepted_readings-second) {k : Check} → let one = c.before.before in let a = one.args in let read = c.accepted_readings-second.result in
+    read.check ≡ k → after_mast 2 (checked k ⟫ (λ _. accepted read.readings)) (after_two a.c.now one.accepted_readings-first.result.readings) ≡ vote a.a.now a.b.now a.c.now
 second c told =
-    let one = c.before.before.before in
-    let a = one.before.before.before.before.args in
-    mast 2 a.b.now c.accepted-readings2.result (afterTwo a.c.now one.accepted-readings.result.readings) c.accepted-readings2.ensures.0 told ∙ first one c.before.enum_told.given.1
+    let one = c.before.before in
+    let a = one.args in
+    mast 2 a.b.now c.accepted_readings-second.result (after_two a.c.now one.accepted_readings-first.result.readings) c.accepted_readings-second.ensures.0 told ∙ first one c.in_default.is
 
-third : (c : tie.After-accepted-readings3) {k : Check} → let two = c.before.before.before in let one = two.before.before.before in let a = one.before.before.before.before.args in
-    let read = c.accepted-readings3.result in let r = one.accepted-readings.result.readings in let q = two.accepted-readings2.result.readings in
+third : (c : tie.After-accepted_readings-third) {k : Check} → let two = c.before.before in let one = two.before.before in let a = one.args in
+    let read = c.accepted_readings-third.result in let r = one.accepted_readings-first.result.readings in let q = two.accepted_readings-second.result.readings in
     read.check ≡ k → after_mast 3 (checked k ⟫ (λ _. accepted read.readings)) (λ p. by_no_mast (voted_outcome r q p)) ≡ vote a.a.now a.b.now a.c.now
 third c told =
-    let two = c.before.before.before in
-    let one = two.before.before.before in
-    let a = one.before.before.before.before.args in
-    mast 3 a.c.now c.accepted-readings3.result (λ p. by_no_mast (voted_outcome one.accepted-readings.result.readings two.accepted-readings2.result.readings p)) c.accepted-readings3.ensures.0 told
-    ∙ second two c.before.enum-told2.given.1
+    let two = c.before.before in
+    let one = two.before.before in
+    let a = one.args in
+    mast 3 a.c.now c.accepted_readings-third.result (λ p. by_no_mast (voted_outcome one.accepted_readings-first.result.readings two.accepted_readings-second.result.readings p)) c.accepted_readings-third.ensures.0 told
+    ∙ second two c.in_default-check.is
 
-voted : (c : tie.After-vote-readings) {v : Answer} → let one = c.before.before.before.before.before.before.before.before.before in let a = one.before.before.before.before.args in
-    c.vote-readings.result ≡ v → by_no_mast (outcome v) ≡ vote a.a.now a.b.now a.c.now
-voted c told = ap by_no_mast (sym (ap outcome told) ∙ c.vote-readings.ensures) ∙ third c.before.before.before c.before.enum-told3.given.1
+voted : (c : tie.After-vote_readings) {v : Answer} → let a = c.args in
+    c.vote_readings.result ≡ v → by_no_mast (outcome v) ≡ vote a.a.now a.b.now a.c.now
+voted c told = ap by_no_mast (sym (ap outcome told) ∙ c.vote_readings.ensures) ∙ third c.before.before.before.before.before c.in_default-check-2.is
 
-pub vote-spec : {M : Type 1} → statement M
-vote-spec =
-    tie.close (tie.spec (λ c κs. search needs) (λ c. search needs) (λ c. (first c.before.before.before c.before.check.given.1, (refl, (refl, refl))))
-    (λ c. search needs) (λ c κs. search needs) (λ c. search needs)
-    (λ c. (second c.before.before.before c.before.check2.given.1, (refl, (refl, refl)))) (λ c. search needs) (λ c κs. search needs)
-    (λ c. search needs) (λ c. (third c.before.before.before c.before.check3.given.1, (refl, (refl, refl)))) (λ c. search needs)
-    (λ c κs. search needs) (λ c. search needs) (λ c. search needs)
-    (λ c. (voted c.before.before.before c.before.figures.given.1, (refl, (refl, refl))))
-    (λ c. (voted c.before.before.before c.before.refusal.given.1, (refl, (refl, refl)))))
+pub vote_spec : {M : Type 1} → statement M
+vote_spec =
+    tie.close (tie.spec (λ c κs. search rules)
+    (λ c. search rules)
+    (λ c. (first c.before c.in-Refused.is, (refl, (refl, refl))))
+    (λ c. search rules)
+    (λ c κs. search rules)
+    (λ c. search rules)
+    (λ c. (second c.before c.in-Refused-check.is, (refl, (refl, refl))))
+    (λ c. search rules)
+    (λ c κs. search rules)
+    (λ c. search rules)
+    (λ c. (third c.before c.in-Refused-check-2.is, (refl, (refl, refl))))
+    (λ c. search rules)
+    (λ c κs. search rules)
+    (λ c. search rules)
+    (λ c. search rules)
+    (λ c. (voted c.before c.in-Figures.is, (refl, (refl, refl))))
+    (λ c. (voted c.before c.in-Refused-vote_readings.is, (refl, (refl, refl)))))

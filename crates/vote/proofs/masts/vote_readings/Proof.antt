@@ -1,5 +1,5 @@
 -- `vote::masts::vote_readings` meets its contract. Assumes nothing.
-use Rattle.vote.proofs.Kit.{◌≡◌, sym, ap, ◌∙◌, Bool, cond, [], needs, refused, Readings, judged, any_not_in_all, voted, voted_outcome}
+use Rattle.vote.proofs.Kit.{◌≡◌, sym, ap, ◌∙◌, Bool, cond, [], rules, refused, Readings, judged, any_not_in_all, voted, voted_outcome}
 use Rattle.vote.proofs.masts.vote_readings.Statement.{statement}
 use Rattle.vote.proofs.masts.vote_readings.Tie as tie
 
@@ -7,14 +7,16 @@ tested : (a b c : Readings) {t : Bool} → any_not_in_all a b c ≡ t → cond t
 unfolding voted_outcome
 tested a b c e = ap (λ (t : Bool). cond t (refused 21 []) (judged (voted a b c))) (sym e)
 
-returns-2 : tie.Need-returns-2
-returns-2 c =
+returns_2 : tie.Need-returns
+returns_2 c =
     let test = c.before.before in
-    let a = test.before.before.args in
-    c.judge-readings.ensures ∙ ap judged c.before.voted.ensures ∙ tested a.a a.b a.c (sym test.before.any-not-in-all.ensures ∙ test.if1.false)
+    let a = test.args in
+    c.judge_readings.ensures ∙ ap judged c.voted.ensures ∙ tested a.a a.b a.c (sym test.any_not_in_all.ensures ∙ test.if-any_not_in_all.false)
 
-pub vote-readings-spec : {M : Type 1} → statement M
-vote-readings-spec =
-    tie.close (tie.spec (λ c κs. search needs)
-    (λ c. let a = c.before.before.args in tested a.a a.b a.c (sym c.before.any-not-in-all.ensures ∙ c.if1.true)) (λ c κs. search needs)
-    (λ c κs. search needs) returns-2)
+pub vote_readings_spec : {M : Type 1} → statement M
+vote_readings_spec =
+    tie.close (tie.spec (λ c κs. search rules)
+    (λ c. let a = c.args in tested a.a a.b a.c (sym c.any_not_in_all.ensures ∙ c.if-any_not_in_all.true))
+    (λ c κs. search rules)
+    (λ c κs. search rules)
+    returns_2)

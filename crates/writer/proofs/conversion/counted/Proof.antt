@@ -1,15 +1,19 @@
 -- `writer::conversion::counted` meets its contract. Assumes nothing.
-use Rattle.writer.proofs.Kit.{sym, ap, ◌∙◌, ℕ, needs, w32, SFits, to_z-of_z, Count, Other, counted_field}
+use Rattle.writer.proofs.Kit.{sym, ap, ◌∙◌, ℕ, rules, w32, SFits, to_z-of_z, Count, Other, counted_field}
 use Rattle.thousandths.specs.Thousandths.{twos_complement}
 use Rattle.writer.proofs.conversion.counted.Statement.{statement}
 use Rattle.writer.proofs.conversion.counted.Tie as tie
 
-returns : tie.Need-returns
+returns : tie.Need-returns-in-Count
 returns c =
-    let m = c.before.before.before.before.args.meaning in
-    let n = c.before.before.count.given.0.0 in
-    let fits : SFits w32 n = record { sfits = c.before.known-told.given.0.1 } in
-    ap (λ (word : ℕ). Other m (Count word)) (c.word-from.ensures ∙ ap twos_complement (to_z-of_z w32 n fits)) ∙ ap (counted_field m) (sym c.before.before.count.given.1)
+    let m = c.args.meaning in
+    let n = c.in-Count.n in
+    let fits : SFits w32 n = record { sfits = c.in-Count.known_told-1-own.given.0.1 } in
+    ap (λ (word : ℕ). Other m (Count word)) (c.word_from.ensures ∙ ap twos_complement (to_z-of_z w32 n fits)) ∙ ap (counted_field m) (sym c.in-Count.is)
 
 pub counted_spec : {M : Type 1} → statement M
-counted_spec = tie.close (tie.spec (λ c. search needs) (λ c κs. search needs) (λ c. search needs) returns (λ c. search needs))
+counted_spec = tie.close (tie.spec (λ c. search rules)
+    (λ c κs. search rules)
+    (λ c. search rules)
+    returns
+    (λ c. search rules))

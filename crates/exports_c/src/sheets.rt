@@ -1,0 +1,31 @@
+// The setting sheet.
+ghost use Rattle.std.specs.Prelude.{◌≡◌};
+ghost use Rattle.sheet.specs.Over.{over_or_left};
+ghost use Rattle.exports.specs.Lent.{status_of, values_after};
+ghost use Rattle.exports.specs.Sheets.{sheet_in};
+
+// Writes the setting sheet on the first 1,530 bytes of the page, or answers the refusal, 11 to 17, with
+// the value of 11, 12 or 13 in `lent`. A refusal leaves the page as it was, and so does 255, where `lent`
+// has no place.
+#[unsafe(no_mangle)]
+pub extern "C" fn station_air_setting_sheet(
+    altitude_m: f64,
+    pressure_hpa: f64,
+    humidity_percent: f64,
+    page: &mut [u8],
+    lent: &mut [f64],
+) -> u32
+    ensures value { result ≡ status_of (sheet_in lent.old altitude_m pressure_hpa humidity_percent page.old) }
+    ensures page_after { page.new
+        ≡ over_or_left page.old 0 (sheet_in lent.old altitude_m pressure_hpa humidity_percent page.old) }
+    ensures lent_after { lent.new
+        ≡ values_after lent.old (sheet_in lent.old altitude_m pressure_hpa humidity_percent page.old) }
+{
+    exports::sheets::station_air_setting_sheet(
+        altitude_m,
+        pressure_hpa,
+        humidity_percent,
+        page,
+        lent,
+    )
+}

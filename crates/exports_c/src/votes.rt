@@ -1,0 +1,31 @@
+// The vote of three masts.
+ghost use Rattle.std.specs.Prelude.{◌≡◌};
+ghost use Rattle.refusal.specs.Judged.{outcome};
+ghost use Rattle.vote.specs.Vote.{vote};
+ghost use Rattle.exports.specs.Lent.{with_room, status_of, left_in, figure_values, mark_or};
+ghost use Rattle.exports.specs.Votes.{mast_in};
+
+// What `station_air_judge` says of the voted record, or the refusal of the first mast whose record is
+// not accepted by itself, or 21. `mast` is then that mast's number, 1 to 3, and else 0. The records are
+// left as they were, and so is the mark by a refusal.
+#[unsafe(no_mangle)]
+pub extern "C" fn station_air_vote(
+    a: &[u8],
+    b: &[u8],
+    c: &[u8],
+    lent: &mut [f64],
+    in_range: &mut bool,
+    mast: &mut u32,
+) -> u32
+    ensures value { result ≡ status_of (with_room 8 lent.old (vote a.now b.now c.now).outcome) }
+    ensures lent_after { lent.new
+        ≡ left_in figure_values lent.old (with_room 8 lent.old (vote a.now b.now c.now).outcome) }
+    ensures in_range_after { in_range.new
+        ≡ mark_or in_range.old (with_room 8 lent.old (vote a.now b.now c.now).outcome) }
+    ensures mast_after { mast.new ≡ mast_in 8 lent.old mast.old (vote a.now b.now c.now) }
+    ensures a_value { a.now ≡ a.now }
+    ensures b_value { b.now ≡ b.now }
+    ensures c_value { c.now ≡ c.now }
+{
+    exports::votes::station_air_vote(a, b, c, lent, in_range, mast)
+}
