@@ -25,7 +25,7 @@ files() {
         echo "755 target/bin/$program bin/$program"
         echo "page man/$program.1 share/man/man1/$program.1"
     done
-    for text in NOTICE LICENSE-MIT LICENSE-APACHE docs/ASK.md docs/PARK.md docs/season.svg docs/RECORD.md; do
+    for text in NOTICE LICENSE-MIT LICENSE-APACHE docs/ASK.md docs/PARK.md docs/RECORD.md; do
         echo "644 $text $doc/${text##*/}"
     done
 }
@@ -33,7 +33,7 @@ files() {
 build() {
     examples/shared.sh
     for program in park station_air ask; do
-        [ -e "target/bin/$program" ] || rt check "$program"
+        [ -e "target/bin/$program" ] || scripts/program.sh "$program"
     done
 }
 

@@ -4,7 +4,7 @@
 set -euo pipefail
 cd "$(dirname "$0")/.."
 for program in ask load station_air; do
-    [ -e "target/bin/$program" ] || rt check "$program"
+    [ -e "target/bin/$program" ] || scripts/program.sh "$program"
 done
 mkdir -p target/bench
 work=$(mktemp -d target/bench/ask.XXXXXX)

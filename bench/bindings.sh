@@ -3,7 +3,7 @@
 set -euo pipefail
 cd "$(dirname "$0")/.."
 examples/shared.sh >&2
-[ -e target/bin/load ] || rt check load
+[ -e target/bin/load ] || scripts/program.sh load
 mkdir -p target/bench
 export CARGO_TARGET_DIR=target/cargo
 cargo build --offline --quiet --release --manifest-path rust/Cargo.toml

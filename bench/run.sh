@@ -3,7 +3,7 @@
 set -euo pipefail
 cd "$(dirname "$0")/.."
 for program in station_air load; do
-    [ -e "target/bin/$program" ] || rt check "$program"
+    [ -e "target/bin/$program" ] || scripts/program.sh "$program"
 done
 oracle/driver.sh
 target/oracle/driver bench

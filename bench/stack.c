@@ -107,7 +107,7 @@ static void draw_measured(void) {
     F(setting_sheet, 100, (void)0,                                                                                             \
       status = station_air_setting_sheet(altitude(), hectopascals(), percent(), out, sizeof out, places, 8))                   \
     F(report, 300, draw_record(0), status = station_air_report(OF_RECORD(0), page, sizeof page, &length))                      \
-    F(refusal_words, CALLS, (void)0, status = station_air_refusal_words((uint32_t)(word() % 24), page, sizeof page, &length))  \
+    F(refusal_words, CALLS, (void)0, status = station_air_refusal_words((uint32_t)(word() % 18), page, sizeof page, &length))  \
     F(for_density_altitude, CALLS, (void)0, status = station_air_for_density_altitude(altitude(), word() % 2, celsius(), places, 8)) \
     F(resolve_atmosphere_for_density_altitude, CALLS, (void)0,                                                                 \
       status = station_air_resolve_atmosphere_for_density_altitude(altitude(), word() % 2, celsius(), places, 8))              \

@@ -182,19 +182,6 @@ fn quickest(p: i128) -> f64 {
     (0..9).map(|_| nanoseconds(&[p], |p| antilog(*p))).fold(f64::INFINITY, f64::min)
 }
 
-/// How many of the calls drawn take half a log word's time more than the median: those that the squarings decide.
-fn share_of_squarings(random: &mut Random, of: impl Fn(f64) -> f64) {
-    let least = |f: &dyn Fn() -> f64| (0..15).map(|_| nanoseconds(&[()], |()| f())).fold(f64::INFINITY, f64::min);
-    let times: Vec<f64> = (0..20_000)
-        .map(|_| random.between(0.2, 2.0))
-        .map(|x| least(&|| of(black_box(x))))
-        .collect();
-    let word = least(&|| log_word(black_box(1.7)) as f64);
-    let middle = median(times.clone());
-    let slow = times.iter().filter(|time| **time > middle + word / 2.0).count();
-    println!("{:<42}{:>10.2}", "of 100 such calls the squarings decide", slow as f64 / 200.0);
-}
-
 fn whole_numbers(random: &mut Random) {
     let ratios = evenly(|| random.between(0.2, 2.0));
     let arguments = evenly(|| random.between(-5.0, 5.0));
@@ -231,7 +218,6 @@ fn whole_numbers(random: &mut Random) {
             |x| rules::power(places(), *x, exponent),
             |x| x.powf(exponent.q),
         );
-        share_of_squarings(random, |x| exports::power(x, number));
     }
     let exp = |x: &f64| exports::exp(*x);
     row(
@@ -243,7 +229,6 @@ fn whole_numbers(random: &mut Random) {
     );
     let ln = |x: &f64| exports::ln(*x);
     row("ln", &ratios, ln, |x| rules::ln(places(), *x), |x| x.ln());
-    share_of_squarings(random, |x| exports::ln(x));
     let sqrt = |x: &f64| exports::sqrt(*x);
     row("sqrt", &ratios, sqrt, |x| rules::sqrt(*x), |x| x.sqrt());
 }

@@ -1,27 +1,22 @@
 #!/usr/bin/env bash
 # Runs the examples of docs/PARK.md and compares. In an indented block, what stands below a line `park ..` is what is printed,
-# and a line `...` stands for any lines; a command alone is not run. Standard input is the file behind ` <`. In the table of
-# mistakes the second column is a command, the third a line that it prints, whose end may be left out, ` ..`.
+# and a line `...` stands for any lines; a command alone is not run. In the table of mistakes the second column is a
+# command, the third a line that it prints, whose end may be left out, ` ..`.
 #
 #     examples/park_document.sh                                 # holds target/bin/park to the document
-#     examples/park_document.sh python3 vectors/table.py print  # holds the document to the oracle
+#     examples/park_document.sh python3 vectors/park.py print   # holds the document to the oracle
 set -euo pipefail
 cd "$(dirname "$0")/.."
 if [ $# -eq 0 ]; then
-    [ -e target/bin/park ] || rt check park >&2
+    [ -e target/bin/park ] || scripts/program.sh park >&2
     set -- target/bin/park
 fi
 program=("$@") ran=0 differ=0
 
-# what a command prints, on standard error too; its words are quoted as in a shell
+# what a command prints; its words are quoted as in a shell
 said() {
-    local words=${1#park} input=/dev/null
-    if [[ $words == *' <'* ]]; then
-        input=${words#* <}
-        words=${words%% <*}
-    fi
-    eval "set -- $words"
-    "${program[@]}" "$@" <"$input" 2>&1
+    eval "set -- ${1#park}"
+    "${program[@]}" "$@"
 }
 
 # counts an example, and shows it where it is not as expected
@@ -51,8 +46,7 @@ while IFS= read -r line; do
         pattern+='*'
     elif [[ $line == '    '* && -n $command ]]; then
         text=${line#    }
-        text=${text//\\/\\\\}
-        pattern+=${text//[/\\[}$'\n'
+        pattern+=${text//\\/\\\\}$'\n'
     else
         block
         command=

@@ -13,7 +13,7 @@ fi
 file=$(realpath "$1")
 shift
 cd "$(dirname "$0")/.."
-[ -e target/bin/park ] || rt check park >&2
+[ -e target/bin/park ] || scripts/program.sh park >&2
 page=$(target/bin/park sheet "$@")
 if [[ $page != 'setting sheet'* ]]; then
     echo "$page" >&2

@@ -1,7 +1,7 @@
 """Runs station_air on damaged records and on broken descriptors: it ends with status 0 in good time, and prints the oracle's answer to what it
 could read, or nothing where it cannot write.
 
-fuzz.py [RUNS [SEED]], from the repository's root, after `rt check station_air` and `oracle/build.sh`.
+fuzz.py [RUNS [SEED]], from the repository's root, after `scripts/program.sh station_air` and `oracle/build.sh`.
 """
 import os
 import re

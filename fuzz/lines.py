@@ -1,7 +1,7 @@
 """Runs ask on damaged lines, whole and in pieces, and on broken descriptors: it ends in good time, and answers as vectors/ask.py does, or
 says nothing where it cannot write.
 
-lines.py [LINES [SEED]], from the repository's root, after `rt check ask` and `oracle/build.sh`. The lines are those of the lists, most of
+lines.py [LINES [SEED]], from the repository's root, after `scripts/program.sh ask` and `oracle/build.sh`. The lines are those of the lists, most of
 them with other digits, bytes, words or lengths.
 """
 import subprocess

@@ -16,11 +16,12 @@
  * memcpy and memset, so several threads may call at once, each with lent arrays and numbers of its
  * own. Every call ends.
  *
- * Stack, at most, a quarter above what bench/stack.sh measures: 6 kB for station_air_report and
- * station_air_vote; 4 kB for station_air_setting_sheet; 3 kB for the two judges, station_air_next_trim_class
- * and station_air_refusal_words; 256 bytes for station_air_trim_class, station_air_keeps_pressure,
- * station_air_keeps_temperature, station_air_exp, station_air_ln, station_air_sqrt, station_air_log_word,
- * station_air_antilog and station_air_version; 2 kB for all others.
+ * Stack, at most, a quarter above what bench/stack.sh measures: 18 kB for station_air_report; 17 kB for
+ * station_air_vote; 15 kB for the two judges, station_air_next_trim_class and station_air_setting_sheet; 3 kB
+ * for station_air_refusal_words; 2 kB for what reads, writes or converts a record and for
+ * station_air_load_record; 256 bytes for station_air_trim_class,
+ * station_air_keeps_pressure, station_air_keeps_temperature, station_air_ln, station_air_log_word,
+ * station_air_sqrt and station_air_version; 13 kB for all others.
  *
  * Time, on one core of a server: a judgement takes about a microsecond, a vote some four, a setting sheet
  * some fifty, station_air_next_trim_class and station_air_report up to a millisecond; every other call a
@@ -61,7 +62,7 @@ extern "C" {
 #endif
 
 /* Grows whenever a function is added, or an answer to some call can differ from before. */
-#define STATION_AIR_VERSION 8
+#define STATION_AIR_VERSION 7
 
 /* The version of the archive: where it is not STATION_AIR_VERSION, header and archive are not of one
  * build. */
@@ -122,7 +123,7 @@ enum station_air_status {
     STATION_AIR_FIELD_NOT_IN_ALL = 21,
     /* an accepted record has no temperature or no measured station pressure */
     STATION_AIR_NO_READING_TO_CHANGE = 22,
-    /* no refusal: a number that no refusal has is asked for its words, and nothing is written */
+    /* no refusal: a number has no words, and nothing is written */
     STATION_AIR_NO_WORDS = 253,
     /* no refusal: a reading's form is unknown, and nothing is written */
     STATION_AIR_UNKNOWN_FORM = 254,
@@ -347,10 +348,10 @@ uint32_t station_air_report(const uint8_t *record, size_t record_length, uint8_t
                             size_t *length);
 
 /* Writes what is said of a refusal to the start of `page`, in the words of a report, by its number: a line
- * `cause: ..` and a line `what to do: ..`, in ASCII, each with a newline and no 0 byte after them. Every
- * refusal, 1 to 22, has words. 0: `length` points to a number that is set to how many bytes they have. 16: the
- * page has fewer than 236 bytes, whatever the number. 253: any other number. Every status but 0 leaves page
- * and `length` as they were, and 0 the bytes after the words. */
+ * `cause: ..` and a line `what to do: ..`, in ASCII, each with a newline and no 0 byte after them. Words have
+ * 1 to 15 and 17, which a record or a setting sheet can be refused by. 0: `length` points to a number that is
+ * set to how many bytes they have. 16: the page has fewer than 236 bytes, whatever the number. 253: any other
+ * number. Every status but 0 leaves page and `length` as they were, and 0 the bytes after the words. */
 uint32_t station_air_refusal_words(uint32_t number, uint8_t *page, size_t page_length, size_t *length);
 
 /* The station whose air has a density altitude by the FAA's rule, with the temperature that is given

@@ -5,7 +5,7 @@ set -euo pipefail
 here=$(cd "$(dirname "$0")" && pwd)
 root=$(dirname "$here")
 "$here/build.sh"
-[ -e "$root/target/bin/load" ] || (cd "$root" && rt check load)
+[ -e "$root/target/bin/load" ] || "$root/scripts/program.sh" load
 "$root/target/bin/load" >"$root/target/oracle/load_ours.txt"
 "$root/target/oracle/oracle" load >"$root/target/oracle/load_theirs.txt"
 cmp "$root/target/oracle/load_ours.txt" "$root/target/oracle/load_theirs.txt"

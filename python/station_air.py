@@ -19,7 +19,7 @@ from pathlib import Path
 from typing import NamedTuple
 
 # STATION_AIR_VERSION of include/station_air.h
-VERSION = 8
+VERSION = 7
 
 # the readings by tag, 01 to 07: m, °C, hPa, hPa, percent, m, hPa
 READINGS = ("altitude", "temperature", "station_pressure", "qnh", "humidity", "density_altitude", "measured_pressure")
@@ -71,7 +71,6 @@ FIGURES = 8
 BYTES_AT_MOST = 77
 # beside two for each byte of the record
 REPORT_BYTES_AT_MOST = 2842
-WORDS_BYTES_AT_MOST = 236
 VALUES = {1: 1, 2: 1, 3: 1, 4: 2, 11: 1, 12: 1, 13: 1}
 
 
@@ -109,7 +108,6 @@ _READ_ARGUMENTS = (ctypes.c_char_p, _SIZE, *[_ADDRESS, _SIZE] * 3)
 _read = _function("station_air_read", *_READ_ARGUMENTS)
 _read_strictly = _function("station_air_read_strictly", *_READ_ARGUMENTS)
 _report = _function("station_air_report", ctypes.c_char_p, _SIZE, _ADDRESS, _SIZE, _ADDRESS)
-_refusal_words = _function("station_air_refusal_words", ctypes.c_uint32, _ADDRESS, _SIZE, _ADDRESS)
 _trim_class = _function("station_air_trim_class", ctypes.c_double)
 if _function("station_air_version")() != VERSION:
     raise ImportError(f"{_LIBRARY._name} is another version than {VERSION}")
@@ -177,13 +175,6 @@ def report(record):
     page, length = (ctypes.c_char * room)(), ctypes.c_size_t()
     _report(record, len(record), _at(page), room, _at(length))
     return page[: length.value].decode("ascii")
-
-
-def refusal_words(number):
-    """The cause of a refusal and what to do, a line each, by its number; None where that is no refusal's."""
-    page, length = (ctypes.c_char * WORDS_BYTES_AT_MOST)(), ctypes.c_size_t()
-    status = _refusal_words(number, _at(page), WORDS_BYTES_AT_MOST, _at(length))
-    return None if status else page[: length.value].decode("ascii")
 
 
 def trim_class(density_kg_m3):

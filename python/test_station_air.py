@@ -4,19 +4,16 @@
 """
 
 import math
-import re
 import struct
 import unittest
 from array import array
 from pathlib import Path
 
 import station_air
-from station_air import Count, Refused, figures_of_columns, judge, judge_strictly, read, read_strictly
-from station_air import refusal_words, report, trim_class, write
+from station_air import Count, Refused, figures_of_columns, judge, judge_strictly, read, read_strictly, report, trim_class, write
 
 UNREADABLE = {f"refused {number}" for number in (5, 6, 7, 8)}
-REPOSITORY = Path(__file__).resolve().parent.parent
-FOLDER = REPOSITORY / "crates" / "ask"
+FOLDER = Path(__file__).resolve().parent.parent / "crates" / "ask"
 
 
 def answers():
@@ -160,17 +157,6 @@ class Lists(unittest.TestCase):
         except ImportError:
             self.skipTest("NumPy is not there")
         self.assertIsInstance(self.columns(numpy.array).density_kg_m3, numpy.ndarray)
-
-
-class Words(unittest.TestCase):
-    def test_refusal_words(self):
-        page = (REPOSITORY / "docs" / "RECORD.md").read_text("utf-8")
-        table = re.findall(r"^\| (\d+) \| (.+) \| (.+) \|$", page.split("## Refusals")[1], re.MULTILINE)
-        self.assertEqual([int(number) for number, _, _ in table], list(range(1, 23)))
-        for number, cause, to_do in table:
-            self.assertEqual(refusal_words(int(number)), f"cause: {cause}\nwhat to do: {to_do}\n")
-        self.assertIsNone(refusal_words(0))
-        self.assertIsNone(refusal_words(23))
 
 
 class Arguments(unittest.TestCase):

@@ -8,10 +8,9 @@ import glob
 import re
 
 PROMISES = [
-    ("the C interface", [("exports", None)]),
+    ("the C interface", [("exports_c", None)]),
     ("`station_air`", [("text", "asked_for"), ("text", "put_asked")]),
     ("`park`", [("park_text", "put_park_text")]),
-    ("`park table`", [("table", name) for name in ("read_heading", "put_heading_problem", "put_first_line", "put_rows", "put_summary")]),
     ("`ask`", [("lines", "put_line_answer")]),
 ]
 
@@ -31,12 +30,12 @@ def imported(lines, ghost):
         m = re.match(r"(?:ghost |pub )?use (\S+?)(?:\.\{(.*)\})?(?: as (\S+?))?;?$", line.strip())
         if not m or line.startswith("ghost") != ghost:
             continue
-        module = re.sub(r"·(specs|proofs)\.", ".", m[1])
+        module = m[1]
         if m[2] is None:
             modules[m[3] or module.split(".")[-1]] = module
         else:
             for name in m[2].split(","):
-                names[name.strip().strip("_")] = (module, name.strip())
+                names[name.strip().strip("◌")] = (module, name.strip())
     return names, modules
 
 
@@ -56,13 +55,13 @@ class File:
             if current and not line.strip().startswith("--"):
                 self.items[current].append(line)
         for name in self.items:
-            self.names[name.strip("_")] = (module, name)
+            self.names[name.strip("◌")] = (module, name)
 
 
 files = {}
 for path in glob.glob("crates/*/specs/**/*.antt", recursive=True):
     parts = path[:-5].split("/")
-    files["Rattle·" + ".".join(parts[1:])] = File(path, "Rattle·" + ".".join(parts[1:]))
+    files["Rattle." + ".".join(parts[1:])] = File(path, "Rattle." + ".".join(parts[1:]))
 
 
 def cited(text, names, modules):
@@ -81,15 +80,15 @@ def closure(start):
     seen, left = set(), list(start)
     while left:
         module, name = left.pop()
-        if (module, name) in seen or not module.startswith("Rattle·"):
+        if (module, name) in seen or not module.startswith("Rattle."):
             continue
         seen.add((module, name))
         file = files.get(module)
         if file and name in file.items:
             left += cited("\n".join(file.items[name]), file.names, file.modules)
-        elif file and name.strip("_") in file.names:
+        elif file and name.strip("◌") in file.names:
             # passed on by `pub use`
-            left.append(file.names[name.strip("_")])
+            left.append(file.names[name.strip("◌")])
     return seen
 
 
@@ -119,5 +118,5 @@ print("| what is promised | lines of definitions | files | types of the code |")
 print("|---|---|---|---|")
 for what, entries in PROMISES:
     printed(what, set().union(*(contracts(c, f) for c, f in entries)))
-printed("demand 3", {("Rattle·promises.specs.Promises", "Demand3")})
-printed("the page of promises", {("Rattle·promises.specs.Promises", "Promises")})
+printed("demand 3", {("Rattle.promises.specs.Promises", "Demand3")})
+printed("the page of promises", {("Rattle.promises.specs.Promises", "Promises")})

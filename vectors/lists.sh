@@ -1,7 +1,6 @@
 #!/usr/bin/env bash
-# Makes the lists again: the questions in crates/ask/stdin and crates/ask_functions/stdin, the oracle's answers in stdout beside them, the
-# bounds in vectors/bounds, and the table of crates/park_table; then holds the answers to the bounds. The source's folder is SOURCE_DIR, or
-# as for oracle/build.sh.
+# Makes the lists again: the questions in crates/ask/stdin and crates/ask_functions/stdin, the oracle's answers in stdout beside them, and
+# the bounds in vectors/bounds; then holds the answers to the bounds. The source's folder is SOURCE_DIR, or as for oracle/build.sh.
 # Needs a Rust compiler, and a Python with mpmath; and for the bounds outside_* one with iapws and fluids, or they stay as they are.
 set -euo pipefail
 cd "$(dirname "$0")/.."
@@ -23,5 +22,4 @@ for python in python3 /usr/bin/python3 none; do
     fi
 done
 python3 vectors/lists.py "$lists"
-python3 vectors/table.py gate
 python3 vectors/within.py

@@ -19,8 +19,7 @@ from typing import NamedTuple
 
 import oracle
 import report
-from report import ALTITUDE, DENSITY, DENSITY_ALTITUDE, HUMIDITY, MEASURED, PRESSURE_SOURCES, QNH, STATION, TEMPERATURE
-from report import Asked, decimal, text_of, words_on
+from report import ALTITUDE, DENSITY, DENSITY_ALTITUDE, HUMIDITY, MEASURED, QNH, STATION, TEMPERATURE, Asked, decimal, text_of, words_on
 from words import in_both_cases, question, save
 
 DOCUMENT = Path(__file__).resolve().parent.parent / "docs/PARK.md"
@@ -184,6 +183,7 @@ ROWS = range(-10, 41)
 # of the figures: place, decimals, width
 COLUMNS = [(1, 1, 6), (DENSITY, 4, 7), (4, 1, 6), (6, 0, 7)]
 TOO_WIDE = 17
+PRESSURE_SOURCES = STATION, QNH, MEASURED
 
 
 def is_no_sheet(readings):

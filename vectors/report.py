@@ -40,8 +40,6 @@ FIGURES = [
 ]
 DENSITY = 3
 
-PRESSURE_SOURCES = STATION, QNH, MEASURED
-
 # cause, what to do: docs/RECORD.md
 REFUSALS = {
     1: ("density altitude not finite", "the sender computed it from a missing reading: mend that"),
@@ -174,17 +172,8 @@ def air(altitude, celsius, hpa, humidity):
     return {ALTITUDE: altitude, TEMPERATURE: celsius, HUMIDITY: humidity or 0.0, MEASURED: hpa}
 
 
-def asked_of_tests(readings, altitude):
-    """The oracle's questions for the tests of the notes, by what they are needed for."""
-    return {
-        "temperature": words.question("resolve_station_temperature", given(readings, TEMPERATURE) or 0.0, altitude),
-        "pressure": words.question("resolve_station_pressure", given(readings, STATION) or 1.0, altitude),
-        "standard": words.question("calculate_icao_standard_atmosphere", altitude),
-    }
-
-
 def asked_of(readings, figures):
-    """The oracle's questions for the next class and the notes, likewise."""
+    """The oracle's questions for the next class and the notes, by what they are needed for."""
     altitude, celsius, hpa = figures[:3]
     humidity = given(readings, HUMIDITY)
     t, p = given(readings, TEMPERATURE), given(readings, STATION)
@@ -194,7 +183,9 @@ def asked_of(readings, figures):
     return {
         "next class": f"class {words.record(record_of(searched))}",
         "as given": f"judge {words.record(record_of(as_given))}",
-        **asked_of_tests(readings, altitude),
+        "temperature": words.question("resolve_station_temperature", t or 0.0, altitude),
+        "pressure": words.question("resolve_station_pressure", p or 1.0, altitude),
+        "standard": words.question("calculate_icao_standard_atmosphere", altitude),
         "standard in feet": words.question("calculate_icao_standard_atmosphere", 0.3048 * altitude),
         "reduced": words.question("reduce_qnh_to_station_pressure", given(readings, STATION, MEASURED) or 1.0, altitude),
         "QNH from kPa": words.question("reduce_qnh_to_station_pressure", KILOPASCAL * (given(readings, QNH) or 1.0), altitude),
@@ -226,52 +217,21 @@ def is_plausible(hpa, standard_pa):
     return LEAST_RATIO <= 100 * hpa / standard_pa <= GREATEST_RATIO
 
 
-# ---- the tests of the notes
-def has_default(readings, tag, resolved):
-    """Whether this reading counts as that of a mast that is not set up, by the oracle's answer."""
-    return DENSITY_ALTITUDE not in readings and tag in readings and resolved == "none\n"
-
-
-def has_no_pressure(readings):
-    return not readings.keys() & {DENSITY_ALTITUDE, *PRESSURE_SOURCES}
-
-
-def is_doubtful(readings, hpa, standard_pa):
-    return bool(readings.keys() & {*PRESSURE_SOURCES}) and not is_plausible(hpa, standard_pa)
-
-
-def is_compared_temperature(celsius):
-    return -40 <= celsius <= 50
-
-
-def is_compared_altitude(metres):
-    return -500 <= metres <= 5000
-
-
-def is_like_a_fraction(readings):
-    return HUMIDITY in readings and 0 < given(readings, HUMIDITY) <= 1
-
-
-def is_at_limit(density):
-    number = trim_class(density)
-    return number < len(CLASS_DENSITIES) and decimal(density, 4) == decimal(CLASS_DENSITIES[number], 4)
-
-
-# ---- the notes
 def default_notes(readings, figures, said):
     """What stands in for a reading in its default band, or for one that is not given."""
     _, celsius, hpa = figures[:3]
     t, p = given(readings, TEMPERATURE), given(readings, STATION)
+    by_density_altitude = DENSITY_ALTITUDE in readings
     as_given = air_as_given(judged(said["as given"]))
-    if has_default(readings, TEMPERATURE, said["temperature"]):
+    if not by_density_altitude and t is not None and said["temperature"] == "none\n":
         mast = f"temperature {shown(t, 3)} C counts as that of a mast that is not set up, 14.9 to 15.1 C"
         yield f"note: {mast}: the standard atmosphere's {shown(celsius, 3)} C is used; as given: {as_given}"
-    if has_default(readings, STATION, said["pressure"]):
+    if not by_density_altitude and p is not None and said["pressure"] == "none\n":
         mast = f"station pressure {shown(p, 3)} hPa counts as that of a mast that is not set up, 1012.75 to 1013.75 hPa"
         yield f"note: {mast}: the standard atmosphere's {shown(hpa, 3)} hPa is used; as given: {as_given}"
     if t is None:
         yield f"note: no temperature is given: the standard atmosphere's {shown(celsius, 3)} C is used"
-    if has_no_pressure(readings):
+    if not by_density_altitude and given(readings, STATION, QNH, MEASURED) is None:
         yield f"note: no pressure is given: the standard atmosphere's {shown(hpa, 3)} hPa is used"
     if HUMIDITY not in readings:
         yield "note: no humidity is given: dry air is used"
@@ -283,7 +243,7 @@ def pressure_notes(readings, figures, said):
     p, q = given(readings, STATION, MEASURED), given(readings, QNH)
     pressure = q if p is None else p
     standard, standard_in_feet = value(said["standard"]), value(said["standard in feet"])
-    if not is_doubtful(readings, hpa, standard):
+    if pressure is None or is_plausible(hpa, standard):
         return
     ratio = shown(100 * hpa / standard, 3)
     there = f"the standard pressure at {shown(altitude, 1)} m, {shown(standard / 100, 3)} hPa"
@@ -304,15 +264,15 @@ def range_notes(readings, figures):
     """What lies outside the range over which the figures were compared with the source, and what it may be."""
     altitude, celsius = figures[:2]
     t, x = given(readings, TEMPERATURE), given(readings, ALTITUDE, DENSITY_ALTITUDE)
-    if not is_compared_temperature(celsius):
+    if not -40 <= celsius <= 50:
         yield f"note: {shown(celsius, 3)} C is outside -40 to 50 C, over which the figures were compared with the source"
-        if t is not None and is_compared_temperature((t - 32) * 5 / 9):
+        if t is not None and -40 <= (t - 32) * 5 / 9 <= 50:
             yield f"try: temperature={shown(t, 3)}F if it is in degrees Fahrenheit"
-        if t is not None and is_compared_temperature(t - 273.15):
+        if t is not None and -40 <= t - 273.15 <= 50:
             yield f"try: temperature={shown(t, 3)}K if it is in kelvins"
-    if not is_compared_altitude(altitude):
+    if not -500 <= altitude <= 5000:
         yield f"note: {shown(altitude, 1)} m is outside -500 to 5000 m, over which the figures were compared with the source"
-        if is_compared_altitude(0.3048 * x):
+        if -500 <= 0.3048 * x <= 5000:
             yield f"try: {'altitude' if ALTITUDE in readings else 'density-altitude'}={shown(x, 3)}ft if it is in feet"
 
 
@@ -321,9 +281,9 @@ def other_notes(asked, figures):
     number = trim_class(density)
     if asked.point:
         yield f"note: the altitude was read as {shown(altitude, 3)} m: the point marks decimals, leave it out if it was meant for thousands"
-    if is_like_a_fraction(asked.readings):
+    if u is not None and 0 < u <= 1:
         yield f"note: humidity {shown(u, 3)} percent is nearly dry air: type humidity={shown(100 * u, 3)} if it was a fraction"
-    if is_at_limit(density):
+    if number < len(CLASS_DENSITIES) and decimal(density, 4) == decimal(CLASS_DENSITIES[number], 4):
         limit = decimal(CLASS_DENSITIES[number], 4)
         yield f"note: the density is below {limit} kg/m3 by less than four decimals show: its class is {number}"
     if not {TEMPERATURE, MEASURED} <= asked.readings.keys():

@@ -1,5 +1,5 @@
 /* The program of a controller that sets trim brakes: it takes the records of three masts, sets the class of
- * the air that they vote for, and says in words why it cannot. Four rounds stand in for the line. */
+ * the air that they vote for, and says in words why it cannot. Three rounds stand in for the line. */
 #include "station_air.h"
 
 #include <inttypes.h>
@@ -36,13 +36,9 @@ static void set_trim(const struct mast *a, const struct mast *b, const struct ma
                                        STATION_AIR_VOTE_PLACES, &in_range, &mast);
     if (status != STATION_AIR_FIGURES) {
         uint8_t words[STATION_AIR_REFUSAL_WORDS_BYTES_AT_MOST];
-        size_t length = 0; /* a status that is no refusal leaves it */
+        size_t length = 0; /* a number without words leaves it */
         station_air_refusal_words(status, words, sizeof words, &length);
-        printf("class kept: ");
-        if (mast != 0) {
-            printf("mast %" PRIu32 " ", mast);
-        }
-        printf("refused by %" PRIu32 "\n%.*s", status, (int)length, (const char *)words);
+        printf("class kept: mast %" PRIu32 " refused by %" PRIu32 "\n%.*s", mast, status, (int)length, (const char *)words);
         return;
     }
     double density = places[STATION_AIR_DENSITY_KG_M3];
@@ -59,8 +55,5 @@ int main(void) {
     set_trim(&good, &warm, &cold);
     set_trim(&cold, &cold, &good);
     set_trim(&good, &broken, &warm);
-    struct mast blind = good;
-    blind.length -= 7; /* without its last field, the pressure */
-    set_trim(&good, &warm, &blind);
     return 0;
 }

@@ -379,7 +379,7 @@ static void refusal_words(void) {
     expect(station_air_refusal_words(0, page, STATION_AIR_REFUSAL_WORDS_BYTES_AT_MOST - 1, &length)
                == STATION_AIR_PAGE_TOO_SHORT,
            "words, a byte too few, whatever the number");
-    const uint32_t without[] = {0, 23, 24, 253, 254, 255, 257, 273, UINT32_MAX};
+    const uint32_t without[] = {0, 16, 18, 19, 20, 21, 22, 23, 253, 254, 255, 257, 273, UINT32_MAX};
     for (size_t i = 0; i < sizeof without / sizeof *without; i++) {
         expect(station_air_refusal_words(without[i], page, sizeof page, &length) == STATION_AIR_NO_WORDS,
                "a number without words");
@@ -389,15 +389,11 @@ static void refusal_words(void) {
                    == STATION_AIR_FIGURES
                && stands(page, length, "cause: neither altitude nor density altitude\nwhat to do: set the mast's altitude\n"),
            "the words of 10");
-    expect(station_air_refusal_words(STATION_AIR_TAG_FALLS, page, sizeof page, &length) == STATION_AIR_FIGURES
-               && stands(page, length,
-                         "cause: a tag below the one before it\nwhat to do: mend the sender, or use the reader that takes any order\n"),
-           "the words of 19");
-    for (uint32_t n = 1; n <= 22; n++) {
+    for (uint32_t n = 1; n <= 17; n++) {
         memset(page, 0xAA, sizeof page);
-        expect(station_air_refusal_words(n, page, sizeof page, &length) == STATION_AIR_FIGURES
-                   && memcmp(page, "cause: ", 7) == 0 && page[length - 1] == '\n' && page[length] == 0xAA,
-               "the words of 1 to 22");
+        expect(n == 16 || (station_air_refusal_words(n, page, sizeof page, &length) == STATION_AIR_FIGURES
+                           && memcmp(page, "cause: ", 7) == 0 && page[length - 1] == '\n' && page[length] == 0xAA),
+               "the words of 1 to 15 and 17");
     }
 }
 

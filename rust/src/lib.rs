@@ -50,7 +50,7 @@ pub use sheet::setting_sheet;
 /// The version of the library that is linked, `STATION_AIR_VERSION` of its header: the first number of this crate's.
 ///
 /// ```
-/// assert_eq!(station_air::version(), 8);
+/// assert_eq!(station_air::version(), 7);
 /// ```
 pub fn version() -> u32 {
     // SAFETY: it takes nothing.

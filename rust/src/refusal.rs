@@ -125,8 +125,8 @@ impl Refusal {
         }
     }
 
-    /// The cause and what to do, a line each, as [`report`](crate::report) has them; none of a number that the library
-    /// does not know.
+    /// The cause and what to do, a line each, as [`report`](crate::report) has them; none of causes that a record or a
+    /// setting sheet cannot have.
     ///
     /// ```
     /// assert_eq!(
@@ -176,11 +176,11 @@ impl fmt::Display for Refusal {
             Self::HumidityOutOfRange(_) => "humidity below 0 or above 100 percent",
             Self::TooMuchVapor => "more water vapour than there is air",
             Self::NotAir => "a figure not finite, or pressure, density or sound speed not above 0",
-            Self::TooWide => "a figure wider than its column",
-            Self::TagFalls => "a tag below the one before it",
-            Self::NoCount => "no count gives exactly this double",
-            Self::FieldNotInAll => "a reading in one or two of the three records",
-            Self::NoReadingToChange => "no temperature or no measured pressure",
+            Self::TooWide => "setting sheet: a figure wider than its column",
+            Self::TagFalls => "strict reader: a tag below the one before",
+            Self::NoCount => "to counts: no count gives exactly this double",
+            Self::FieldNotInAll => "vote: a reading in one or two of the records",
+            Self::NoReadingToChange => "trim class: no temperature or no measured pressure",
             Self::Other(number) => return write!(f, "refused {number}"),
         })
     }

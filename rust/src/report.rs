@@ -36,7 +36,7 @@ pub fn report(record: &[u8]) -> String {
     text(page, length)
 }
 
-/// The cause of a refusal and what to do, by its number; none where that is no refusal's.
+/// The cause of a refusal and what to do, by its number; none where it has no words.
 pub(crate) fn words(number: u32) -> Option<String> {
     let mut page = vec![0; WORDS];
     let mut length = 0;
