@@ -20,5 +20,5 @@ while read -r crate; do
     lines=$(find "crates/$crate/specs" -name '*.antt' -exec cat {} + 2>/dev/null | grep -cvE '^(pub )?use ' || true)
     edits=$(grep -c "^rt: must-fail $crate/.*: refused, as it must be" "$log" || true)
     echo "| \`$crate\` | $functions | $lines | $edits |"
-done < <(grep -o '^[a-z_]*:' crates.txt | tr -d ':')
+done < <(grep -oE '^[a-z_]+( staticlib)?:' crates.txt | sed 's/ staticlib//; s/://')
 echo "reach axioms:$reaching"

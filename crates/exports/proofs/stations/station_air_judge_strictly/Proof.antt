@@ -5,11 +5,7 @@ use Rattle.exports.proofs.stations.station_air_judge_strictly.Statement.{stateme
 use Rattle.exports.proofs.stations.station_air_judge_strictly.Tie as tie
 
 returns_2 : tie.Need-returns
-returns_2 c =
-    let put = c.before.before in
-    let judged = put.before in
-    let left = put.put_answer.ensures in
-    rw (roomy 8 _ judged.if-lent-lt8.false, ← judged.judge_strictly.ensures.0) (left.0, (left.1.0, (left.1.1, refl)))
+returns_2 c = rw (roomy 8 _ c.if-lent-lt8.false) (cc, (cc, (cc, refl)))
 
 pub station_air_judge_strictly_spec : {M : Type 1} → statement M
 station_air_judge_strictly_spec = tie.close (tie.spec (λ c. rw (short 8 _ c.if-lent-lt8.true) (refl, (refl, (refl, refl))))
