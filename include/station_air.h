@@ -8,12 +8,12 @@
  * functions here and in station_air_rules.h. Where nothing else is said, a NaN among the numbers
  * gives NaN.
  *
- * Needed: x86-64 with the System V calls of Linux, and the floating-point environment that a program
- * starts with: rounding to nearest, subnormals not flushed to 0, exceptions masked. The functions do
- * not set it. A `bool` is true or false, in C 1 or 0.
+ * Needed: a processor of x86-64-v2 (with SSE4.2 and POPCNT) under the System V calls of Linux, and the
+ * floating-point environment that a program starts with: rounding to nearest, subnormals not flushed to
+ * 0, exceptions masked. The functions do not set it. A `bool` is true or false, in C 1 or 0.
  *
  * Given: no function allocates, keeps anything from one call to the next, or calls anything but
- * memcpy and memset, so several threads may call at once, each with lent arrays and numbers of its
+ * memcpy, memmove and memset, so several threads may call at once, each with lent arrays and numbers of its
  * own. Every call ends.
  *
  * Stack, at most, a quarter above what bench/stack.sh measures: 18 kB for station_air_report; 17 kB for

@@ -19,7 +19,7 @@
 //!
 //! [`atmosphere`] has the functions of the published module that this is a port of, with its names and signatures.
 //!
-//! The proved code is a static or shared library, x86-64 only. `build.rs` finds it in the folder that the variable
+//! The proved code is a static or shared library, x86-64-v2 only. `build.rs` finds it in the folder that the variable
 //! `STATION_AIR_LIB_DIR` names, or in the repository's own build. It computes in the floating-point environment that a
 //! program starts with, allocates nothing and keeps nothing, so any thread may call at any time.
 #![deny(missing_docs)]
