@@ -1,10 +1,9 @@
 -- No refusal of a record or of a density altitude hands out more than two values. Assumes nothing.
+use Rattle.std.specs.Prelude.{None, Option, Some}
 use Rattle.arithmetic.proofs.Kit.{Bool, true, false, cond, List, [], ◌∷◌, ◌++◌, ℕ, ◌≤◌, lit≤, Float, length}
 use Rattle.arithmetic.specs.Places.{places}
 use Rattle.refusal.specs.Outcomes.{Outcome, accepted, refused, ◌⟫◌, Row, ◌then◌}
 use Rattle.fields.specs.Fields.{tag_of, field, head_rows, heads, altitude, temperature, station_pressure, qnh, humidity, density_altitude, measured_pressure}
-use Rattle.record.specs.declared.entries.Entry.{Entry}
-use Rattle.record.specs.declared.entries.Entry.TheVariants.{Absent, Present}
 use Rattle.record.specs.declared.entries.Readings.{Readings}
 use Rattle.record.specs.Entries.{no_readings, entry_of}
 use Rattle.record.specs.Readings.{order_rows, noted, rows_of, read_rows, readings, read_record}
@@ -49,9 +48,9 @@ pressure-few p = (lit≤ tt, (lit≤ tt, tt))
 humidity-few : (h : Float) → FewRows (humidity_rows h)
 humidity-few h = (lit≤ tt, (lit≤ tt, tt))
 
-present-few : (rows : Float → List Row) → ((x : Float) → FewRows (rows x)) → (e : Entry) → FewRows (present rows e)
-present-few rows h Absent = tt
-present-few rows h (Present x) = h x
+present-few : (rows : Float → List Row) → ((x : Float) → FewRows (rows x)) → (e : (Option Float)) → FewRows (present rows e)
+present-few rows h None = tt
+present-few rows h (Some x) = h x
 
 values-few : (r : Readings) → FewRows (value_rows r)
 values-few r =
@@ -81,11 +80,11 @@ unfolding station
 station-few d t = by_rows (station_rows places d t) (accepted _) (rows_few d t) tt
 
 -- ---- a record
-way_few : (r : Readings) (e : Entry) → FewRows (way_rows r e)
-way_few r (Present d) =
+way_few : (r : Readings) (e : (Option Float)) → FewRows (way_rows r e)
+way_few r (Some d) =
     let t = given_temperature (entry_of r temperature) in
     both (station_rows places d t) (present humidity_rows (entry_of r humidity)) (rows_few d t) (present-few humidity_rows humidity-few (entry_of r humidity))
-way_few r Absent = (lit≤ tt, values-few r)
+way_few r None = (lit≤ tt, values-few r)
 
 judged-few : (r : Readings) → Few (judged r)
 unfolding judged

@@ -1,4 +1,6 @@
 -- No answer to a line has more than 4,096 bytes, so each has room in the 4,096 with which it is begun. Assumes nothing.
+use Rattle.std.specs.Prelude.{None, Option, Some}
+use Rattle.trim.specs.declared.changes.Turn.{Turn}
 use Rattle.arithmetic.proofs.Kit.{◌≡◌, refl, Bool, true, false, ◌||◌, ◌&&◌, cond, List, [], ◌∷◌, ◌++◌, ℕ, zero, suc, ◌*◌, ◌≤◌, mul-suc, arith, leb-true, ltb-false, ltb, leb, eqb, lit≤, Float, binary64, to_bits, is_nan, length, get_or, length-append}
 use Rattle.arithmetic.specs.Places.{places}
 use Rattle.arithmetic.specs.declared.word.Logarithm.{Logarithm}
@@ -20,8 +22,6 @@ use Rattle.trim.specs.declared.changes.Quantity.{Quantity}
 use Rattle.trim.specs.declared.changes.Quantity.TheVariants.{Temperature, MeasuredPressure}
 use Rattle.trim.specs.declared.changes.Direction.{Direction}
 use Rattle.trim.specs.declared.changes.Direction.TheVariants.{Up, Down}
-use Rattle.trim.specs.declared.changes.Found.{Found}
-use Rattle.trim.specs.declared.changes.Found.TheVariants as found
 use Rattle.trim.specs.Search.{Next, next_trim_class}
 use Rattle.vote.specs.Vote.{VoteOutcome}
 use Rattle.sheet.specs.Sheet.{setting_sheet}
@@ -29,7 +29,7 @@ use Rattle.sheet.proofs.GoodSheet.{good_sheet}
 use Rattle.report.specs.declared.Origin.TheVariants.{Record}
 use Rattle.report.proofs.Short.{report_short}
 use Rattle.park_text.proofs.Short.{has_room}
-use Rattle.questions.specs.Words.{place_in}
+use Rattle.questions.specs.Words.{place_in, line_parts}
 use Rattle.arithmetic.specs.Ascii.{ascii}
 use Rattle.pages.specs.Characters.{number_text, hex, refusal_line}
 use Rattle.pages.proofs.Short.{Within, both, either, word-short, hex-length, number_short, refusal-short}
@@ -39,7 +39,6 @@ use Rattle.text.proofs.Short.{answer-short}
 use Rattle.load_text.specs.Records.{load_record}
 use Rattle.load_text.specs.Text.{bytes_line}
 use Rattle.load_text.proofs.Every.{short}
-use Rattle.questions.specs.Words.{line_parts}
 use Rattle.questions.specs.Forms.{fits, kind_text, kind_texts, wrong_line}
 use Rattle.lines.specs.Values.{whole, value_text, values_text, refusal_values, answer_values}
 use Rattle.lines.specs.Texts.{value_line, pair_line, three_line, truth_line, pair_truth_line, some_line, option_line, hex_pair_line}
@@ -221,11 +220,11 @@ direction : (d : Direction) → Within (direction_text d) 6
 direction Up = record { bound = lit≤ tt }
 direction Down = record { bound = lit≤ tt }
 
-found-short : (f : Found) → Within (found_text f) 32
+found-short : (f : (Option Turn)) → Within (found_text f) 32
 unfolding turn_text
-found-short (found.Turn t) =
+found-short (Some t) =
     both (both (both (both (both (quantity t.change.quantity) (direction t.change.direction)) (whole-short t.change.tenths)) (pieces.whole (ascii " class "))) (whole-short t.class)) line
-found-short found.Nothing = record { bound = lit≤ tt }
+found-short None = record { bound = lit≤ tt }
 
 class-short : (o : Outcome Next) → length (class_text o) ≤ 4096
 class-short (accepted n) = up (both (both (pieces.whole (ascii "class ")) (whole-short n.class)) (found-short n.turn)) (lit≤ tt)

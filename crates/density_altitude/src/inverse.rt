@@ -2,9 +2,8 @@
 // temperature or the standard one.
 ghost use Rattle.std.specs.Prelude.{◌≡◌};
 ghost use Rattle.arithmetic.specs.Doubles.{is_finite_above};
-ghost use Rattle.refusal.specs.Outcomes.{accepted, checked, passed, ◌then◌};
+ghost use Rattle.refusal.specs.Outcomes.{accepted, passed, ◌then◌, outcome};
 ghost use Rattle.density_altitude.specs.Inverse.{station_with, resolve, has_air, temperature_rows, given_rows, resolved_rows, station};
-ghost use Rattle.refusal.specs.Inverted.{inverse_outcome};
 ghost use Rattle.arithmetic.specs.Places.{places};
 
 use arithmetic::doubles::is_finite;
@@ -14,8 +13,8 @@ use atmosphere::altitudes::{
 };
 use atmosphere::given::Reading;
 use elementary::power::power;
-use refusal::inverse::{Answer, Station};
-use refusal::{Check, Refusal, first_of, refuse_if};
+use refusal::inverse::Station;
+use refusal::{Refusal, first_of, refuse_if};
 
 // the number of the exponent 1 / 0.190284 in elementary's table
 const DA_NWS_EXPONENT_RECIPROCAL: usize = 12;
@@ -84,8 +83,8 @@ fn has_air(station: Station) -> bool
 }
 
 // The resolved station, or that there is no air.
-fn checked_station(density_altitude_m: f64, explicit_temperature_c: Reading) -> Answer
-    ensures { inverse_outcome result ≡ (resolved_rows density_altitude_m (resolve places density_altitude_m explicit_temperature_c)
+fn checked_station(density_altitude_m: f64, explicit_temperature_c: Reading) -> Result<Station, Refusal>
+    ensures { outcome result ≡ (resolved_rows density_altitude_m (resolve places density_altitude_m explicit_temperature_c)
         then accepted (resolve places density_altitude_m explicit_temperature_c)) }
 {
     let station = resolve_atmosphere_for_density_altitude(
@@ -93,14 +92,14 @@ fn checked_station(density_altitude_m: f64, explicit_temperature_c: Reading) -> 
         explicit_temperature_c,
     );
     if has_air(station) {
-        return Answer::Station(station);
+        return Ok(station);
     }
-    Answer::Refused(Refusal::NoAir(density_altitude_m, station.altitude_m))
+    Err(Refusal::NoAir(density_altitude_m, station.altitude_m))
 }
 
 // Whether a temperature can be one, or its refusal: the causes 2 and 3.
-pub fn check_temperature(temperature_c: f64) -> Check
-    ensures { checked result ≡ passed (temperature_rows temperature_c) }
+pub fn check_temperature(temperature_c: f64) -> Result<(), Refusal>
+    ensures { outcome result ≡ passed (temperature_rows temperature_c) }
 {
     first_of(
         refuse_if(
@@ -114,12 +113,12 @@ pub fn check_temperature(temperature_c: f64) -> Check
     )
 }
 
-fn check_given(explicit_temperature_c: Reading) -> Check
-    ensures { checked result ≡ passed (given_rows explicit_temperature_c) }
+fn check_given(explicit_temperature_c: Reading) -> Result<(), Refusal>
+    ensures { outcome result ≡ passed (given_rows explicit_temperature_c) }
 {
     match explicit_temperature_c {
         Reading::Given(temperature_c) => check_temperature(temperature_c),
-        Reading::FromLayer => Check::Passed,
+        Reading::FromLayer => Ok(()),
     }
 }
 
@@ -127,15 +126,15 @@ fn check_given(explicit_temperature_c: Reading) -> Check
 pub fn station_for_density_altitude(
     density_altitude_m: f64,
     explicit_temperature_c: Reading,
-) -> Answer
-    ensures { inverse_outcome result ≡ station places density_altitude_m explicit_temperature_c }
+) -> Result<Station, Refusal>
+    ensures { outcome result ≡ station places density_altitude_m explicit_temperature_c }
 {
     let altitude = refuse_if(
         !is_finite(density_altitude_m),
         Refusal::DensityAltitudeNotFinite(density_altitude_m),
     );
     match first_of(altitude, check_given(explicit_temperature_c)) {
-        Check::Refused(refusal) => Answer::Refused(refusal),
-        Check::Passed => checked_station(density_altitude_m, explicit_temperature_c),
+        Err(refusal) => Err(refusal),
+        Ok(()) => checked_station(density_altitude_m, explicit_temperature_c),
     }
 }

@@ -2,19 +2,20 @@
 ghost use Rattle.std.specs.Prelude.{◌≡◌, T};
 ghost use Rattle.std.specs.Float.Ieee.{le};
 ghost use Rattle.density_altitude.specs.Inverse.{station};
-ghost use Rattle.refusal.specs.Inverted.{inverse_outcome};
+ghost use Rattle.refusal.specs.Outcomes.{outcome};
 ghost use Rattle.density_order.specs.Order.{Accepted, Demand₃, TwoInOrder};
 ghost use Rattle.arithmetic.specs.Places.{places};
 
+use refusal::inverse::Station;
+use refusal::Refusal;
 use atmosphere::given::Reading;
 use density_altitude::inverse::station_for_density_altitude;
-use refusal::inverse::Answer;
 
 #[derive(Clone, Copy)]
 pub struct Stations {
-    pub low: Answer,
-    pub middle: Answer,
-    pub high: Answer,
+    pub low: Result<Station, Refusal>,
+    pub middle: Result<Station, Refusal>,
+    pub high: Result<Station, Refusal>,
 }
 
 // The stations with three density altitudes, for one given temperature or for none.
@@ -24,9 +25,9 @@ pub fn stations_for_density_altitudes(
     high_m: f64,
     explicit_temperature_c: Reading,
 ) -> Stations
-    ensures { (inverse_outcome result.low ≡ station places low_m explicit_temperature_c)
-        × ((inverse_outcome result.middle ≡ station places middle_m explicit_temperature_c)
-        × ((inverse_outcome result.high ≡ station places high_m explicit_temperature_c)
+    ensures { (outcome result.low ≡ station places low_m explicit_temperature_c)
+        × ((outcome result.middle ≡ station places middle_m explicit_temperature_c)
+        × ((outcome result.high ≡ station places high_m explicit_temperature_c)
         × (T (le low_m middle_m) → T (le middle_m high_m) → Accepted (inverse_outcome result.low) → Accepted (inverse_outcome result.high)
         → Demand₃ explicit_temperature_c low_m high_m (inverse_outcome result.low) (inverse_outcome result.middle) (inverse_outcome result.high)))) }
 {
@@ -39,8 +40,8 @@ pub fn stations_for_density_altitudes(
 
 #[derive(Clone, Copy)]
 pub struct Pair {
-    pub low: Answer,
-    pub high: Answer,
+    pub low: Result<Station, Refusal>,
+    pub high: Result<Station, Refusal>,
 }
 
 // The stations with two density altitudes, for one given temperature or for none.
@@ -49,8 +50,8 @@ pub fn two_stations_for_density_altitudes(
     high_m: f64,
     explicit_temperature_c: Reading,
 ) -> Pair
-    ensures { (inverse_outcome result.low ≡ station places low_m explicit_temperature_c)
-        × ((inverse_outcome result.high ≡ station places high_m explicit_temperature_c)
+    ensures { (outcome result.low ≡ station places low_m explicit_temperature_c)
+        × ((outcome result.high ≡ station places high_m explicit_temperature_c)
         × TwoInOrder explicit_temperature_c low_m high_m (inverse_outcome result.low) (inverse_outcome result.high)) }
 {
     let stations = stations_for_density_altitudes(low_m, low_m, high_m, explicit_temperature_c);

@@ -3,20 +3,21 @@ ghost use Rattle.std.specs.Prelude.{◌≡◌};
 ghost use Rattle.atmosphere.specs.declared.given.Reading.TheVariants.{Given};
 ghost use Rattle.atmosphere.specs.Altitudes.{faa_density_altitude};
 ghost use Rattle.density_altitude.specs.Inverse.{station};
-ghost use Rattle.refusal.specs.Inverted.{inverse_outcome};
+ghost use Rattle.refusal.specs.Outcomes.{outcome};
 ghost use Rattle.density_order.specs.Warmer.{WarmerMeansLower, FaaNeverFalls};
 ghost use Rattle.arithmetic.specs.Places.{places};
 
+use refusal::inverse::Station;
+use refusal::Refusal;
 use atmosphere::altitudes::faa_rule_density_altitude_ft;
 use atmosphere::given::Reading;
 use density_altitude::inverse::station_for_density_altitude;
-use refusal::inverse::Answer;
 
 #[derive(Clone, Copy)]
 pub struct ByWarmth {
-    pub cold: Answer,
-    pub middle: Answer,
-    pub warm: Answer,
+    pub cold: Result<Station, Refusal>,
+    pub middle: Result<Station, Refusal>,
+    pub warm: Result<Station, Refusal>,
 }
 
 // The stations with one density altitude at three given temperatures.
@@ -26,9 +27,9 @@ pub fn stations_for_temperatures(
     middle_c: f64,
     warm_c: f64,
 ) -> ByWarmth
-    ensures { (inverse_outcome result.cold ≡ station places density_altitude_m (Given cold_c))
-        × ((inverse_outcome result.middle ≡ station places density_altitude_m (Given middle_c))
-        × ((inverse_outcome result.warm ≡ station places density_altitude_m (Given warm_c))
+    ensures { (outcome result.cold ≡ station places density_altitude_m (Given cold_c))
+        × ((outcome result.middle ≡ station places density_altitude_m (Given middle_c))
+        × ((outcome result.warm ≡ station places density_altitude_m (Given warm_c))
         × WarmerMeansLower cold_c middle_c warm_c (inverse_outcome result.cold) (inverse_outcome result.middle) (inverse_outcome result.warm))) }
 {
     ByWarmth {

@@ -1,6 +1,7 @@
 -- One number for each meaning, written one after another from the first place on. Assumes nothing.
+use Rattle.std.specs.Prelude.{Option}
+use Rattle.fields.specs.declared.fields.Value.{Value}
 use Rattle.arithmetic.proofs.Kit.{◌≡◌, refl, sym, ap, ◌∙◌, ℕ, zero, suc, ◌+◌, ◌<◌, add-one, arith, List, [], ◌∷◌, ◌++◌, length, length-append, set}
-use Rattle.record.specs.declared.entries.Stored.{Stored}
 use Rattle.record.specs.declared.entries.Readings.{Readings}
 use Rattle.record.specs.Entries.{stored_of}
 use Rattle.exports.specs.Lent.{handed_out}
@@ -13,7 +14,7 @@ behind [] (x ∷ xs) v room = refl
 behind (w ∷ vs) [] v room = absurd (omega (arith, room))
 behind {A} (w ∷ vs) (x ∷ xs) v room = ap (λ (l : List A). w ∷ l) (behind vs xs v (omega (arith, room)))
 
-module _ {A : Type 0} (of : Stored → A) (r : Readings) where
+module _ {A : Type 0} (of : (Option Value) → A) (r : Readings) where
   pub as_many : (n : ℕ) → length (each of n r) ≡ n
   unfolding each
   as_many zero = refl

@@ -1,4 +1,5 @@
 -- Arrays that are read of a record and those that are written as one undo each other. Assumes nothing.
+use Rattle.std.specs.Prelude.{None, Option, Some}
 use Rattle.arithmetic.proofs.Kit.{◌≡◌, refl, sym, ap, subst, ◌∙◌, ⊎_elim, Bool, true, false, cond, not, ◌&&◌, ℕ, zero, suc, ◌≤◌, ◌<◌, arith, T, leb-true, eqb, eqb-true, eqb-false, ltb, not-false, false≢true, List, [], ◌∷◌, ◌++◌, length, length-append, length-set, get_or, drop, Float, nan, fits, is_nan, binary64}
 use lib.ListN.{get_or-append}
 use lib.Seq.{get_or_at, ext_get_or}
@@ -8,11 +9,8 @@ use Rattle.refusal.proofs.Rows.{then-accepted, exactly}
 use Rattle.fields.specs.declared.fields.Value.{Value}
 use Rattle.fields.specs.declared.fields.Value.TheVariants.{Double, Count}
 use Rattle.fields.specs.Fields.{meanings}
-use Rattle.record.specs.declared.entries.Stored.{Stored}
-use Rattle.record.specs.declared.entries.Stored.TheVariants.{Absent, Present}
-use Rattle.record.specs.declared.entries.Slot.{Slot}
 use Rattle.record.specs.declared.entries.Readings.{Readings}
-use Rattle.record.specs.Entries.{slot_of, stored_of, with_value}
+use Rattle.record.specs.Entries.{stored_of, with_value}
 use Rattle.record.specs.Readings.{readings, read_rows, read_record}
 use Rattle.record.proofs.Walk.{all_slots}
 use Rattle.record.proofs.Strict.{same_or_falling}
@@ -30,8 +28,8 @@ use Rattle.exports.proofs.Each.{as_many}
 use Rattle.exports.proofs.Room.{roomy}
 
 -- ---- what three numbers store
-abbrev stored_as : ℕ → Float → ℕ → Stored
-stored_as form x word = cond (eqb form 1) (Present (Double x)) (cond (eqb form 2) (Present (Count word)) Absent)
+abbrev stored_as : ℕ → Float → ℕ → (Option Value)
+stored_as form x word = cond (eqb form 1) (Some (Double x)) (cond (eqb form 2) (Some (Count word)) None)
 
 module _ (q : Readings) (k form : ℕ) (x : Float) (word : ℕ) where
   pub form-length : length (with_form q k form x word).slots ≡ length q.slots
@@ -39,16 +37,16 @@ module _ (q : Readings) (k form : ℕ) (x : Float) (word : ℕ) where
   form-length = go (eqb form 1) (eqb form 2)
     where
       go : (a b : Bool) → length (cond a (with_value q k (Double x)) (cond b (with_value q k (Count word)) q)).slots ≡ length q.slots
-      go true b = length-set q.slots k (slot_of (Present (Double x)))
-      go false true = length-set q.slots k (slot_of (Present (Count word)))
+      go true b = length-set q.slots k (Some (Double x))
+      go false true = length-set q.slots k (Some (Count word))
       go false false = refl
 
-  form-here : k < length q.slots → stored_of q k ≡ Absent → stored_of (with_form q k form x word) k ≡ stored_as form x word
+  form-here : k < length q.slots → stored_of q k ≡ None → stored_of (with_form q k form x word) k ≡ stored_as form x word
   unfolding with_form
   form-here room none = go (eqb form 1) (eqb form 2)
     where
       go : (a b : Bool) → stored_of (cond a (with_value q k (Double x)) (cond b (with_value q k (Count word)) q)) k
-          ≡ cond a (Present (Double x)) (cond b (Present (Count word)) Absent)
+          ≡ cond a (Some (Double x)) (cond b (Some (Count word)) None)
       go true b = stored_same q k (Double x) room
       go false true = stored_same q k (Count word) room
       go false false = none
@@ -67,7 +65,7 @@ module _ (forms : List ℕ) (values : List Float) (counts : List ℕ) where
   abbrev of : ℕ → Readings
   of n = array_readings n forms values counts
 
-  abbrev at : ℕ → Stored
+  abbrev at : ℕ → (Option Value)
   at m = stored_as (get_or forms m 0) (get_or values m nan) (get_or counts m 0)
 
   pub array_length : (n : ℕ) → length (of n).slots ≡ meanings
@@ -75,7 +73,7 @@ module _ (forms : List ℕ) (values : List Float) (counts : List ℕ) where
   array_length zero = refl
   array_length (suc k) = form-length (of k) k (get_or forms k 0) (get_or values k nan) (get_or counts k 0) ∙ array_length k
 
-  not_yet : (n m : ℕ) → n ≤ m → stored_of (of n) m ≡ Absent
+  not_yet : (n m : ℕ) → n ≤ m → stored_of (of n) m ≡ None
   unfolding array_readings
   not_yet zero m h = no_stored m
   not_yet (suc k) m h = form-other (of k) k (get_or forms k 0) (get_or values k nan) (get_or counts k 0) m (λ e. omega (arith, e, h)) ∙ not_yet k m (omega (arith, h))
@@ -109,18 +107,18 @@ forms_known (suc k) forms all m h = go (eqb m k) refl (forms_known k forms (both
     go false e before = before (omega (arith, h, eqb-false m k e))
 
 -- ---- readings that were read into arrays
-back : (s : Stored) → stored_as (form_of s) (double_for s) (count_for s) ≡ s
-back Absent = refl
-back (Present (Double x)) = refl
-back (Present (Count word)) = refl
+back : (s : (Option Value)) → stored_as (form_of s) (double_for s) (count_for s) ≡ s
+back None = refl
+back (Some (Double x)) = refl
+back (Some (Count word)) = refl
 
-is_form_lem : (s : Stored) → is_form (form_of s) ≡ true
-is_form_lem Absent = refl
-is_form_lem (Present (Double x)) = refl
-is_form_lem (Present (Count word)) = refl
+is_form_lem : (s : (Option Value)) → is_form (form_of s) ≡ true
+is_form_lem None = refl
+is_form_lem (Some (Double x)) = refl
+is_form_lem (Some (Count word)) = refl
 
 module _ (r : Readings) where
-  pub each_at : {A : Type 0} (of : Stored → A) (n m : ℕ) (d : A) → m < n → get_or (each of n r) m d ≡ of (stored_of r m)
+  pub each_at : {A : Type 0} (of : (Option Value) → A) (n m : ℕ) (d : A) → m < n → get_or (each of n r) m d ≡ of (stored_of r m)
   unfolding each
   each_at of zero m d h = absurd (omega (arith, h))
   each_at {A} of (suc k) m d h = go (eqb m k) refl (each_at of k m d)
@@ -134,11 +132,11 @@ module _ (r : Readings) where
           let less : m < k = omega (arith, h, eqb-false m k e) in
           get_or-append (each of k r) (of (stored_of r k) ∷ []) d m (omega (arith, less, as_many of r k)) ∙ before less
 
-  array_at : {A : Type 0} (of : Stored → A) (xs : List A) (m : ℕ) (d : A) → m < meanings → get_or (handed_out (each of meanings r) xs) m d ≡ of (stored_of r m)
+  array_at : {A : Type 0} (of : (Option Value) → A) (xs : List A) (m : ℕ) (d : A) → m < meanings → get_or (handed_out (each of meanings r) xs) m d ≡ of (stored_of r m)
   array_at of xs m d h =
       get_or-append (each of meanings r) (drop (length (each of meanings r)) xs) d m (omega (arith, h, as_many of r meanings)) ∙ each_at of meanings m d h
 
-  room : {A : Type 0} (of : Stored → A) (xs : List A) → meanings ≤ length (handed_out (each of meanings r) xs)
+  room : {A : Type 0} (of : (Option Value) → A) (xs : List A) → meanings ≤ length (handed_out (each of meanings r) xs)
   room of xs = omega (arith, length-append (each of meanings r) (drop (length (each of meanings r)) xs), as_many of r meanings)
 
   known : (forms : List ℕ) (n : ℕ) → n ≤ meanings → are_forms n (handed_out (each form_of meanings r) forms) ≡ true
@@ -156,12 +154,12 @@ module _ (r : Readings) where
     abbrev w : List ℕ
     w = handed_out (each count_for meanings r) counts
 
-    abbrev from : List Slot → Readings
+    abbrev from : List (Option Value) → Readings
     from l = record { slots = l }
 
     array_back : array_readings meanings f v w ≡ r
     array_back =
-        ap from (ext_get_or (slot_of Absent) (array_readings meanings f v w).slots r.slots (array_length f v w meanings ∙ sym all) (λ m h.
+        ap from (ext_get_or None (array_readings meanings f v w).slots r.slots (array_length f v w meanings ∙ sym all) (λ m h.
         let less : m < meanings = omega (arith, h, array_length f v w meanings) in
         ap slot_of (stored_at f v w meanings m (omega arith) less
         ∙ rw (array_at form_of forms m 0 less, array_at double_for values m nan less, array_at count_for counts m 0 less) (back (stored_of r m)))))
@@ -204,7 +202,7 @@ pub same_bytes : (forms : List ℕ) (values : List Float) (counts s : List ℕ) 
     → written_of forms values counts r ≡ accepted s
 same_bytes forms values counts s r all numbers e =
     written_of-read true forms values counts s r e ∙ ap (λ (q : Readings). accepted (record_of q)) (are_its true forms values counts s r e)
-    ∙ ap accepted (sym (written-again s r all (λ m v told. not_nan v (λ x is. numbers m x (told ∙ ap Present is))) (taken true forms values counts s r e)))
+    ∙ ap accepted (sym (written-again s r all (λ m v told. not_nan v (λ x is. numbers m x (told ∙ ap Some is))) (taken true forms values counts s r e)))
   where
     not_nan : (v : Value) → ((x : Float) → v ≡ Double x → is_nan x ≡ false) → NotNan v
     not_nan (Double x) number = number x refl
@@ -214,15 +212,15 @@ same_bytes forms values counts s r all numbers e =
 form-back : (form : ℕ) (x : Float) (word : ℕ) → form ≤ 2 → form_of (stored_as form x word) ≡ form
 form-back form x word most = go (eqb form 1) (eqb form 2) refl refl
   where
-    go : (a b : Bool) → eqb form 1 ≡ a → eqb form 2 ≡ b → form_of (cond a (Present (Double x)) (cond b (Present (Count word)) Absent)) ≡ form
+    go : (a b : Bool) → eqb form 1 ≡ a → eqb form 2 ≡ b → form_of (cond a (Some (Double x)) (cond b (Some (Count word)) None)) ≡ form
     go true b e g = sym (eqb-true form 1 e)
     go false true e g = sym (eqb-true form 2 g)
     go false false e g = omega (arith, most, eqb-false form 1 e, eqb-false form 2 g)
 
-is_held : (form : ℕ) (x : Float) (word : ℕ) → T (fits binary64 x) → word < 4294967296 → (u : Value) → stored_as form x word ≡ Present u → IsHeld u
+is_held : (form : ℕ) (x : Float) (word : ℕ) → T (fits binary64 x) → word < 4294967296 → (u : Value) → stored_as form x word ≡ Some u → IsHeld u
 is_held form x word double small u = go (eqb form 1) (eqb form 2)
   where
-    go : (a b : Bool) → cond a (Present (Double x)) (cond b (Present (Count word)) Absent) ≡ Present u → IsHeld u
+    go : (a b : Bool) → cond a (Some (Double x)) (cond b (Some (Count word)) None) ≡ Some u → IsHeld u
     go true b e = let same : Double x ≡ u = cc in subst IsHeld same double
     go false true e = let same : Count word ≡ u = cc in subst IsHeld same small
     go false false e = let z : ◌≡◌ {A = ℕ} 0 1 = cc in absurd (omega arith)

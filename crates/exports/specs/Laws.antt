@@ -1,10 +1,9 @@
 -- What may be relied on of arrays that are read of a record and written as one. Definitions only.
-use Rattle.std.specs.Prelude.{ℕ, ◌<◌, ◌≡◌, List, T, false, Float, get_or}
+use Rattle.std.specs.Prelude.{ℕ, ◌<◌, ◌≡◌, List, T, false, Float, get_or, Some}
 use Rattle.std.specs.Float.{nan, binary64}
 use Rattle.std.specs.Float.Ieee.{fits, is_nan}
 use Rattle.fields.specs.Fields.{meanings}
 use Rattle.fields.specs.declared.fields.Value.TheVariants.{Double}
-use Rattle.record.specs.declared.entries.Stored.TheVariants.{Present}
 use Rattle.record.specs.declared.entries.Readings.{Readings}
 use Rattle.record.specs.Entries.{stored_of}
 use Rattle.refusal.specs.Outcomes.{Outcome, accepted}
@@ -18,7 +17,7 @@ pub record AreNumbers (values : List Float) (counts : List ℕ) : Type 0 where
 
 -- no reading is NaN, which has other patterns than the one that is written
 abbrev pub NoneIsNan : Readings → Type 0
-NoneIsNan r = (m : ℕ) (x : Float) → stored_of r m ≡ Present (Double x) → is_nan x ≡ false
+NoneIsNan r = (m : ℕ) (x : Float) → stored_of r m ≡ Some (Double x) → is_nan x ≡ false
 
 -- the record that is written of three arrays in which r was read
 abbrev pub written_of : List ℕ → List Float → List ℕ → Readings → Outcome (List ℕ)

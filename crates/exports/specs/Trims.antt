@@ -1,12 +1,11 @@
 -- The answer to how close the next trim class is, as four whole numbers, and what it leaves in the lent arrays. Definitions only.
-use Rattle.std.specs.Prelude.{ℕ, List, [], ◌∷◌, ℤ, pos, neg_ℤ, Float}
+use Rattle.trim.specs.declared.changes.Turn.{Turn}
+use Rattle.std.specs.Prelude.{ℕ, List, [], ◌∷◌, ℤ, pos, neg_ℤ, Float, None, Option, Some}
 use Rattle.refusal.specs.Outcomes.{Outcome, accepted, refused}
 use Rattle.trim.specs.declared.changes.Quantity.{Quantity}
 use Rattle.trim.specs.declared.changes.Quantity.TheVariants.{Temperature, MeasuredPressure}
 use Rattle.trim.specs.declared.changes.Direction.{Direction}
 use Rattle.trim.specs.declared.changes.Direction.TheVariants.{Up, Down}
-use Rattle.trim.specs.declared.changes.Found.{Found}
-use Rattle.trim.specs.declared.changes.Found.TheVariants.{Turn, Nothing}
 use Rattle.trim.specs.Search.{Next, next_trim_class}
 use Rattle.exports.specs.Lent.{with_room, handed_out}
 
@@ -20,9 +19,9 @@ abbrev pub signed_tenths : Direction → ℕ → ℤ
 signed_tenths Up k = pos k
 signed_tenths Down k = neg_ℤ (pos k)
 
-abbrev pub turn_numbers : ℕ → Found → List ℤ
-turn_numbers c (Turn t) = pos c ∷ pos (quantity_tag t.change.quantity) ∷ signed_tenths t.change.direction t.change.tenths ∷ pos t.class ∷ []
-turn_numbers c Nothing = pos c ∷ pos 0 ∷ pos 0 ∷ pos c ∷ []
+abbrev pub turn_numbers : ℕ → (Option Turn) → List ℤ
+turn_numbers c (Some t) = pos c ∷ pos (quantity_tag t.change.quantity) ∷ signed_tenths t.change.direction t.change.tenths ∷ pos t.class ∷ []
+turn_numbers c None = pos c ∷ pos 0 ∷ pos 0 ∷ pos c ∷ []
 
 abbrev pub trim_numbers : Next → List ℤ
 trim_numbers n = turn_numbers n.class n.turn

@@ -2,14 +2,12 @@
 // An array has the places that are needed: an exported function tests that before it computes anything.
 ghost use Rattle.std.specs.Prelude.{◌≡◌, ◌≤◌, [], ◌∷◌, length};
 ghost use Rattle.refusal.specs.Refusals.{number_of, values_of, listed};
-ghost use Rattle.refusal.specs.Judged.{outcome};
-ghost use Rattle.writer.specs.Written.{written};
+ghost use Rattle.refusal.specs.Outcomes.{outcome};
 ghost use Rattle.exports.specs.Lent.{handed_out, left_in, status_of, station_values, figure_values, mark_or, length_or};
 
 use refusal::inverse::Station;
-use refusal::judge::{Answer, Figures};
+use refusal::judge::Figures;
 use refusal::{Refusal, Values, handed_out, number};
-use writer::Written;
 
 // The status of figures.
 pub(crate) const FIGURES: u32 = 0;
@@ -77,32 +75,32 @@ pub(crate) fn put_refusal(lent: &mut [f64], refusal: Refusal) -> u32
 }
 
 // The status of what the judge answers, with its figures and their mark or its refusal's values.
-pub(crate) fn put_answer(lent: &mut [f64], in_range: &mut bool, answer: Answer) -> u32
+pub(crate) fn put_answer(lent: &mut [f64], in_range: &mut bool, answer: Result<Figures, Refusal>) -> u32
     requires { 8 ≤ length lent.old }
     ensures value { result ≡ status_of (outcome answer) }
     ensures lent_after { lent.new ≡ left_in figure_values lent.old (outcome answer) }
     ensures in_range_after { in_range.new ≡ mark_or in_range.old (outcome answer) }
 {
     match answer {
-        Answer::Figures(figures) => {
+        Ok(figures) => {
             put_figures(lent, figures);
             *in_range = figures.in_cipm_range;
             FIGURES
         }
-        Answer::Refused(refusal) => put_refusal(lent, refusal),
+        Err(refusal) => put_refusal(lent, refusal),
     }
 }
 
 // The status of what a writer answers, with the length that it wrote.
-pub(crate) fn put_length(length: &mut usize, answer: Written) -> u32
-    ensures value { result ≡ status_of (written answer) }
-    ensures length_after { length.new ≡ length_or length.old (written answer) }
+pub(crate) fn put_length(length: &mut usize, answer: Result<usize, Refusal>) -> u32
+    ensures value { result ≡ status_of (outcome answer) }
+    ensures length_after { length.new ≡ length_or length.old (outcome answer) }
 {
     match answer {
-        Written::Length(n) => {
+        Ok(n) => {
             *length = n;
             FIGURES
         }
-        Written::Refused(refusal) => wide(number(refusal)),
+        Err(refusal) => wide(number(refusal)),
     }
 }

@@ -7,28 +7,28 @@ ghost use Rattle.exports.specs.Reads.{form_of, double_for, count_for, each, read
 
 use crate::lent::{FIGURES, TOO_SHORT, wide};
 use fields::fields::{MEANINGS, Value};
-use record::entries::{Readings, Stored, entry_of, stored_of, value_or_zero};
+use record::entries::{Readings, entry_of, stored_of, value_or_zero};
 use record::readings::{Read, read_record, read_record_strictly};
-use refusal::{Check, number};
+use refusal::number;
 
-fn form_of(stored: Stored) -> u8
+fn form_of(stored: Option<Value>) -> u8
     ensures { result ≡ form_of stored }
 {
     match stored {
-        Stored::Absent => 0,
-        Stored::Present(value) => match value {
+        None => 0,
+        Some(value) => match value {
             Value::Double(_) => 1,
             Value::Count(_) => 2,
         },
     }
 }
 
-fn count_for(stored: Stored) -> u32
+fn count_for(stored: Option<Value>) -> u32
     ensures { result ≡ count_for stored }
 {
     match stored {
-        Stored::Absent => 0,
-        Stored::Present(value) => match value {
+        None => 0,
+        Some(value) => match value {
             Value::Double(_) => 0,
             Value::Count(word) => word,
         },
@@ -63,11 +63,11 @@ fn put_read(forms: &mut [u8], values: &mut [f64], counts: &mut [u32], read: Read
 {
     let check = read.check;
     match check {
-        Check::Passed => {
+        Ok(()) => {
             put_readings(forms, values, counts, read.readings);
             FIGURES
         }
-        Check::Refused(refusal) => wide(number(refusal)),
+        Err(refusal) => wide(number(refusal)),
     }
 }
 

@@ -7,7 +7,7 @@ ghost use Rattle.exports.specs.Sheets.{sheet_in};
 
 use crate::lent::{FIGURES, TOO_SHORT, wide};
 use refusal::{Values, handed_out, number};
-use sheet::page::{Sheet, setting_sheet};
+use sheet::page::setting_sheet;
 
 // The first of the values, if there is one.
 fn put_first(lent: &mut [f64], values: Values)
@@ -41,8 +41,8 @@ pub fn station_air_setting_sheet(
         return TOO_SHORT;
     }
     match setting_sheet(altitude_m, pressure_hpa, humidity_percent, page) {
-        Sheet::Written => FIGURES,
-        Sheet::Refused(refusal) => {
+        Ok(()) => FIGURES,
+        Err(refusal) => {
             put_first(lent, handed_out(refusal));
             wide(number(refusal))
         }

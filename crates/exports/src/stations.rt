@@ -21,7 +21,6 @@ use density_altitude::inverse::{
     resolve_atmosphere_for_density_altitude, station_for_density_altitude,
 };
 use mast::judge;
-use refusal::inverse::Answer;
 
 fn reading(given: bool, x: f64) -> Reading
     ensures { result ≡ reading given x }
@@ -137,11 +136,11 @@ pub fn station_air_for_density_altitude(
         density_altitude_m,
         reading(temperature_given, temperature_c),
     ) {
-        Answer::Station(station) => {
+        Ok(station) => {
             put_station(lent, station);
             FIGURES
         }
-        Answer::Refused(refusal) => put_refusal(lent, refusal),
+        Err(refusal) => put_refusal(lent, refusal),
     }
 }
 

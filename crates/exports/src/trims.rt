@@ -1,6 +1,5 @@
 // The trim class of a density, and how close the next one is.
-ghost use Rattle.std.specs.Prelude.{◌≡◌, [], ◌∷◌, ◌≤◌, length, pos};
-ghost use Rattle.trim.specs.declared.changes.Found.TheVariants as found;
+ghost use Rattle.std.specs.Prelude.{Some, ◌≡◌, [], ◌∷◌, ◌≤◌, length, pos};
 ghost use Rattle.trim.specs.Classes.{trim_class};
 ghost use Rattle.exports.specs.Lent.{handed_out, status_of, values_after};
 ghost use Rattle.exports.specs.Trims.{quantity_tag, signed_tenths, turn_numbers, trim_in, answer_after};
@@ -53,7 +52,7 @@ fn put_four(answer: &mut [i32], a: i32, b: i32, c: i32, d: i32)
 
 fn put_turn(answer: &mut [i32], class: u8, turn: Turn)
     requires { 4 ≤ length answer.old }
-    ensures { answer.new ≡ handed_out (turn_numbers class (found.Turn turn)) answer.old }
+    ensures { answer.new ≡ handed_out (turn_numbers class (Some turn)) answer.old }
 {
     let change = turn.change;
     let quantity = change.quantity;

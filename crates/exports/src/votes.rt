@@ -1,12 +1,13 @@
 // The vote of three masts.
 ghost use Rattle.std.specs.Prelude.{◌≡◌};
-ghost use Rattle.refusal.specs.Judged.{outcome};
+ghost use Rattle.refusal.specs.Outcomes.{outcome};
 ghost use Rattle.vote.specs.Vote.{vote_outcome, vote};
 ghost use Rattle.exports.specs.Lent.{with_room, status_of, left_in, figure_values, mark_or};
 ghost use Rattle.exports.specs.Votes.{mast_in};
 
+use refusal::judge::Figures;
+use refusal::Refusal;
 use crate::lent::{TOO_SHORT, put_answer, wide};
-use refusal::judge::Answer;
 use vote::answer::Vote;
 use vote::masts::vote;
 
@@ -20,13 +21,13 @@ fn refused_mast(voted: Vote) -> u8
     }
 }
 
-fn answer_of(voted: Vote) -> Answer
+fn answer_of(voted: Vote) -> Result<Figures, Refusal>
     ensures { outcome result ≡ (vote_outcome voted).outcome }
 {
     match voted {
-        Vote::Figures(figures) => Answer::Figures(figures),
-        Vote::Mast(_, refusal) => Answer::Refused(refusal),
-        Vote::Refused(refusal) => Answer::Refused(refusal),
+        Vote::Figures(figures) => Ok(figures),
+        Vote::Mast(_, refusal) => Err(refusal),
+        Vote::Refused(refusal) => Err(refusal),
     }
 }
 

@@ -1,6 +1,6 @@
 // The vote of three masts.
 ghost use Rattle.std.specs.Prelude.{◌≡◌};
-ghost use Rattle.refusal.specs.Judged.{outcome};
+ghost use Rattle.refusal.specs.Outcomes.{outcome};
 ghost use Rattle.vote.specs.Vote.{vote};
 ghost use Rattle.exports.specs.Lent.{with_room, status_of, left_in, figure_values, mark_or};
 ghost use Rattle.exports.specs.Votes.{mast_in};

@@ -1,14 +1,11 @@
 -- A field of the mast record, document 01: one-byte tag, two-byte length, data; big-endian. It stands at the head of the bytes s. Definitions only.
-use Rattle.std.specs.Prelude.{ℕ, zero, suc, ◌+◌, ◌-◌, Bool, true, false, not, ◌&&◌, ◌||◌, cond, List, [], ◌∷◌, ltb, leb, eqb, length, get_or, drop, Float}
+use Rattle.refusal.specs.declared.Refusal.{Refusal}
+use Rattle.std.specs.Prelude.{ℕ, zero, suc, ◌+◌, ◌-◌, Bool, true, false, not, ◌&&◌, ◌||◌, cond, List, [], ◌∷◌, ltb, leb, eqb, length, get_or, drop, Float, Result}
 use Rattle.refusal.specs.Outcomes.{Outcome, accepted, refusal, ◌⟫◌, Row, row, ◌then◌}
 use Rattle.thousandths.specs.Thousandths.{count_of, thousandths}
 use Rattle.fields.specs.declared.fields.Field.{Field}
 use Rattle.fields.specs.declared.fields.Value.{Value}
 use Rattle.fields.specs.declared.fields.Value.TheVariants.{Double, Count}
-use Rattle.fields.specs.declared.fields.Found.{Found}
-use Rattle.fields.specs.declared.fields.Found.TheVariants as found_as
-use Rattle.fields.specs.declared.reader.Step.{Step}
-use Rattle.fields.specs.declared.reader.Step.TheVariants as step
 use Rattle.fields.specs.Bytes.{number_at, double_at}
 
 -- ---- the tags, and the meanings that readings are kept by
@@ -92,11 +89,6 @@ head_rows s =
 abbrev pub field_of : List ℕ → Outcome Field
 field_of s = head_rows s then accepted (field s)
 
--- what each case of the code's answer stands for
-abbrev pub found : Found → Outcome Field
-found (found_as.Field f) = accepted f
-found (found_as.Refused c) = refusal c
-
 -- ---- the fields of a record one after the other: the bytes from the first of each on. A field has a byte at least, so n fields for n bytes are enough
 unfoldable pub heads_from : ℕ → List ℕ → List (List ℕ)
 heads_from zero s = []
@@ -113,7 +105,3 @@ next_at s i = cond (leb (size_of (drop i s)) (length (drop i s))) (i + size_of (
 -- the field at position i and the position after it, or what is wrong with the field
 abbrev pub step_at : List ℕ → ℕ → Outcome (Field × ℕ)
 step_at s i = field_of (drop i s) ⟫ (λ f. accepted (f, next_at s i))
-
-abbrev pub stepped : Step → Outcome (Field × ℕ)
-stepped (step.Field f next) = accepted (f, next)
-stepped (step.Refused c) = refusal c

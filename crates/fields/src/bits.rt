@@ -34,12 +34,6 @@ pub fn pattern(x: f64) -> u64
     }
 }
 
-fn wide(x: u8) -> u64
-    ensures { result ≡ x }
-{
-    x as u64
-}
-
 // The number that `width` bytes spell, the highest first.
 pub(crate) fn word_at(bytes: &[u8], at: usize, width: usize) -> u64
     requires { (width ≤ 8) × (at + width ≤ length bytes.now) }
@@ -47,10 +41,8 @@ pub(crate) fn word_at(bytes: &[u8], at: usize, width: usize) -> u64
     ensures below { result < 256 ^ width }
 {
     let mut value = 0;
-    let mut i = 0;
-    while i < width {
-        value = value * 256 + wide(bytes[at + i]);
-        i += 1;
+    for i in 0..width {
+        value = value * 256 + u64::from(bytes[at + i]);
     }
     value
 }

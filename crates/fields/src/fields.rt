@@ -1,7 +1,8 @@
 // A field of the record: one byte for the tag, two for the length, and the data. A tag has a meaning,
 // and readings are kept by meaning.
 ghost use Rattle.std.specs.Prelude.{◌≡◌, ◌≤◌, length, drop};
-ghost use Rattle.fields.specs.Fields.{is_count_tag, is_tag, meaning_of, data_size, double_of, value_of, size_of, found, field_of, next_at};
+ghost use Rattle.fields.specs.Fields.{is_count_tag, is_tag, meaning_of, data_size, double_of, value_of, size_of, field_of, next_at};
+ghost use Rattle.refusal.specs.Outcomes.{outcome};
 
 use super::bits::{double_at, word_at};
 use refusal::Refusal;
@@ -37,13 +38,6 @@ pub struct Field {
     pub tag: u8,
     pub meaning: usize,
     pub value: Value,
-}
-
-// A field, or what is wrong with it: a cause 5, 6 or 7.
-#[derive(Clone, Copy)]
-pub enum Found {
-    Field(Field),
-    Refused(Refusal),
 }
 
 // The bytes of a tag and a length.
@@ -90,12 +84,14 @@ pub fn data_size(tag: u8) -> usize
 }
 
 // The double that a value means.
-pub fn double_of_value(value: Value) -> f64
-    ensures { result ≡ double_of value }
-{
-    match value {
-        Value::Double(x) => x,
-        Value::Count(word) => double_of_word(word),
+impl From<Value> for f64 {
+    ghost from_gives = { λ value x. x ≡ double_of value };
+
+    fn from(value: Value) -> f64 {
+        match value {
+            Value::Double(x) => x,
+            Value::Count(word) => double_of_word(word),
+        }
     }
 }
 
@@ -111,24 +107,24 @@ fn value_of(bytes: &[u8]) -> Value
 }
 
 // The field at the head of the bytes. The order of the checks: cut header, unknown tag, length, cut data.
-fn head_field(bytes: &[u8]) -> Found
-    ensures { found result ≡ field_of bytes.now }
+fn head_field(bytes: &[u8]) -> Result<Field, Refusal>
+    ensures { outcome result ≡ field_of bytes.now }
 {
     if bytes.len() < HEADER {
-        return Found::Refused(Refusal::Cut);
+        return Err(Refusal::Cut);
     }
     let tag = bytes[0];
     if !is_tag(tag) {
-        return Found::Refused(Refusal::UnknownTag);
+        return Err(Refusal::UnknownTag);
     }
     let data = data_size(tag);
     if word_at(bytes, 1, 2) != data as u64 {
-        return Found::Refused(Refusal::WrongLength);
+        return Err(Refusal::WrongLength);
     }
     if bytes.len() < HEADER + data {
-        return Found::Refused(Refusal::Cut);
+        return Err(Refusal::Cut);
     }
-    Found::Field(Field {
+    Ok(Field {
         tag,
         meaning: meaning_of(tag),
         value: value_of(bytes),
@@ -136,12 +132,12 @@ fn head_field(bytes: &[u8]) -> Found
 }
 
 // The field at a position, or what is wrong with it.
-pub(crate) fn field_at(bytes: &[u8], at: usize) -> Found
-    ensures result_value { found result ≡ field_of (drop at bytes.now) }
+pub(crate) fn field_at(bytes: &[u8], at: usize) -> Result<Field, Refusal>
+    ensures result_value { outcome result ≡ field_of (drop at bytes.now) }
     ensures kept { bytes.now ≡ bytes.now }
 {
     if bytes.len() < at {
-        return Found::Refused(Refusal::Cut);
+        return Err(Refusal::Cut);
     }
     head_field(&bytes[at..])
 }

@@ -1,8 +1,7 @@
 -- The answer to a line: by its first word, the question, and the words after it. Definitions only.
 use Rattle.std.specs.Prelude.{ℕ, cond, List, [], leb, ltb, eqb, length, get_or}
 use Rattle.arithmetic.specs.Ascii.{ascii}
-use Rattle.questions.specs.Words.{place_in}
-use Rattle.questions.specs.Words.{line_parts}
+use Rattle.questions.specs.Words.{place_in, line_parts}
 use Rattle.questions.specs.Digits.{bytes_in}
 use Rattle.questions.specs.Arguments.{double_in, number_or}
 use Rattle.questions.specs.Forms.{fits, wrong_line}

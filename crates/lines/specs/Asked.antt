@@ -4,8 +4,7 @@ use Rattle.arithmetic.specs.Places.{places}
 use Rattle.elementary.specs.Power.{power_at}
 use Rattle.atmosphere.specs.Station.{in_pressure_band, in_temperature_band, resolved_station_pressure, resolved_station_temperature}
 use Rattle.arithmetic.specs.Ascii.{ascii}
-use Rattle.questions.specs.Words.{place_in}
-use Rattle.questions.specs.Words.{line_parts}
+use Rattle.questions.specs.Words.{place_in, line_parts}
 use Rattle.questions.specs.Arguments.{number_or}
 use Rattle.questions.specs.Forms.{fits, wrong_line}
 use Rattle.lines.specs.Texts.{value_line, truth_line, option_line}

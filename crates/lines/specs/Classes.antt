@@ -1,13 +1,11 @@
 -- The trim class as text, and the smallest change that gives another, in tenths of a degree or of a hectopascal. Definitions only.
-use Rattle.std.specs.Prelude.{ℕ, List, ◌++◌}
+use Rattle.std.specs.Prelude.{ℕ, List, ◌++◌, None, Option, Some}
 use Rattle.refusal.specs.Outcomes.{Outcome, accepted, refused}
 use Rattle.trim.specs.declared.changes.Quantity.{Quantity}
 use Rattle.trim.specs.declared.changes.Quantity.TheVariants.{Temperature, MeasuredPressure}
 use Rattle.trim.specs.declared.changes.Direction.{Direction}
 use Rattle.trim.specs.declared.changes.Direction.TheVariants.{Up, Down}
 use Rattle.trim.specs.declared.changes.Turn.{Turn}
-use Rattle.trim.specs.declared.changes.Found.{Found}
-use Rattle.trim.specs.declared.changes.Found.TheVariants as found
 use Rattle.trim.specs.Search.{Next}
 use Rattle.arithmetic.specs.Ascii.{ascii}
 use Rattle.pages.specs.Characters.{refusal_line}
@@ -25,9 +23,9 @@ unfoldable pub turn_text : Turn → List ℕ
 turn_text t =
     quantity_text t.change.quantity ++ direction_text t.change.direction ++ whole t.change.tenths ++ ascii " class " ++ whole t.class ++ ascii "\n"
 
-abbrev pub found_text : Found → List ℕ
-found_text (found.Turn t) = turn_text t
-found_text found.Nothing = ascii " none\n"
+abbrev pub found_text : (Option Turn) → List ℕ
+found_text (Some t) = turn_text t
+found_text None = ascii " none\n"
 
 abbrev pub class_text : Outcome Next → List ℕ
 class_text (accepted n) = ascii "class " ++ whole n.class ++ found_text n.turn

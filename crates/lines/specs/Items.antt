@@ -1,5 +1,5 @@
 -- Readings as items, `TAG=DATA`, in hex digits: a tag's two, and as many as its form has for the data. Definitions only.
-use Rattle.std.specs.Prelude.{ℕ, ◌+◌, ◌*◌, ◌%◌, ◌^◌, Bool, true, false, not, ◌&&◌, cond, List, [], ◌∷◌, leb, eqb, length, get_or, take, drop}
+use Rattle.std.specs.Prelude.{ℕ, ◌+◌, ◌*◌, ◌%◌, ◌^◌, Bool, true, false, not, ◌&&◌, cond, List, [], ◌∷◌, leb, eqb, length, get_or, take, drop, is_some}
 use Rattle.std.specs.Float.{binary64}
 use Rattle.std.specs.Float.Ieee.{of_bits}
 use Rattle.refusal.specs.Outcomes.{accepted}
@@ -7,7 +7,7 @@ use Rattle.fields.specs.declared.fields.Value.{Value}
 use Rattle.fields.specs.declared.fields.Value.TheVariants.{Double, Count}
 use Rattle.fields.specs.Fields.{is_count_tag, is_tag, meaning_of, data_size}
 use Rattle.record.specs.declared.entries.Readings.{Readings}
-use Rattle.record.specs.Entries.{no_readings, with_value, entry_of, is_present}
+use Rattle.record.specs.Entries.{no_readings, with_value, entry_of}
 use Rattle.writer.specs.Records.{record_of}
 use Rattle.arithmetic.specs.Ascii.{ascii}
 use Rattle.questions.specs.Digits.{are_hex, hex_number}
@@ -37,7 +37,7 @@ given r ⟫ next = next r
 wrong ⟫ next = wrong
 
 unfoldable pub with_item : Readings → List ℕ → Read
-with_item r w = cond (is_item w && not (is_present (entry_of r (meaning_of (item_tag w))))) (given (with_value r (meaning_of (item_tag w)) (value_in w))) wrong
+with_item r w = cond (is_item w && not (is_some (entry_of r (meaning_of (item_tag w))))) (given (with_value r (meaning_of (item_tag w)) (value_in w))) wrong
 
 unfoldable pub read_from : Readings → List (List ℕ) → Read
 read_from r [] = given r

@@ -11,7 +11,7 @@ use fields::fields::{Value, is_count_tag, meaning_of};
 use pages::put;
 use questions::digits::{are_hex, word_in};
 use questions::words::{nth_word, word_count};
-use record::entries::{Readings, entry_of, is_present, no_readings, with_value};
+use record::entries::{Readings, entry_of, no_readings, with_value};
 
 // The digits of the tag, and those of the data behind `=`.
 fn tag_part(item: &[u8]) -> &[u8]
@@ -107,7 +107,7 @@ fn with_item(readings: Readings, item: &[u8]) -> Items
         return wrong();
     }
     let meaning = meaning_of(tag_in(item));
-    if is_present(entry_of(readings, meaning)) {
+    if entry_of(readings, meaning).is_some() {
         return wrong();
     }
     Items {

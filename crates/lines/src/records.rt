@@ -11,9 +11,8 @@ use crate::written::{put_counts, put_doubles};
 use mast::judge::{judge, judge_strictly};
 use pages::put;
 use record::readings::read_record;
-use refusal::Check;
 use report::Origin;
-use sheet::page::{Sheet, setting_sheet};
+use sheet::page::setting_sheet;
 use text::answer_lines::{put_answer, put_refusal};
 
 // The report of a record, or why it is not read.
@@ -23,8 +22,8 @@ fn put_report(page: &mut [u8], at: usize, record: &[u8]) -> usize
     let read = read_record(record);
     let check = read.check;
     match check {
-        Check::Refused(refusal) => put_refusal(page, at, refusal),
-        Check::Passed => report::put_report(page, at, read.readings, Origin::Record),
+        Err(refusal) => put_refusal(page, at, refusal),
+        Ok(()) => report::put_report(page, at, read.readings, Origin::Record),
     }
 }
 
@@ -59,7 +58,7 @@ pub(crate) fn put_sheet(
 {
     let mut rows = [0u8; 1530];
     match setting_sheet(altitude_m, pressure_hpa, humidity_percent, &mut rows) {
-        Sheet::Written => put(page, at, &rows),
-        Sheet::Refused(refusal) => put_refusal(page, at, refusal),
+        Ok(()) => put(page, at, &rows),
+        Err(refusal) => put_refusal(page, at, refusal),
     }
 }

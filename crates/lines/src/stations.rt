@@ -2,9 +2,10 @@
 ghost use Rattle.std.specs.Prelude.{◌≡◌, [], get_or};
 ghost use Rattle.pages.specs.Pages.{Appended};
 ghost use Rattle.questions.specs.Words.{line_parts};
-ghost use Rattle.refusal.specs.Inverted.{inverse_outcome};
+ghost use Rattle.refusal.specs.Outcomes.{outcome};
 ghost use Rattle.lines.specs.Stations.{option_of, reading_in, accepted_line, inverse_line, standard_answer, atmosphere_answer, resolved_answer, station_answer, plausibility_answer};
 
+use refusal::Refusal;
 use crate::texts::{put_pair, put_pair_truth, put_three};
 use crate::value_lines::{put_next_value, put_refusal_values};
 use air::conditions::calculate_atmosphere;
@@ -19,7 +20,7 @@ use pages::put;
 use questions::arguments::double_at;
 use questions::forms::{Given, given_in};
 use questions::words::nth_word;
-use refusal::inverse::{Answer, Station};
+use refusal::inverse::Station;
 
 fn reading_of(given: Given) -> Reading
     ensures { result ≡ option_of given }
@@ -80,12 +81,12 @@ fn put_accepted(page: &mut [u8], at: usize, station: Station) -> usize
     put(page, pressure, b"\n")
 }
 
-fn put_found(page: &mut [u8], at: usize, answer: Answer) -> usize
-    ensures { Appended page.old at (inverse_line (inverse_outcome answer)) page.new result }
+fn put_found(page: &mut [u8], at: usize, answer: Result<Station, Refusal>) -> usize
+    ensures { Appended page.old at (inverse_line (outcome answer)) page.new result }
 {
     match answer {
-        Answer::Station(station) => put_accepted(page, at, station),
-        Answer::Refused(refusal) => put_refusal_values(page, at, refusal),
+        Ok(station) => put_accepted(page, at, station),
+        Err(refusal) => put_refusal_values(page, at, refusal),
     }
 }
 

@@ -2,15 +2,15 @@
 // as far as the page reaches, and answers the position after it.
 ghost use Rattle.std.specs.Prelude.{◌++◌};
 ghost use Rattle.refusal.specs.Refusals.{number_of, values_of, listed};
-ghost use Rattle.refusal.specs.Judged.{outcome};
+ghost use Rattle.refusal.specs.Outcomes.{outcome};
 ghost use Rattle.arithmetic.specs.Ascii.{ascii};
 ghost use Rattle.pages.specs.Pages.{Appended};
 ghost use Rattle.lines.specs.Values.{whole, value_text, values_text, refusal_values, answer_values};
 
+use refusal::judge::Figures;
 use fields::bits::pattern;
 use pages::digits::put_digits;
 use pages::{put, put_number};
-use refusal::judge::Answer;
 use refusal::{Refusal, Values, handed_out, number};
 use text::answer_lines::put_figures;
 
@@ -68,11 +68,11 @@ pub(crate) fn put_refusal_values(page: &mut [u8], at: usize, refusal: Refusal) -
 }
 
 // The two lines of the figures, or the one of a refusal with its values.
-pub(crate) fn put_answer_values(page: &mut [u8], at: usize, answer: Answer) -> usize
+pub(crate) fn put_answer_values(page: &mut [u8], at: usize, answer: Result<Figures, Refusal>) -> usize
     ensures { Appended page.old at (answer_values (outcome answer)) page.new result }
 {
     match answer {
-        Answer::Figures(figures) => put_figures(page, at, figures),
-        Answer::Refused(refusal) => put_refusal_values(page, at, refusal),
+        Ok(figures) => put_figures(page, at, figures),
+        Err(refusal) => put_refusal_values(page, at, refusal),
     }
 }

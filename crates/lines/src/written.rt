@@ -3,17 +3,17 @@ ghost use Rattle.std.specs.Prelude.{◌≡◌, true, false, ◌≤◌, length};
 ghost use Rattle.pages.specs.Pages.{Appended};
 ghost use Rattle.writer.specs.Conversion.{converted};
 ghost use Rattle.load_text.specs.Text.{length_taken};
-ghost use Rattle.writer.specs.Written.{written};
+ghost use Rattle.refusal.specs.Outcomes.{outcome, accepted};
 ghost use Rattle.writer.specs.Records.{record_of};
-ghost use Rattle.refusal.specs.Outcomes.{accepted};
 ghost use Rattle.lines.specs.Written.{bytes_text, length_text, written_text, text_in};
 
+use refusal::Refusal;
 use crate::value_lines::put_whole;
 use pages::{put, put_hex};
 use record::entries::Readings;
 use text::answer_lines::put_refusal;
 use writer::conversion::{to_counts, to_doubles};
-use writer::{Written, write};
+use writer::write;
 
 // A record has no more bytes.
 const ROOM: usize = 154;
@@ -38,13 +38,13 @@ fn put_length(page: &mut [u8], at: usize, bytes: &[u8]) -> usize
 }
 
 // What a writer has left at the start of its buffer, the length before it, or its refusal.
-fn put_written(page: &mut [u8], at: usize, answer: Written, out: &[u8]) -> usize
-    requires { (length out.now ≡ 154) × (length_taken (written answer) ≤ 154) }
-    ensures { Appended page.old at (text_in length_text (written answer) out.now) page.new result }
+fn put_written(page: &mut [u8], at: usize, answer: Result<usize, Refusal>, out: &[u8]) -> usize
+    requires { (length out.now ≡ 154) × (length_taken (outcome answer) ≤ 154) }
+    ensures { Appended page.old at (text_in length_text (outcome answer) out.now) page.new result }
 {
     match answer {
-        Written::Length(n) => put_length(page, at, &out[..n]),
-        Written::Refused(refusal) => put_refusal(page, at, refusal),
+        Ok(n) => put_length(page, at, &out[..n]),
+        Err(refusal) => put_refusal(page, at, refusal),
     }
 }
 

@@ -6,7 +6,8 @@ unfoldable pub use Rattle.thousandths.specs.Thousandths.{thousandths, twos_compl
 pub use Rattle.refusal.specs.Outcomes.{Outcome, Row, ◌then◌, ◌⟫◌, accepted, row}
 pub use Rattle.pages.proofs.Growing.{and_then, no_more, same_length, same_more}
 pub use Rattle.fields.specs.declared.fields.Value.TheVariants.{Count}
-pub use Rattle.record.specs.Entries.{entry_for, entry_of, is_present, no_readings, slot_of, with_value}
+pub use Rattle.record.specs.Entries.{entry_for, entry_of, no_readings, with_value}
+pub use Rattle.std.specs.Prelude.{is_some}
 pub use Rattle.record.specs.declared.entries.Readings.{Readings}
 unfoldable pub use Rattle.writer.specs.Records.{field_with, fields_from}
 pub use Rattle.writer.specs.Records.{record_of}

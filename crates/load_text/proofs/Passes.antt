@@ -1,14 +1,12 @@
 -- Readings of the load pass every check before those of their air. Assumes nothing.
-use Rattle.load_text.proofs.Kit.{◌≡◌, sym, ap, ap₂, ◌∙◌, subst, Bool, false, not, ◌||◌, List, [], ◌∷◌, ◌++◌, ⊎_elim, ℤ, pos, neg_ℤ, Float, fits, of_bits, round, lt, accepted, Row, row, ◌then◌, thousandths, Readings, is_present, entry_for, entry_of, air_rows, air_outcome, way_rows, resolved_by, judged, CountBetween, CountIn, IsOfTheLoad, InRange}
+use Rattle.std.specs.Prelude.{None, Option, Some}
+use Rattle.fields.specs.declared.fields.Value.{Value}
+use Rattle.load_text.proofs.Kit.{◌≡◌, sym, ap, ap₂, ◌∙◌, subst, Bool, false, not, ◌||◌, List, [], ◌∷◌, ◌++◌, ⊎_elim, ℤ, pos, neg_ℤ, Float, fits, of_bits, round, lt, accepted, Row, row, ◌then◌, thousandths, Readings, is_some, entry_for, entry_of, air_rows, air_outcome, way_rows, resolved_by, judged, CountBetween, CountIn, IsOfTheLoad, InRange}
 use Rattle.refusal.specs.Causes.{NoneHolds}
 use Rattle.refusal.proofs.Rows.{then_append, then-none, none_both}
 use Rattle.arithmetic.specs.Decimals.{nought}
 use Rattle.thousandths.proofs.Words.{count_of_word_lem}
 use Rattle.density_altitude.specs.Inverse.{absolute_zero, temperature_rows}
-use Rattle.record.specs.declared.entries.Entry.{Entry}
-use Rattle.record.specs.declared.entries.Entry.TheVariants.{Present}
-use Rattle.record.specs.declared.entries.Stored.{Stored}
-use Rattle.record.specs.declared.entries.Stored.TheVariants as stored
 use Rattle.fields.specs.Fields as meaning
 use Rattle.station.specs.Resolved.{ordinary}
 use Rattle.station.specs.Figures.{figures_of}
@@ -16,15 +14,15 @@ use Rattle.mast.specs.Checks.{has, is_clash, finite_rows, pressure_rows, humidit
 use Rattle.load_text.proofs.Order.{in_range_lem, is_finite_lem, not_down-to, not_below}
 
 -- ---- the entry of a count in a range passes what the double of each count in it passes
-module _ {low high : ℤ} {s : Stored} (l : InRange low) (h : InRange high) (here : CountIn low high s) where
-  pub entry : entry_for s ≡ Present (thousandths here.count)
-  entry = ap entry_for here.stored ∙ ap (λ (z : ℤ). Present (thousandths z)) (count_of_word_lem here.count (in_range_lem low high here.count l h here.between))
+module _ {low high : ℤ} {s : (Option Value)} (l : InRange low) (h : InRange high) (here : CountIn low high s) where
+  pub entry : entry_for s ≡ Some (thousandths here.count)
+  entry = ap entry_for here.stored ∙ ap (λ (z : ℤ). Some (thousandths z)) (count_of_word_lem here.count (in_range_lem low high here.count l h here.between))
 
   passes : (rows : Float → List Row) → ((z : ℤ) → InRange z → CountBetween low high z → NoneHolds (rows (thousandths z))) → NoneHolds (present rows (entry_for s))
-  passes rows test = subst (λ (e : Entry). NoneHolds (present rows e)) (sym entry) (test here.count (in_range_lem low high here.count l h here.between) here.between)
+  passes rows test = subst (λ (e : (Option Float)). NoneHolds (present rows e)) (sym entry) (test here.count (in_range_lem low high here.count l h here.between) here.between)
 
-absent-passes : (rows : Float → List Row) {s : Stored} → s ≡ stored.Absent → NoneHolds (present rows (entry_for s))
-absent-passes rows e = subst (λ (s : Stored). NoneHolds (present rows (entry_for s))) (sym e) tt
+absent-passes : (rows : Float → List Row) {s : (Option Value)} → s ≡ None → NoneHolds (present rows (entry_for s))
+absent-passes rows e = subst (λ (s : (Option Value)). NoneHolds (present rows (entry_for s))) (sym e) tt
 
 -- ---- the values
 temperature-passes : (z : ℤ) → InRange z → CountBetween (neg_ℤ (pos 40_000)) (pos 50_000) z → NoneHolds (temperature_rows (thousandths z))
@@ -65,12 +63,12 @@ module _ (r : Readings) (h : IsOfTheLoad r) where
   no_clash = rw (h.no_station_pressure, h.no_qnh, h.no_density_altitude, h.pressure.stored)
 
   has-altitude : not (has r meaning.altitude) ≡ false
-  has-altitude = ap (λ (s : Stored). not (is_present (entry_for s))) h.altitude.stored
+  has-altitude = ap (λ (s : (Option Value)). not (is_some (entry_for s))) h.altitude.stored
 
   pub only-air : judged r ≡ air_outcome (ordinary r)
   unfolding judged air_outcome
   only-air =
       let rows = row (is_clash r) 9 [] ∷ ordinary_rows r in
-      ap (λ (e : Entry). (row (is_clash r) 9 [] ∷ (way_rows r e ++ air_rows (resolved_by r e))) then accepted (figures_of (resolved_by r e))) (ap entry_for h.no_density_altitude)
+      ap (λ (e : (Option Float)). (row (is_clash r) 9 [] ∷ (way_rows r e ++ air_rows (resolved_by r e))) then accepted (figures_of (resolved_by r e))) (ap entry_for h.no_density_altitude)
       ∙ then_append rows (air_rows (ordinary r)) (accepted (figures_of (ordinary r)))
       ∙ then-none rows (no_clash, (has-altitude, values_pass))

@@ -1,23 +1,21 @@
 -- The readings of the load slot by slot: which counts they hold, each within its range and as the code holds it. Assumes nothing.
-use Rattle.load_text.proofs.Kit.{◌≡◌, refl, sym, subst, Bool, true, false, cond, List, [], ◌∷◌, ◌⊎◌, inl, inr, ℕ, zero, suc, arith, ℤ, pos, get_or, twos_complement, LoadCounts, CountBetween, Count, Readings, slot_of, readings_of_counts, CountIn, IsOfTheLoad, InRange}
+use Rattle.std.specs.Prelude.{None, Option, Some}
+use Rattle.load_text.proofs.Kit.{◌≡◌, refl, sym, subst, Bool, true, false, cond, List, [], ◌∷◌, ◌⊎◌, inl, inr, ℕ, zero, suc, arith, ℤ, pos, get_or, twos_complement, LoadCounts, CountBetween, Count, Readings, readings_of_counts, CountIn, IsOfTheLoad, InRange}
 use Rattle.thousandths.proofs.Words.{twos_complement_lem}
 use Rattle.load_text.proofs.Stated.{InRanges}
 use Rattle.fields.specs.declared.fields.Value.{Value}
-use Rattle.record.specs.declared.entries.Slot.{Slot}
-use Rattle.record.specs.declared.entries.Stored.{Stored}
-use Rattle.record.specs.declared.entries.Stored.TheVariants.{Absent, Present}
 use Rattle.writer.specs.Laws.{IsHeld, AreHeld}
 use Rattle.load_text.proofs.Order.{in_range_lem}
 
-abbrev stored : ℤ → Stored
-stored z = Present (Count (twos_complement z))
+abbrev stored : ℤ → (Option Value)
+stored z = Some (Count (twos_complement z))
 
 -- a slot for each meaning, 01 to 07
 abbrev pub in_slots : Bool → LoadCounts → Readings
 in_slots humid c =
     record {
       slots =
-          slot_of (stored c.altitude) ∷ slot_of (stored c.temperature) ∷ slot_of Absent ∷ slot_of Absent ∷ slot_of (cond humid (stored c.humidity) Absent) ∷ slot_of Absent ∷
+          slot_of (stored c.altitude) ∷ slot_of (stored c.temperature) ∷ None ∷ None ∷ slot_of (cond humid (stored c.humidity) None) ∷ None ∷
           slot_of (stored c.pressure) ∷ [];
     }
 
@@ -42,20 +40,20 @@ module _ (c : LoadCounts) (ranges : InRanges c) where
     no_density_altitude = refl;
   }
     where
-      go : (b : Bool) → (cond b (stored c.humidity) Absent ≡ Absent) ⊎ CountIn (pos 0) (pos 100_000) (cond b (stored c.humidity) Absent)
+      go : (b : Bool) → (cond b (stored c.humidity) None ≡ None) ⊎ CountIn (pos 0) (pos 100_000) (cond b (stored c.humidity) None)
       go true = inr (record { count = c.humidity; stored = refl; between = ranges.humidity })
       go false = inl refl
 
 -- ---- as the code holds them
-abbrev Held : Stored → Type 0
-Held Absent = Unit {0}
-Held (Present v) = IsHeld v
+abbrev Held : (Option Value) → Type 0
+Held None = Unit {0}
+Held (Some v) = IsHeld v
 
-abbrev AllHeld : List Slot → Type 0
+abbrev AllHeld : List (Option Value) → Type 0
 AllHeld [] = Unit {0}
 AllHeld (s ∷ slots) = Held s.stored × AllHeld slots
 
-one_of_all : (slots : List Slot) → AllHeld slots → (m : ℕ) (v : Value) → (get_or slots m (slot_of Absent)).stored ≡ Present v → IsHeld v
+one_of_all : (slots : List (Option Value)) → AllHeld slots → (m : ℕ) (v : Value) → (get_or slots m None).stored ≡ Some v → IsHeld v
 one_of_all [] h m v e = let z : ◌≡◌ {A = ℕ} 0 1 = cc in absurd (omega arith)
 one_of_all (s ∷ slots) h zero v e = subst Held e h.0
 one_of_all (s ∷ slots) h (suc m) v e = one_of_all slots h.1 m v e
@@ -67,7 +65,7 @@ module _ (c : LoadCounts) (ranges : InRanges c) where
   are_held : (humid : Bool) → AreHeld (in_slots humid c)
   are_held humid = record { all = refl; values = λ m v e. one_of_all (in_slots humid c).slots all_held m v e }
     where
-      humidity-held : (b : Bool) → Held (cond b (stored c.humidity) Absent)
+      humidity-held : (b : Bool) → Held (cond b (stored c.humidity) None)
       humidity-held true = word_held _ _ c.humidity tt tt ranges.humidity
       humidity-held false = tt
 

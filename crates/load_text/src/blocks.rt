@@ -2,15 +2,15 @@
 // figures. Each function that puts a text puts it from a position on and answers the position after it.
 ghost use Rattle.std.specs.Prelude.{◌≡◌, length};
 ghost use Rattle.pages.specs.Pages.{Appended, Holds};
-ghost use Rattle.writer.specs.Written.{written};
+ghost use Rattle.refusal.specs.Outcomes.{outcome};
 ghost use Rattle.load_text.specs.Records.{load_record};
 ghost use Rattle.load_text.specs.Text.{bytes_line, judged_text, load_record_text, records_in, length_taken, Fills};
 
+use refusal::Refusal;
 use crate::records::write_load_record;
 use mast::judge::judge;
 use pages::{put, put_hex};
 use text::answer_lines::put_answer;
-use writer::Written;
 
 // The bytes of the longest record: four fields of seven.
 const LONGEST: usize = 28;
@@ -41,12 +41,12 @@ fn put_judged(page: &mut [u8], at: usize, record: &[u8]) -> usize
     put_answer(page, line, judge(record))
 }
 
-fn length_of(answer: Written) -> usize
-    ensures { result ≡ length_taken (written answer) }
+fn length_of(answer: Result<usize, Refusal>) -> usize
+    ensures { result ≡ length_taken (outcome answer) }
 {
     match answer {
-        Written::Length(n) => n,
-        Written::Refused(_) => 0,
+        Ok(n) => n,
+        Err(_) => 0,
     }
 }
 

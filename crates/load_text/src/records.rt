@@ -1,13 +1,15 @@
 // The records of the load: readings of counts, and their bytes by the writer.
 ghost use Rattle.std.specs.Prelude.{◌≡◌};
-ghost use Rattle.writer.specs.Written.{written, length_written, overwritten};
+ghost use Rattle.writer.specs.Written.{length_written, overwritten};
+ghost use Rattle.refusal.specs.Outcomes.{outcome};
 ghost use Rattle.load_text.specs.Records.{with_count, readings_of_counts, load_readings, load_record};
 
+use refusal::Refusal;
 use crate::counts::{LoadCounts, load_counts};
 use fields::fields::{ALTITUDE, HUMIDITY, MEASURED_PRESSURE, TEMPERATURE, Value};
 use record::entries::{Readings, no_readings, with_value};
 use thousandths::word_from;
-use writer::{Written, write};
+use writer::write;
 
 fn with_count(readings: Readings, meaning: usize, count: i32) -> Readings
     ensures { result ≡ with_count readings meaning count }
@@ -36,8 +38,8 @@ fn load_readings(number: u64) -> Readings
 
 // The load's record with this number at the start of the buffer, and its length. What is past it is left,
 // and so is the whole of a buffer that is shorter (cause 18).
-pub fn write_load_record(number: u64, out: &mut [u8]) -> Written
-    ensures answered { written result ≡ length_written (load_record number) out.old }
+pub fn write_load_record(number: u64, out: &mut [u8]) -> Result<usize, Refusal>
+    ensures answered { outcome result ≡ length_written (load_record number) out.old }
     ensures lent { out.new ≡ overwritten (load_record number) out.old }
 {
     write(load_readings(number), out)

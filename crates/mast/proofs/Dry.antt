@@ -1,5 +1,5 @@
 -- Dry air has no vapour: humidity 0 times and over anything is 0 or NaN, which is not above 1. So 14 is never answered with 06. Assumes nothing.
-use Rattle.mast.proofs.Kit.{◌≡◌, refl, sym, ap, ◌∙◌, Bool, true, false, cond, true≢false, false≢true, List, [], ◌∷◌, ◌++◌, ℕ, zero, suc, ◌*◌, ◌<◌, zero-mul, arith, pos, eqb, Float, nan, inf, fin, binary64, up, down, round, neg, mul, div, lt, eq, of_bits, up_pos, down_pos, ne_eqb, places, one, Outcome, accepted, refused, Row, row, ◌then◌, then_append, then_same, station_rows, Entry, Absent, Present, Readings, temperature, humidity, density_altitude, is_present, entry_of, Figures, Resolved, has, is_clash, humidity_rows, present, given_temperature, value_or_zero, shown_temperature, shown_pressure, figures_of, air_rows, way_rows, resolved_by, judged, resolved, reading_rows}
+use Rattle.mast.proofs.Kit.{◌≡◌, refl, sym, ap, ◌∙◌, Bool, true, false, cond, true≢false, false≢true, List, [], ◌∷◌, ◌++◌, ℕ, zero, suc, ◌*◌, ◌<◌, zero-mul, arith, pos, eqb, Float, nan, inf, fin, binary64, up, down, round, neg, mul, div, lt, eq, of_bits, up_pos, down_pos, ne_eqb, places, one, Outcome, accepted, refused, Row, row, ◌then◌, then_append, then_same, station_rows, Option, None, Some, Readings, temperature, humidity, density_altitude, is_some, entry_of, Figures, Resolved, has, is_clash, humidity_rows, present, given_temperature, value_or_zero, shown_temperature, shown_pressure, figures_of, air_rows, way_rows, resolved_by, judged, resolved, reading_rows}
 use lib.Ieee.{unlike}
 use Rattle.arithmetic.specs.Operators.{◌⊗◌, ◌⊘◌}
 use Rattle.arithmetic.proofs.Rounding.{round-opposite}
@@ -53,9 +53,9 @@ unfolding of_bits
 dry = record { zero = λ t p. fraction false _ _ _; minus-zero = λ t p. fraction true _ _ _ }
 
 -- ---- 14 is not answered with 06
-pub absent : (e : Entry) → is_present e ≡ false → e ≡ Absent
-absent Absent h = refl
-absent (Present x) h = absurd (true≢false h)
+pub absent : (e : (Option Float)) → is_some e ≡ false → e ≡ None
+absent None h = refl
+absent (Some x) h = absurd (true≢false h)
 
 without-append : (n : ℕ) (xs ys : List Row) → without n (xs ++ ys) ≡ without n xs ++ without n ys
 without-append n [] ys = refl
@@ -67,21 +67,21 @@ without-append n (r ∷ xs) ys = go (eqb r.number n) (without-append n xs ys)
     go false e = ap (λ (l : List Row). r ∷ l) e
 
 -- neither the inverse nor a humidity has a row 14
-way_rows_lem : (r : Readings) (d : Float) (t h : Entry) → let rows = station_rows places d (given_temperature t) ++ present humidity_rows h in without 14 rows ≡ rows
-way_rows_lem r d Absent Absent = refl
-way_rows_lem r d Absent (Present h) = refl
-way_rows_lem r d (Present t) Absent = refl
-way_rows_lem r d (Present t) (Present h) = refl
+way_rows_lem : (r : Readings) (d : Float) (t h : (Option Float)) → let rows = station_rows places d (given_temperature t) ++ present humidity_rows h in without 14 rows ≡ rows
+way_rows_lem r d None None = refl
+way_rows_lem r d None (Some h) = refl
+way_rows_lem r d (Some t) None = refl
+way_rows_lem r d (Some t) (Some h) = refl
 
-air : (a : Resolved) (o : Outcome Figures) → a.humidity_percent ≡ value_or_zero Absent → (air_rows a then o) ≡ (without 14 (air_rows a) then o)
+air : (a : Resolved) (o : Outcome Figures) → a.humidity_percent ≡ value_or_zero None → (air_rows a then o) ≡ (without 14 (air_rows a) then o)
 air a o none = ap (λ (b : Bool). cond b (refused 14 []) (without 14 (air_rows a) then o)) (ap (λ (h : Float). lt one (mole_fraction_celsius places (shown_temperature a) (shown_pressure a) h)) none ∙ dry.zero _ _)
 
-by-entry : (r : Readings) (e : Entry) → is_present e ≡ true → has r humidity ≡ false
+by-entry : (r : Readings) (e : (Option Float)) → is_some e ≡ true → has r humidity ≡ false
     → let rows = way_rows r e ++ air_rows (resolved_by r e) in let o = accepted (figures_of (resolved_by r e)) in (rows then o) ≡ (without 14 rows then o)
-by-entry r Absent h none = absurd (false≢true h)
-by-entry r (Present d) h none =
-    let rows = way_rows r (Present d) in
-    let a = resolved_by r (Present d) in
+by-entry r None h none = absurd (false≢true h)
+by-entry r (Some d) h none =
+    let rows = way_rows r (Some d) in
+    let a = resolved_by r (Some d) in
     let o = accepted (figures_of a) in
     then_append rows (air_rows a) o
     ∙ then_same rows (λ _. air a o (ap value_or_zero (absent (entry_of r humidity) none)))

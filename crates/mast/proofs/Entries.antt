@@ -1,5 +1,5 @@
 -- Readings are judged by their entries alone, and those that are accepted hold finite values. Assumes nothing.
-use Rattle.mast.proofs.Kit.{◌≡◌, refl, sym, ap, ap₂, subst, ◌∙◌, Bool, true, false, not, ◌&&◌, ◌||◌, true≢false, List, [], ◌∷◌, ◌++◌, ℕ, zero, suc, ◌<◌, arith, not-false, Float, places, accepted, Row, row, ◌then◌, exactly, none_before, none_after, temperature_rows, station_rows, Entry, Absent, Present, Readings, meanings, altitude, temperature, station_pressure, qnh, humidity, density_altitude, measured_pressure, entry_of, is_present, Resolved, has, is_clash, finite_rows, pressure_rows, humidity_rows, present, value_rows, ordinary, given_temperature, figures_of, air_rows, way_rows, resolved_by, resolved, reading_rows, judged, Figures}
+use Rattle.mast.proofs.Kit.{◌≡◌, refl, sym, ap, ap₂, subst, ◌∙◌, Bool, true, false, not, ◌&&◌, ◌||◌, true≢false, List, [], ◌∷◌, ◌++◌, ℕ, zero, suc, ◌<◌, arith, not-false, Float, places, accepted, Row, row, ◌then◌, exactly, none_before, none_after, temperature_rows, station_rows, Option, None, Some, Readings, meanings, altitude, temperature, station_pressure, qnh, humidity, density_altitude, measured_pressure, entry_of, is_some, Resolved, has, is_clash, finite_rows, pressure_rows, humidity_rows, present, value_rows, ordinary, given_temperature, figures_of, air_rows, way_rows, resolved_by, resolved, reading_rows, judged, Figures}
 use Rattle.arithmetic.specs.Doubles.{is_finite}
 use Rattle.refusal.specs.Causes.{NoneHolds}
 use Rattle.mast.proofs.Stated.{SameEntries, FiniteEntry}
@@ -9,15 +9,15 @@ module _ (r q : Readings) (same : SameEntries r q) where
   same-clash : is_clash r ≡ is_clash q
   same-clash = rw (same altitude (omega arith), same station_pressure (omega arith), same qnh (omega arith), same density_altitude (omega arith), same measured_pressure (omega arith))
 
-  same_way : (e : Entry) → way_rows r e ≡ way_rows q e
-  same_way (Present d) = rw (same temperature (omega arith), same humidity (omega arith))
-  same_way Absent =
+  same_way : (e : (Option Float)) → way_rows r e ≡ way_rows q e
+  same_way (Some d) = rw (same temperature (omega arith), same humidity (omega arith))
+  same_way None =
       rw (same altitude (omega arith), same temperature (omega arith), same station_pressure (omega arith), same qnh (omega arith), same humidity (omega arith), same measured_pressure (omega arith))
 
-  same-resolved : (e : Entry) → resolved_by r e ≡ resolved_by q e
+  same-resolved : (e : (Option Float)) → resolved_by r e ≡ resolved_by q e
   unfolding ordinary
-  same-resolved (Present d) = rw (same temperature (omega arith), same humidity (omega arith))
-  same-resolved Absent =
+  same-resolved (Some d) = rw (same temperature (omega arith), same humidity (omega arith))
+  same-resolved None =
       rw (same altitude (omega arith), same temperature (omega arith), same station_pressure (omega arith), same qnh (omega arith), same humidity (omega arith), same measured_pressure (omega arith))
 
   all-resolved : resolved r ≡ resolved q
@@ -37,20 +37,20 @@ judged-by_entries r q same = ap₂ (λ (rows : List Row) (a : Resolved). rows th
 abbrev TestsFinite : (Float → List Row) → Type 0
 TestsFinite rows = (x : Float) → NoneHolds (rows x) → not (is_finite x) ≡ false
 
-finite_where : (rows : Float → List Row) → TestsFinite rows → (e : Entry) → NoneHolds (present rows e) → FiniteEntry e
-finite_where rows test Absent h = tt
-finite_where rows test (Present x) h = not-false (is_finite x) (test x h)
+finite_where : (rows : Float → List Row) → TestsFinite rows → (e : (Option Float)) → NoneHolds (present rows e) → FiniteEntry e
+finite_where rows test None h = tt
+finite_where rows test (Some x) h = not-false (is_finite x) (test x h)
 
-finite-absent : (e : Entry) → is_present e ≡ false → FiniteEntry e
-finite-absent Absent h = tt
-finite-absent (Present x) h = absurd (true≢false h)
+finite-absent : (e : (Option Float)) → is_some e ≡ false → FiniteEntry e
+finite-absent None h = tt
+finite-absent (Some x) h = absurd (true≢false h)
 
 pub neither : (a b : Bool) → (a || b) ≡ false → (a ≡ false) × (b ≡ false)
 neither true b h = absurd (true≢false h)
 neither false b h = (refl, h)
 
 -- ---- without 06 by the values' own tests
-module _ (r : Readings) (none : NoneHolds (value_rows r)) (without : entry_of r density_altitude ≡ Absent) where
+module _ (r : Readings) (none : NoneHolds (value_rows r)) (without : entry_of r density_altitude ≡ None) where
   abbrev to_02 : List Row
   to_02 = present finite_rows (entry_of r altitude) ++ present temperature_rows (entry_of r temperature)
 
@@ -85,11 +85,11 @@ module _ (r : Readings) (none : NoneHolds (value_rows r)) (without : entry_of r 
   ordinary-finite (suc (suc (suc (suc (suc (suc (suc m))))))) h = absurd (omega arith)
 
 -- ---- with 06 by the inverse's tests and the humidity's; the others clash with it
-module _ (r : Readings) (d : Float) (apart : is_clash r ≡ false) (none : NoneHolds (way_rows r (Present d))) (with06 : entry_of r density_altitude ≡ Present d) where
+module _ (r : Readings) (d : Float) (apart : is_clash r ≡ false) (none : NoneHolds (way_rows r (Some d))) (with06 : entry_of r density_altitude ≡ Some d) where
   others : (has r altitude || has r station_pressure || has r qnh || has r measured_pressure) ≡ false
   others =
       let pressures = (has r station_pressure && has r qnh) || (has r measured_pressure && (has r station_pressure || has r qnh)) in
-      let there : has r density_altitude ≡ true = ap is_present with06 in
+      let there : has r density_altitude ≡ true = ap is_some with06 in
       simp there at (neither pressures (has r density_altitude && (has r altitude || has r station_pressure || has r qnh || has r measured_pressure)) apart).1
 
   up_to-qnh : (has r altitude || has r station_pressure || has r qnh) ≡ false
@@ -98,15 +98,15 @@ module _ (r : Readings) (d : Float) (apart : is_clash r ≡ false) (none : NoneH
   up_to-station : (has r altitude || has r station_pressure) ≡ false
   up_to-station = (neither (has r altitude || has r station_pressure) (has r qnh) up_to-qnh).0
 
-  abbrev inverse-rows : Entry → List Row
+  abbrev inverse-rows : (Option Float) → List Row
   inverse-rows t = station_rows places d (given_temperature t)
 
   none-inverse : NoneHolds (inverse-rows (entry_of r temperature))
   none-inverse = none_before (inverse-rows (entry_of r temperature)) (present humidity_rows (entry_of r humidity)) none
 
-  given-finite : (t : Entry) → NoneHolds (inverse-rows t) → FiniteEntry t
-  given-finite Absent h = tt
-  given-finite (Present t) h = not-false (is_finite t) h.1.0
+  given-finite : (t : (Option Float)) → NoneHolds (inverse-rows t) → FiniteEntry t
+  given-finite None h = tt
+  given-finite (Some t) h = not-false (is_finite t) h.1.0
 
   station-finite : (m : ℕ) → m < meanings → FiniteEntry (entry_of r m)
   station-finite zero h = finite-absent (entry_of r altitude) (neither (has r altitude) (has r station_pressure) up_to-station).0
@@ -120,9 +120,9 @@ module _ (r : Readings) (d : Float) (apart : is_clash r ≡ false) (none : NoneH
       finite-absent (entry_of r measured_pressure) (neither (has r altitude || has r station_pressure || has r qnh) (has r measured_pressure) others).1
   station-finite (suc (suc (suc (suc (suc (suc (suc m))))))) h = absurd (omega arith)
 
-by_way : (r : Readings) → is_clash r ≡ false → (e : Entry) → entry_of r density_altitude ≡ e → NoneHolds (way_rows r e) → (m : ℕ) → m < meanings → FiniteEntry (entry_of r m)
-by_way r apart Absent told none = ordinary-finite r none.1 told
-by_way r apart (Present d) told none = station-finite r d apart none told
+by_way : (r : Readings) → is_clash r ≡ false → (e : (Option Float)) → entry_of r density_altitude ≡ e → NoneHolds (way_rows r e) → (m : ℕ) → m < meanings → FiniteEntry (entry_of r m)
+by_way r apart None told none = ordinary-finite r none.1 told
+by_way r apart (Some d) told none = station-finite r d apart none told
 
 pub accepted-is_finite : (r : Readings) (f : Figures) → judged r ≡ accepted f → (m : ℕ) → m < meanings → FiniteEntry (entry_of r m)
 unfolding judged

@@ -1,13 +1,13 @@
 -- The numbers of readings end at 15, and so those of a record at 19. Assumes nothing.
-use Rattle.mast.proofs.Kit.{◌≡◌, Bool, List, ◌++◌, ℕ, ◌≤◌, arith, Float, refused, Row, Never, never_both, never-refused, exactly, places, Reading, temperature_rows, station_rows, Entry, Absent, Present, Readings, entry_of, altitude, temperature, station_pressure, qnh, humidity, density_altitude, measured_pressure, read_rows, readings, finite_rows, pressure_rows, humidity_rows, present, value_rows, Resolved, given_temperature, figures_of, air_rows, way_rows, resolved, reading_rows, judge_by, record_rows}
+use Rattle.mast.proofs.Kit.{◌≡◌, Bool, List, ◌++◌, ℕ, ◌≤◌, arith, Float, refused, Row, Never, never_both, never-refused, exactly, places, Reading, temperature_rows, station_rows, Option, None, Some, Readings, entry_of, altitude, temperature, station_pressure, qnh, humidity, density_altitude, measured_pressure, read_rows, readings, finite_rows, pressure_rows, humidity_rows, present, value_rows, Resolved, given_temperature, figures_of, air_rows, way_rows, resolved, reading_rows, judge_by, record_rows}
 use Rattle.atmosphere.specs.declared.given.Reading.TheVariants.{Given, FromLayer}
 use Rattle.record.proofs.Numbers.{fields-never}
 use Rattle.mast.proofs.Causes.{caused}
 
 module _ (k : ℕ) (h : 16 ≤ k) where
-  given : (rows : Float → List Row) → ((x : Float) → Never k (rows x)) → (e : Entry) → Never k (present rows e)
-  given rows never Absent = tt
-  given rows never (Present x) = never x
+  given : (rows : Float → List Row) → ((x : Float) → Never k (rows x)) → (e : (Option Float)) → Never k (present rows e)
+  given rows never None = tt
+  given rows never (Some x) = never x
 
   finite-never : (x : Float) → Never k (finite_rows x)
   finite-never x = ((λ e. absurd (omega arith)), tt)
@@ -43,11 +43,11 @@ module _ (k : ℕ) (h : 16 ≤ k) where
       let five = never_both k (rows₁ ++ rows₂ ++ rows₃ ++ rows₄) rows₅ four (given humidity_rows humidity-never (entry_of r humidity)) in
       never_both k (rows₁ ++ rows₂ ++ rows₃ ++ rows₄ ++ rows₅) rows₇ five (pressures (entry_of r measured_pressure))
 
-  way_never : (r : Readings) (e : Entry) → Never k (way_rows r e)
-  way_never r (Present d) =
+  way_never : (r : Readings) (e : (Option Float)) → Never k (way_rows r e)
+  way_never r (Some d) =
       let t = given_temperature (entry_of r temperature) in
       never_both k (station_rows places d t) (present humidity_rows (entry_of r humidity)) (station-never d t) (given humidity_rows humidity-never (entry_of r humidity))
-  way_never r Absent = ((λ e. absurd (omega arith)), values-never r)
+  way_never r None = ((λ e. absurd (omega arith)), values-never r)
 
   pub readings-never : (r : Readings) → Never k (reading_rows r)
   readings-never r =

@@ -1,5 +1,5 @@
 -- What the judge's answer depends on, by the laws of the record: its first 256 bytes, nothing past a refusal 6 to 8, and no order of its fields. Assumes nothing.
-use Rattle.mast.proofs.Kit.{◌≡◌, refl, sym, ap, subst, ◌∙◌, false, List, [], ◌∷◌, ◌++◌, ℕ, ◌≤◌, arith, Float, places, Outcome, accepted, refused, ◌⟫◌, Row, exactly, temperature_rows, station_rows, Entry, Absent, Present, Readings, altitude, temperature, station_pressure, qnh, humidity, density_altitude, measured_pressure, read_record, entry_of, finite_rows, pressure_rows, humidity_rows, present, given_temperature, figures_of, air_rows, way_rows, resolved, reading_rows, judged, judge, take}
+use Rattle.mast.proofs.Kit.{◌≡◌, refl, sym, ap, subst, ◌∙◌, false, List, [], ◌∷◌, ◌++◌, ℕ, ◌≤◌, arith, Float, places, Outcome, accepted, refused, ◌⟫◌, Row, exactly, temperature_rows, station_rows, Option, None, Some, Readings, altitude, temperature, station_pressure, qnh, humidity, density_altitude, measured_pressure, read_record, entry_of, finite_rows, pressure_rows, humidity_rows, present, given_temperature, figures_of, air_rows, way_rows, resolved, reading_rows, judged, judge, take}
 use Rattle.record.proofs.FirstBytes.{first-bytes}
 use Rattle.record.proofs.Following.{nothing-after}
 use Rattle.record.proofs.Exchange.{exchange}
@@ -30,18 +30,18 @@ here-outside : (xs : List Row) (r : Row) (ys : List Row) → AllOutside (xs ++ r
 here-outside [] r ys h = h.0
 here-outside (x ∷ xs) r ys h = here-outside xs r ys h.1
 
-where_present : (rows : Float → List Row) → ((x : Float) → AllOutside (rows x)) → (e : Entry) → AllOutside (present rows e)
-where_present rows h Absent = tt
-where_present rows h (Present x) = h x
+where_present : (rows : Float → List Row) → ((x : Float) → AllOutside (rows x)) → (e : (Option Float)) → AllOutside (present rows e)
+where_present rows h None = tt
+where_present rows h (Some x) = h x
 
-way_outside : (r : Readings) (e : Entry) → AllOutside (way_rows r e)
-way_outside r (Present d) =
+way_outside : (r : Readings) (e : (Option Float)) → AllOutside (way_rows r e)
+way_outside r (Some d) =
     both (station_rows places d (given_temperature (entry_of r temperature))) (present humidity_rows (entry_of r humidity)) (go (entry_of r temperature)) (where_present humidity_rows (λ x. omega arith) (entry_of r humidity))
   where
-    go : (t : Entry) → AllOutside (station_rows places d (given_temperature t))
-    go Absent = omega arith
-    go (Present t) = omega arith
-way_outside r Absent =
+    go : (t : (Option Float)) → AllOutside (station_rows places d (given_temperature t))
+    go None = omega arith
+    go (Some t) = omega arith
+way_outside r None =
     let a = present finite_rows (entry_of r altitude) in
     let t = present temperature_rows (entry_of r temperature) in
     let p = present pressure_rows (entry_of r station_pressure) in

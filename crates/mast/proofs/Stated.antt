@@ -1,5 +1,5 @@
 -- What is proved of the judge beyond its contracts, as types. The page of promises says it in full. Assumes nothing.
-use Rattle.mast.proofs.Kit.{◌≡◌, true, Bool, false, ℕ, ◌<◌, ◌≢◌, List, [], ◌∷◌, ◌++◌, flat_map, Float, lt, length, accepted, numbers, Entry, Absent, Present, Readings, meanings, humidity, density_altitude, size_of, entry_of, Figures, resolved, reading_rows, record_rows, judge_by, judge, read_rows, readings, read_record, has, figures_of, places, one, decimal}
+use Rattle.mast.proofs.Kit.{◌≡◌, true, Bool, false, ℕ, ◌<◌, ◌≢◌, List, [], ◌∷◌, ◌++◌, flat_map, Float, lt, length, accepted, numbers, Option, None, Some, Readings, meanings, humidity, density_altitude, size_of, entry_of, Figures, resolved, reading_rows, record_rows, judge_by, judge, read_rows, readings, read_record, has, figures_of, places, one, decimal}
 use Rattle.arithmetic.specs.Doubles.{is_finite}
 use Rattle.refusal.specs.Causes.{ExactlyCaused}
 use Rattle.fields.specs.Tags.{tags}
@@ -24,9 +24,9 @@ AnyOrder = (s f g t : List ℕ) (r q : Readings) → read_record false s ≡ acc
 abbrev pub SameEntries : Readings → Readings → Type 0
 SameEntries r q = (m : ℕ) → m < meanings → entry_of r m ≡ entry_of q m
 
-abbrev pub FiniteEntry : Entry → Type 0
-FiniteEntry Absent = Unit {0}
-FiniteEntry (Present x) = is_finite x ≡ true
+abbrev pub FiniteEntry : (Option Float) → Type 0
+FiniteEntry None = Unit {0}
+FiniteEntry (Some x) = is_finite x ≡ true
 
 -- ---- humidity leaves altitude, temperature and pressure
 abbrev pub DifferOnlyInHumidity : Readings → Readings → Type 0

@@ -1,18 +1,16 @@
 -- The checks on a record's readings, document 01's table: which fields exclude each other, and the values field by field. Definitions only.
-use Rattle.std.specs.Prelude.{Bool, not, ◌&&◌, ◌||◌, List, [], ◌∷◌, ◌++◌, ℕ, Float}
+use Rattle.std.specs.Prelude.{Bool, not, ◌&&◌, ◌||◌, List, [], ◌∷◌, ◌++◌, ℕ, Float, None, Option, Some, is_some}
 use Rattle.std.specs.Float.Ieee.{lt, le}
 use Rattle.arithmetic.specs.Decimals.{nought, hundred}
 use Rattle.arithmetic.specs.Doubles.{is_finite}
 use Rattle.refusal.specs.Outcomes.{Row, row}
 use Rattle.density_altitude.specs.Inverse.{temperature_rows}
-use Rattle.record.specs.declared.entries.Entry.{Entry}
-use Rattle.record.specs.declared.entries.Entry.TheVariants.{Absent, Present}
 use Rattle.record.specs.declared.entries.Readings.{Readings}
 use Rattle.fields.specs.Fields.{altitude, temperature, station_pressure, qnh, humidity, density_altitude, measured_pressure}
-use Rattle.record.specs.Entries.{is_present, entry_of}
+use Rattle.record.specs.Entries.{entry_of}
 
 abbrev pub has : Readings → ℕ → Bool
-has r m = is_present (entry_of r m)
+has r m = is_some (entry_of r m)
 
 -- ---- 9: 03 with 04, or 06 with 01, 03 or 04; document 02: 07 with 03, 04 or 06, and 06 with 05 is answered
 abbrev pub is_clash : Readings → Bool
@@ -35,9 +33,9 @@ abbrev pub humidity_rows : Float → List Row
 humidity_rows h = finite_rows h ++ row (lt h nought || lt hundred h) 13 (h ∷ []) ∷ []
 
 -- ---- the values by rising tag, each where it is present: 01 to 05, and 07 after 05. 2 and 3 are those of a temperature
-abbrev pub present : (Float → List Row) → Entry → List Row
-present rows Absent = []
-present rows (Present x) = rows x
+abbrev pub present : (Float → List Row) → (Option Float) → List Row
+present rows None = []
+present rows (Some x) = rows x
 
 abbrev pub value_rows : Readings → List Row
 value_rows r =

@@ -1,100 +1,98 @@
 // The judge: eight figures and their mark, or one refusal, by a fixed order of checks.
-ghost use Rattle.std.specs.Prelude.{◌≡◌};
+ghost use Rattle.std.specs.Prelude.{None, Some, ◌≡◌};
 ghost use Rattle.fields.specs.Fields.{humidity};
-ghost use Rattle.refusal.specs.Outcomes.{◌⟫◌, ◌then◌};
+ghost use Rattle.refusal.specs.Outcomes.{◌⟫◌, ◌then◌, outcome};
 ghost use Rattle.record.specs.Entries.{entry_of};
-ghost use Rattle.record.specs.declared.entries.Entry.TheVariants.{Absent, Present};
 ghost use Rattle.record.specs.Readings.{read_outcome};
 ghost use Rattle.mast.specs.Judge.{air_outcome, way_rows, resolved_by, judged, judge, judge_strictly};
 ghost use Rattle.mast.specs.Checks.{humidity_rows, present};
-ghost use Rattle.refusal.specs.Judged.{outcome};
 ghost use Rattle.station.specs.Resolved.{at_station};
 
 use crate::checks::{check_humidity, check_ordinary, is_clash};
 use density_altitude::inverse::station_for_density_altitude;
 use fields::fields::{DENSITY_ALTITUDE, HUMIDITY, TEMPERATURE};
-use record::entries::{Entry, Readings, entry_of};
+use record::entries::{Readings, entry_of};
 use record::readings::{Read, read_record, read_record_strictly};
 use refusal::inverse::Station;
-use refusal::judge::{Answer, Figures};
-use refusal::{Check, Refusal, inverse};
+use refusal::judge::Figures;
+use refusal::{Refusal, inverse};
 use station::figures::{figures_of, is_air};
 use station::resolved::{Resolved, at_station, given_temperature, ordinary};
 
 // The figures of a station and their mark, or the refusal 14 or 15: there is more vapour than air, or the
 // figures are not air's.
-pub fn answer_of(resolved: Resolved) -> Answer
+pub fn answer_of(resolved: Resolved) -> Result<Figures, Refusal>
     ensures { outcome result ≡ air_outcome resolved }
 {
     let found = figures_of(resolved);
     if found.uncapped_vapor_mole_fraction > 1.0 {
-        return Answer::Refused(Refusal::TooMuchVapor);
+        return Err(Refusal::TooMuchVapor);
     }
     let figures = found.figures;
     if !is_air(figures) {
-        return Answer::Refused(Refusal::NotAir);
+        return Err(Refusal::NotAir);
     }
-    Answer::Figures(figures)
+    Ok(figures)
 }
 
 // Readings without 06.
-fn ordinary_answer(readings: Readings) -> Answer
-    ensures { outcome result ≡ (way_rows readings Absent then air_outcome (resolved_by readings Absent)) }
+fn ordinary_answer(readings: Readings) -> Result<Figures, Refusal>
+    ensures { outcome result ≡ (way_rows readings None then air_outcome (resolved_by readings None)) }
 {
     match check_ordinary(readings) {
-        Check::Refused(refusal) => Answer::Refused(refusal),
-        Check::Passed => answer_of(ordinary(readings)),
+        Err(refusal) => Err(refusal),
+        Ok(()) => answer_of(ordinary(readings)),
     }
 }
 
 // The inverse's station, with the humidity of the readings.
-fn humid_answer(station: Station, readings: Readings) -> Answer
+fn humid_answer(station: Station, readings: Readings) -> Result<Figures, Refusal>
     ensures { outcome result ≡ (present humidity_rows (entry_of readings humidity) then air_outcome (at_station station readings)) }
 {
     match check_humidity(entry_of(readings, HUMIDITY)) {
-        Check::Refused(refusal) => Answer::Refused(refusal),
-        Check::Passed => answer_of(at_station(station, readings)),
+        Err(refusal) => Err(refusal),
+        Ok(()) => answer_of(at_station(station, readings)),
     }
 }
 
 // Readings with 06.
-fn inverse_answer(density_altitude_m: f64, readings: Readings) -> Answer
-    ensures { outcome result ≡ (way_rows readings (Present density_altitude_m) then air_outcome (resolved_by readings (Present density_altitude_m))) }
+fn inverse_answer(density_altitude_m: f64, readings: Readings) -> Result<Figures, Refusal>
+    ensures { outcome result ≡ (way_rows readings (Some density_altitude_m) then air_outcome (resolved_by readings (Some density_altitude_m))) }
 {
     let temperature = given_temperature(entry_of(readings, TEMPERATURE));
     match station_for_density_altitude(density_altitude_m, temperature) {
-        inverse::Answer::Refused(refusal) => Answer::Refused(refusal),
-        inverse::Answer::Station(station) => humid_answer(station, readings),
+        Err(refusal) => Err(refusal),
+        Ok(station) => humid_answer(station, readings),
     }
 }
 
 // What readings give: their figures and mark, or one refusal, a cause 1 to 4 or 9 to 15.
-pub fn judge_readings(readings: Readings) -> Answer
+pub fn judge_readings(readings: Readings) -> Result<Figures, Refusal>
     ensures { outcome result ≡ judged readings }
 {
     if is_clash(readings) {
-        return Answer::Refused(Refusal::Clash);
+        return Err(Refusal::Clash);
     }
     match entry_of(readings, DENSITY_ALTITUDE) {
-        Entry::Present(density_altitude_m) => inverse_answer(density_altitude_m, readings),
-        Entry::Absent => ordinary_answer(readings),
+        Some(density_altitude_m) => inverse_answer(density_altitude_m, readings),
+        None => ordinary_answer(readings),
     }
 }
 
 // What was read of a record, judged: the reading's refusal, or what its readings give.
-fn judge_read(read: Read) -> Answer
+fn judge_read(read: Read) -> Result<Figures, Refusal>
     ensures { outcome result ≡ (read_outcome read ⟫ judged) }
 {
     let check = read.check;
     match check {
-        Check::Refused(refusal) => Answer::Refused(refusal),
-        Check::Passed => judge_readings(read.readings),
+        Err(refusal) => Err(refusal),
+        Ok(()) => judge_readings(read.readings),
     }
 }
 
 // What the bytes of a record give, with its tags in any order: its figures and mark, or one refusal. The
 // record is left as it was.
-pub fn judge(bytes: &[u8]) -> Answer
+pub fn judge(bytes: &[u8]) -> Result<Figures, Refusal>
     ensures judged { outcome result ≡ judge bytes.now }
     ensures kept { bytes.now ≡ bytes.now }
 {
@@ -103,7 +101,7 @@ pub fn judge(bytes: &[u8]) -> Answer
 
 // What the bytes of a record give whose tags rise: its figures and mark, or one refusal, 19 where a tag is
 // below the one before it. The record is left as it was.
-pub fn judge_strictly(bytes: &[u8]) -> Answer
+pub fn judge_strictly(bytes: &[u8]) -> Result<Figures, Refusal>
     ensures judged { outcome result ≡ judge_strictly bytes.now }
     ensures kept { bytes.now ≡ bytes.now }
 {

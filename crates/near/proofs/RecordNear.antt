@@ -1,8 +1,7 @@
 -- The altitudes of an accepted record are near, and so are a temperature and a pressure from the layer or from a QNH. Assumes nothing.
+use Rattle.std.specs.Prelude.{None, Option, Some, is_some}
 use Rattle.near.proofs.Kit.{◌≡◌, refl, sym, subst, Bool, true, false, ◌&&◌, ◌||◌, true≢false, lit≤, Float, places, Readings, Reading, Given, FromLayer, celsius, hectopascals, shown_temperature, shown_pressure, figures_with, figures_of, resolved_by, resolved, judged, ◌⊟◌, ◌÷◌, the, number, IsNear, Between, no_further, Figures, accepted, InScope, kelvin, Saturation, decimal}
-use Rattle.record.specs.declared.entries.Entry.{Entry}
-use Rattle.record.specs.declared.entries.Entry.TheVariants.{Absent, Present}
-use Rattle.record.specs.Entries.{is_present, entry_of, value_or_zero}
+use Rattle.record.specs.Entries.{entry_of, value_or_zero}
 use Rattle.fields.specs.Fields.{altitude, station_pressure, qnh, density_altitude, measured_pressure}
 use Rattle.mast.specs.Checks.{has, is_clash}
 use Rattle.atmosphere.specs.Station.{reduced_qnh}
@@ -18,21 +17,21 @@ use Rattle.near.specs.PressureAltitude as pressure_altitude
 use Rattle.near.specs.DensityAltitude as density_altitude
 
 -- ---- a QNH is the only pressure of what is accepted, and it is reduced at the altitude
-only-qnh : (s m d : Entry) (a : Bool) → ((is_present s && true) || (is_present m && (is_present s || true)) || (is_present d && (a || is_present s || true || is_present m))) ≡ false → (s ≡ Absent) × (m ≡ Absent) × (d ≡ Absent)
-only-qnh (Present p) m d a h = absurd (true≢false h)
-only-qnh Absent (Present p) d a h = absurd (true≢false h)
-only-qnh Absent Absent (Present p) true h = absurd (true≢false h)
-only-qnh Absent Absent (Present p) false h = absurd (true≢false h)
-only-qnh Absent Absent Absent a h = (refl, refl, refl)
+only-qnh : (s m d : (Option Float)) (a : Bool) → ((is_some s && true) || (is_some m && (is_some s || true)) || (is_some d && (a || is_some s || true || is_some m))) ≡ false → (s ≡ None) × (m ≡ None) × (d ≡ None)
+only-qnh (Some p) m d a h = absurd (true≢false h)
+only-qnh None (Some p) d a h = absurd (true≢false h)
+only-qnh None None (Some p) true h = absurd (true≢false h)
+only-qnh None None (Some p) false h = absurd (true≢false h)
+only-qnh None None None a h = (refl, refl, refl)
 
-qnh-reduced : (r : Readings) → is_clash r ≡ false → (q : Float) → entry_of r qnh ≡ Present q → (resolved r).pressure ≡ Given (reduced_qnh places q (resolved r).altitude_m)
+qnh-reduced : (r : Readings) → is_clash r ≡ false → (q : Float) → entry_of r qnh ≡ Some q → (resolved r).pressure ≡ Given (reduced_qnh places q (resolved r).altitude_m)
 unfolding ordinary
 qnh-reduced r apart q is04 =
-    let S : Entry = entry_of r station_pressure in
-    let M : Entry = entry_of r measured_pressure in
-    let D : Entry = entry_of r density_altitude in
-    let alone = only-qnh S M D (has r altitude) (subst (λ (x : Entry). ((is_present S && is_present x) || (is_present M && (is_present S || is_present x)) || (is_present D && (has r altitude || is_present S || is_present x || is_present M))) ≡ false) is04 apart) in
-    subst (λ (d : Entry). (resolved_by r d).pressure ≡ Given (reduced_qnh places q (resolved_by r d).altitude_m)) (sym alone.2)
+    let S : (Option Float) = entry_of r station_pressure in
+    let M : (Option Float) = entry_of r measured_pressure in
+    let D : (Option Float) = entry_of r density_altitude in
+    let alone = only-qnh S M D (has r altitude) (subst (λ (x : (Option Float)). ((is_some S && is_some x) || (is_some M && (is_some S || is_some x)) || (is_some D && (has r altitude || is_some S || is_some x || is_some M))) ≡ false) is04 apart) in
+    subst (λ (d : (Option Float)). (resolved_by r d).pressure ≡ Given (reduced_qnh places q (resolved_by r d).altitude_m)) (sym alone.2)
     (λ i. resolved_pressure (measured_or (alone.1 i) (unmeasured_pressure (alone.0 i) (is04 i))) (value_or_zero (entry_of r altitude)))
 
 pub record RecordNear (r : Readings) (f : Figures) : Type 0 where
@@ -41,7 +40,7 @@ pub record RecordNear (r : Readings) (f : Figures) : Type 0 where
   -- a pressure from the layer, in hPa
   pub layer_pressure_lem : (resolved r).pressure ≡ FromLayer → Low f.altitude_m → (p : troposphere.PressureRatio (number f.altitude_m)) → IsNear 37 f.pressure_hpa (troposphere.exact_pressure p ÷ the "100")
   -- a pressure reduced from the QNH of field 04, in hPa
-  pub qnh-pressure : (q : Float) → entry_of r qnh ≡ Present q → Between (decimal "500") (decimal "1100") q → Between (decimal "-500") (decimal "5000") f.altitude_m
+  pub qnh-pressure : (q : Float) → entry_of r qnh ≡ Some q → Between (decimal "500") (decimal "1100") q → Between (decimal "-500") (decimal "5000") f.altitude_m
       → (p : reduction.Reduction (number q) (number f.altitude_m)) → IsNear 37 f.pressure_hpa (reduction.station_hpa p)
   -- in m
   pub pressure_altitude_lem : Between (decimal "500") (decimal "1100") f.pressure_hpa → (p : pressure_altitude.RaisedPressure (number f.pressure_hpa)) → IsNear 36 f.pressure_altitude_m (pressure_altitude.exact_nws_altitude p)

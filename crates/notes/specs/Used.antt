@@ -1,6 +1,6 @@
 -- The notes on what was used in place of readings: g are the readings as given, f their figures, and `air` is the judge's outcome for the air as given.
 -- Definitions only.
-use Rattle.std.specs.Prelude.{ℕ, Bool, not, ◌&&◌, List, [], ◌∷◌, ◌++◌, Float}
+use Rattle.std.specs.Prelude.{ℕ, Bool, not, ◌&&◌, List, [], ◌∷◌, ◌++◌, Float, None, Option, Some}
 use Rattle.std.specs.Float.Ieee.{lt}
 use Rattle.arithmetic.specs.Ascii.{ascii}
 use Rattle.arithmetic.specs.Decimals.{one}
@@ -11,8 +11,6 @@ use Rattle.atmosphere.specs.declared.given.Reading.{Reading}
 use Rattle.atmosphere.specs.declared.given.Reading.TheVariants as reading
 use Rattle.atmosphere.specs.Station.{in_pressure_band, in_temperature_band}
 use Rattle.fields.specs.Fields.{temperature, station_pressure}
-use Rattle.record.specs.declared.entries.Entry.{Entry}
-use Rattle.record.specs.declared.entries.Entry.TheVariants.{Absent, Present}
 use Rattle.record.specs.declared.entries.Readings.{Readings}
 use Rattle.record.specs.Entries.{entry_of}
 use Rattle.station.specs.declared.resolved.Resolved.{Resolved}
@@ -23,9 +21,9 @@ use Rattle.notes.specs.declared.given.Given.{Given}
 use Rattle.notes.specs.Words.{Note, note, figured}
 
 -- ---- the air as given: temperature and station pressure pass no default band, as on the setting sheet
-abbrev pub pressure_as_given : Entry → Reading → Reading
-pressure_as_given (Present p) otherwise = reading.Given p
-pressure_as_given Absent otherwise = otherwise
+abbrev pub pressure_as_given : (Option Float) → Reading → Reading
+pressure_as_given (Some p) otherwise = reading.Given p
+pressure_as_given None otherwise = otherwise
 
 abbrev pub as_given : Readings → Resolved
 as_given r =

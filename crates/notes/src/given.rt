@@ -5,7 +5,7 @@ ghost use Rattle.notes.specs.Given.{given_by, pressure_given};
 use fields::fields::{
     ALTITUDE, DENSITY_ALTITUDE, HUMIDITY, MEASURED_PRESSURE, QNH, STATION_PRESSURE, TEMPERATURE,
 };
-use record::entries::{Readings, entry_of, is_present, value_or_zero};
+use record::entries::{Readings, entry_of, value_or_zero};
 
 // Whether each reading is given, and its value, 0 where it is not.
 #[derive(Clone, Copy)]
@@ -37,19 +37,19 @@ pub(crate) fn given_by(readings: Readings) -> Given
     let density_altitude = entry_of(readings, DENSITY_ALTITUDE);
     let measured_pressure = entry_of(readings, MEASURED_PRESSURE);
     Given {
-        altitude: is_present(altitude),
+        altitude: altitude.is_some(),
         altitude_m: value_or_zero(altitude),
-        temperature: is_present(temperature),
+        temperature: temperature.is_some(),
         temperature_c: value_or_zero(temperature),
-        station_pressure: is_present(station_pressure),
+        station_pressure: station_pressure.is_some(),
         station_pressure_hpa: value_or_zero(station_pressure),
-        qnh: is_present(qnh),
+        qnh: qnh.is_some(),
         qnh_hpa: value_or_zero(qnh),
-        humidity: is_present(humidity),
+        humidity: humidity.is_some(),
         humidity_percent: value_or_zero(humidity),
-        density_altitude: is_present(density_altitude),
+        density_altitude: density_altitude.is_some(),
         density_altitude_m: value_or_zero(density_altitude),
-        measured_pressure: is_present(measured_pressure),
+        measured_pressure: measured_pressure.is_some(),
         measured_pressure_hpa: value_or_zero(measured_pressure),
     }
 }

@@ -2,10 +2,11 @@
 // those of a mast that is not set up and for those that are absent, and dry air.
 ghost use Rattle.std.specs.Prelude.{◌≡◌};
 ghost use Rattle.pages.specs.Pages.{Appended};
-ghost use Rattle.refusal.specs.Judged.{outcome};
+ghost use Rattle.refusal.specs.Outcomes.{outcome};
 ghost use Rattle.notes.specs.Words.{when, printed};
 ghost use Rattle.notes.specs.Used.{is_far, as_given, pressure_as_given, air_text, is_temperature_default, is_pressure_default, temperature_default, pressure_default, absent_notes, used_notes};
 
+use refusal::Refusal;
 use crate::given::Given;
 use crate::words::{put_figured, put_figured_if, put_if};
 use arithmetic::doubles::abs;
@@ -13,18 +14,18 @@ use atmosphere::given::Reading;
 use atmosphere::resolvers::{in_legacy_default_pressure_band, in_legacy_default_temperature_band};
 use fields::fields::{STATION_PRESSURE, TEMPERATURE};
 use pages::{put, put_number};
-use record::entries::{Entry, Readings, entry_of};
-use refusal::judge::{Answer, Figures};
+use record::entries::{Readings, entry_of};
+use refusal::judge::Figures;
 use refusal::number;
 use station::resolved::{Resolved, given_temperature, ordinary};
 use trim::classes::trim_class;
 
-fn pressure_as_given(station_pressure: Entry, otherwise: Reading) -> Reading
+fn pressure_as_given(station_pressure: Option<f64>, otherwise: Reading) -> Reading
     ensures { result ≡ pressure_as_given station_pressure otherwise }
 {
     match station_pressure {
-        Entry::Present(p) => Reading::Given(p),
-        Entry::Absent => otherwise,
+        Some(p) => Reading::Given(p),
+        None => otherwise,
     }
 }
 
@@ -68,16 +69,16 @@ fn is_pressure_default(given: Given, altitude_m: f64) -> bool
 
 // Each puts a note or a piece of it on the page from `at` on, where it holds, and answers the position
 // after it.
-fn put_air(page: &mut [u8], at: usize, air: Answer) -> usize
+fn put_air(page: &mut [u8], at: usize, air: Result<Figures, Refusal>) -> usize
     ensures { Appended page.old at (air_text (outcome air)) page.new result }
 {
     match air {
-        Answer::Figures(figures) => {
+        Ok(figures) => {
             let density = figures.density_kg_m3;
             let worded = put_figured(page, at, b"density ", density, 4, b" kg/m3, trim class ");
             put_number(page, worded, trim_class(density))
         }
-        Answer::Refused(refusal) => {
+        Err(refusal) => {
             let worded = put(page, at, b"refused ");
             put_number(page, worded, number(refusal))
         }
@@ -89,7 +90,7 @@ fn put_temperature_default(
     at: usize,
     given: Given,
     figures: Figures,
-    air: Answer,
+    air: Result<Figures, Refusal>,
 ) -> usize
     ensures { Appended page.old at (when (temperature_default given figures (outcome air)).holds (temperature_default given figures (outcome air)).line) page.new result }
 {
@@ -121,7 +122,7 @@ fn put_pressure_default(
     at: usize,
     given: Given,
     figures: Figures,
-    air: Answer,
+    air: Result<Figures, Refusal>,
 ) -> usize
     ensures { Appended page.old at (when (pressure_default given figures (outcome air)).holds (pressure_default given figures (outcome air)).line) page.new result }
 {
@@ -182,7 +183,7 @@ pub(crate) fn put_used(
     at: usize,
     given: Given,
     figures: Figures,
-    air: Answer,
+    air: Result<Figures, Refusal>,
 ) -> usize
     ensures { Appended page.old at (printed (used_notes given figures (outcome air))) page.new result }
 {

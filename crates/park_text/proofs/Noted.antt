@@ -1,12 +1,11 @@
 -- What words that are understood leave in the readings: what was there stays, each word's reading is there, and nothing else. Assumes nothing.
+use Rattle.std.specs.Prelude.{Option, Some, is_some}
 use Rattle.arithmetic.proofs.Kit.{◌≡◌, refl, sym, ap, subst, ◌∙◌, Bool, true, false, cond, true≢false, List, [], ◌∷◌, List-as-Memᴰ, ◌⊎◌, inl, inr, ⊎_elim, ℕ, ◌+◌, ◌<◌, arith, eqb-true, eqb-false, eqb, Float, length, length-set}
 use mathlib.Core.List.Memᴰ
 use Rattle.fields.specs.declared.fields.Value.{Value}
-use Rattle.record.specs.declared.entries.Stored.{Stored}
-use Rattle.record.specs.declared.entries.Stored.TheVariants.{Present}
 use Rattle.record.specs.declared.entries.Readings.{Readings}
 use Rattle.fields.specs.Fields.{meanings}
-use Rattle.record.specs.Entries.{slot_of, is_present, entry_for, entry_of, stored_of, with_value}
+use Rattle.record.specs.Entries.{entry_for, entry_of, stored_of, with_value}
 use Rattle.writer.proofs.Passed.{stored_same, stored_other}
 use Rattle.park_text.specs.declared.typed_word.Problem.TheVariants.{RepeatedWord}
 use Rattle.park_text.specs.declared.typed_word.Word.{Word}
@@ -22,7 +21,7 @@ pub record Noted (w : List ℕ) (q : Readings) : Type 0 where
   pub written : Bool
   pub point : Bool
   pub is : read_word w ≡ Reading meaning reading written point
-  pub stored : stored_of q meaning ≡ Present (value_of reading)
+  pub stored : stored_of q meaning ≡ Some (value_of reading)
 
 -- the word that gave the value v of the meaning m
 pub record Source (ws : List (List ℕ)) (m : ℕ) (v : Value) : Type 0 where
@@ -37,9 +36,9 @@ pub record Source (ws : List (List ℕ)) (m : ℕ) (v : Value) : Type 0 where
 -- the words ws make q of r
 pub record From (ws : List (List ℕ)) (r q : Readings) : Type 0 where
   pub all : length q.slots ≡ meanings
-  pub stays : (m : ℕ) (v : Value) → stored_of r m ≡ Present v → stored_of q m ≡ Present v
+  pub stays : (m : ℕ) (v : Value) → stored_of r m ≡ Some v → stored_of q m ≡ Some v
   pub each : (w : List ℕ) → List-as-Memᴰ w ws → Noted w q
-  pub came : (m : ℕ) (v : Value) → stored_of q m ≡ Present v → (stored_of r m ≡ Present v) ⊎ Source ws m v
+  pub came : (m : ℕ) (v : Value) → stored_of q m ≡ Some v → (stored_of r m ≡ Some v) ⊎ Source ws m v
 
 -- ---- no word, and one more
 no_words : (r q : Readings) → length r.slots ≡ meanings → given r ≡ given q → From [] r q
@@ -47,26 +46,26 @@ no_words r q all e =
     let same : r ≡ q = cc in
     subst (From [] r) same record { all = all; stays = λ m v h. h; each = λ w h. absurd (Memᴰ.not-nil h); came = λ m v h. inl h }
 
-module _ (w : List ℕ) (ws : List (List ℕ)) (r q : Readings) (m : ℕ) (x : Float) (a b : Bool) (is : read_word w ≡ Reading m x a b) (new : is_present (entry_of r m) ≡ false)
+module _ (w : List ℕ) (ws : List (List ℕ)) (r q : Readings) (m : ℕ) (x : Float) (a b : Bool) (is : read_word w ≡ Reading m x a b) (new : is_some (entry_of r m) ≡ false)
     (all : length r.slots ≡ meanings) (rest : From ws (with_value r m (value_of x)) q) where
   meant : m < length r.slots
   meant = omega (arith, (spoken w is).says.known)
 
   -- the meaning of the word had no value
-  others : (k : ℕ) (v : Value) → stored_of r k ≡ Present v → k ≡ m → ⊥
-  others k v h same = true≢false (ap (λ (e : Stored). is_present (entry_for e)) (sym h ∙ ap (stored_of r) same) ∙ new)
+  others : (k : ℕ) (v : Value) → stored_of r k ≡ Some v → k ≡ m → ⊥
+  others k v h same = true≢false (ap (λ (e : (Option Value)). is_some (entry_for e)) (sym h ∙ ap (stored_of r) same) ∙ new)
 
-  here : stored_of q m ≡ Present (value_of x)
+  here : stored_of q m ≡ Some (value_of x)
   here = rest.stays m (value_of x) (stored_same r m (value_of x) meant)
 
-  from-there : (k : ℕ) (v : Value) → (stored_of (with_value r m (value_of x)) k ≡ Present v) ⊎ Source ws k v → (stored_of r k ≡ Present v) ⊎ Source (w ∷ ws) k v
+  from-there : (k : ℕ) (v : Value) → (stored_of (with_value r m (value_of x)) k ≡ Some v) ⊎ Source ws k v → (stored_of r k ≡ Some v) ⊎ Source (w ∷ ws) k v
   from-there k v (inr s) = inr record { word = s.word; reading = s.reading; written = s.written; point = s.point; there = Memᴰ.tail s.there; is = s.is; value = s.value }
   from-there k v (inl h) = go (eqb k m) refl
     where
-      go : (b : Bool) → eqb k m ≡ b → (stored_of r k ≡ Present v) ⊎ Source (w ∷ ws) k v
+      go : (b : Bool) → eqb k m ≡ b → (stored_of r k ≡ Some v) ⊎ Source (w ∷ ws) k v
       go true e =
           let same : k ≡ m = eqb-true k m e in
-          let told : Present (value_of x) ≡ Present v = sym (stored_same r m (value_of x) meant) ∙ ap (stored_of (with_value r m (value_of x))) (sym same) ∙ h in
+          let told : Some (value_of x) ≡ Some v = sym (stored_same r m (value_of x) meant) ∙ ap (stored_of (with_value r m (value_of x))) (sym same) ∙ h in
           inr record { word = w; reading = x; written = a; point = b; there = Memᴰ.head refl; is = is ∙ ap (λ (i : ℕ). Reading i x a b) (sym same); value = cc }
       go false e = inl (sym (stored_other r m (value_of x) k (eqb-false k m e)) ∙ h)
 
@@ -89,10 +88,10 @@ from-words (w ∷ ws) i r q all e = by_word (read_word w) refl e (λ p whole h. 
 
     by_word : (x : Word) → read_word w ≡ x → (with_typed r i x ⟫ (λ p. understand_from (i + 1) p ws)) ≡ given q → Rest → From (w ∷ ws) r q
     by_word (Wrong p) is h next = let z : ◌≡◌ {A = ℕ} 0 1 = cc in absurd (omega arith)
-    by_word (Reading m x a b) is h next = by-entry (is_present (entry_of r m)) refl h
+    by_word (Reading m x a b) is h next = by-entry (is_some (entry_of r m)) refl h
       where
-        by-entry : (there : Bool) → is_present (entry_of r m) ≡ there
+        by-entry : (there : Bool) → is_some (entry_of r m) ≡ there
             → (cond there (problem RepeatedWord i) (given (with_value r m (value_of x))) ⟫ (λ p. understand_from (i + 1) p ws)) ≡ given q → From (w ∷ ws) r q
         by-entry true new k = let z : ◌≡◌ {A = ℕ} 0 1 = cc in absurd (omega arith)
         by-entry false new k =
-            one_more w ws r q m x a b is new all (next (with_value r m (value_of x)) (length-set r.slots m (slot_of (Present (value_of x))) ∙ all) k)
+            one_more w ws r q m x a b is new all (next (with_value r m (value_of x)) (length-set r.slots m (Some (value_of x)) ∙ all) k)

@@ -1,10 +1,10 @@
 -- What the page of promises spells out, in the words of the proofs: statements, and what only these cite. Definitions only.
+use Rattle.std.specs.Prelude.{Some}
 use Rattle.arithmetic.proofs.Kit.{ℕ, ◌≤◌, List, List-as-Memᴰ, length, ◌≡◌, true, false, Float}
 use Rattle.park_text.specs.ParkText.{park_text}
 use Rattle.park_text.specs.declared.units.Unit.{Unit}
 use Rattle.park_text.specs.Word.{Says}
 use Rattle.refusal.specs.Outcomes.{accepted}
-use Rattle.record.specs.declared.entries.Entry.TheVariants.{Present}
 use Rattle.record.specs.declared.entries.Readings.{Readings}
 use Rattle.record.specs.Readings.{read_record}
 use Rattle.record.specs.Entries.{entry_of}
@@ -30,7 +30,7 @@ pub record Tied (ws : List (List ℕ)) (r : Readings) : Type 0 where
   -- whose reading is the double nearest to it
   pub is_reading : (w : List ℕ) (m : ℕ) (u : Unit) (d : List ℕ) → List-as-Memᴰ w ws → Says w m u d → Nearest r m u d
   -- and there is no other reading
-  pub was_typed : (m : ℕ) (x : Float) → entry_of r m ≡ Present x → Typed ws m
+  pub was_typed : (m : ℕ) (x : Float) → entry_of r m ≡ Some x → Typed ws m
   -- the record of the readings is read as them by both readers, and judged as they are
   pub read_strictly : read_record true (record_of r) ≡ accepted r
   pub read_in_any_order : read_record false (record_of r) ≡ accepted r

@@ -1,11 +1,9 @@
 -- What is typed and what is judged are tied, by what the words leave in the readings and by the laws of the writer. Assumes nothing.
+use Rattle.std.specs.Prelude.{None, Option, Some}
 use Rattle.arithmetic.proofs.Kit.{◌≡◌, refl, sym, ap, ap₂, subst, ◌∙◌, true, false, List, List-as-Memᴰ, ◌⊎◌, inl, inr, ℕ, arith, T, Float, binary64, fits, drop}
 use Rattle.refusal.specs.Outcomes.{Outcome, accepted, ◌⟫◌}
 use Rattle.decimals.specs.Typed.{typed}
 use Rattle.fields.specs.declared.fields.Value.{Value}
-use Rattle.record.specs.declared.entries.Entry.TheVariants as entry
-use Rattle.record.specs.declared.entries.Stored.{Stored}
-use Rattle.record.specs.declared.entries.Stored.TheVariants.{Absent, Present}
 use Rattle.record.specs.declared.entries.Readings.{Readings}
 use Rattle.record.specs.Readings.{read_record}
 use Rattle.record.specs.Entries.{no_readings, entry_for, entry_of, stored_of}
@@ -53,28 +51,28 @@ module _ (ws : List (List ℕ)) (r : Readings) (e : understand ws ≡ given r) w
         count = s.count;
         read = ap₂ (λ (v : Unit) (l : List ℕ). typed (places_of v) l) unit number ∙ s.read;
         entry = ap (entry_of r) meant ∙ ap entry_for n.stored
-            ∙ ap entry.Present ((kept n.reading held-so).0 ∙ s.reading ∙ ap (λ (v : Unit). reading_in v s.count) (sym unit));
+            ∙ ap Some ((kept n.reading held-so).0 ∙ s.reading ∙ ap (λ (v : Unit). reading_in v s.count) (sym unit));
       }
 
   -- nothing was stored before the words
-  source : (m : ℕ) (v : Value) → stored_of r m ≡ Present v → Source ws m v
+  source : (m : ℕ) (v : Value) → stored_of r m ≡ Some v → Source ws m v
   source m v told = go (from.came m v told)
     where
-      go : (stored_of no_readings m ≡ Present v) ⊎ Source ws m v → Source ws m v
+      go : (stored_of no_readings m ≡ Some v) ⊎ Source ws m v → Source ws m v
       go (inl h) = let none = no_stored m in let z : ◌≡◌ {A = ℕ} 0 1 = cc in absurd (omega arith)
       go (inr s) = s
 
-  was_typed_lem : (m : ℕ) (x : Float) → entry_of r m ≡ entry.Present x → Typed ws m
+  was_typed_lem : (m : ℕ) (x : Float) → entry_of r m ≡ Some x → Typed ws m
   was_typed_lem m x = go (stored_of r m) refl
     where
-      go : (o : Stored) → stored_of r m ≡ o → entry_for o ≡ entry.Present x → Typed ws m
-      go Absent told h = let z : ◌≡◌ {A = ℕ} 0 1 = cc in absurd (omega arith)
-      go (Present v) told h =
+      go : (o : (Option Value)) → stored_of r m ≡ o → entry_for o ≡ Some x → Typed ws m
+      go None told h = let z : ◌≡◌ {A = ℕ} 0 1 = cc in absurd (omega arith)
+      go (Some v) told h =
           let s = source m v told in
           let w = spoken s.word s.is in
           record { word = s.word; unit = w.unit; decimal = w.decimal; there = s.there; says = w.says }
 
-  held : (m : ℕ) (v : Value) → stored_of r m ≡ Present v → IsHeld v
+  held : (m : ℕ) (v : Value) → stored_of r m ≡ Some v → IsHeld v
   held m v told =
       let s = source m v told in
       let w = spoken s.word s.is in

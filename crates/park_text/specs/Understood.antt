@@ -1,12 +1,12 @@
 -- The readings that words give, one word after the other, or the first problem with the number of its word, counted from 0. Definitions only.
-use Rattle.std.specs.Prelude.{ℕ, ◌+◌, cond, List, [], ◌∷◌, Float}
+use Rattle.std.specs.Prelude.{ℕ, ◌+◌, cond, List, [], ◌∷◌, Float, is_some}
 use Rattle.thousandths.specs.declared.Counted.{Counted}
 use Rattle.thousandths.specs.declared.Counted.TheVariants as counted
 use Rattle.thousandths.specs.Thousandths.{twos_complement, count_for}
 use Rattle.fields.specs.declared.fields.Value.{Value}
 use Rattle.fields.specs.declared.fields.Value.TheVariants.{Double, Count}
 use Rattle.record.specs.declared.entries.Readings.{Readings}
-use Rattle.record.specs.Entries.{no_readings, is_present, entry_of, with_value}
+use Rattle.record.specs.Entries.{no_readings, entry_of, with_value}
 use Rattle.park_text.specs.declared.typed_word.Problem.{Problem}
 use Rattle.park_text.specs.declared.typed_word.Problem.TheVariants.{RepeatedWord}
 use Rattle.park_text.specs.declared.typed_word.Word.{Word}
@@ -35,7 +35,7 @@ value_of x = kept_as x (count_for x)
 
 -- word i after those that gave r
 abbrev pub with_typed : Readings → ℕ → Word → Understood
-with_typed r i (word.Reading m x written point) = cond (is_present (entry_of r m)) (problem RepeatedWord i) (given (with_value r m (value_of x)))
+with_typed r i (word.Reading m x written point) = cond (is_some (entry_of r m)) (problem RepeatedWord i) (given (with_value r m (value_of x)))
 with_typed r i (word.Wrong p) = problem p i
 
 unfoldable pub understand_from : ℕ → Readings → List (List ℕ) → Understood

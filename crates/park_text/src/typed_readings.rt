@@ -8,7 +8,7 @@ ghost use Rattle.park_text.specs.Understood.{value_of, problem, with_typed, unde
 use crate::typed_word::{Problem, Word, read_word};
 use fields::fields::Value;
 use pages::scan::find;
-use record::entries::{Readings, entry_of, is_present, no_readings, with_value};
+use record::entries::{Readings, entry_of, no_readings, with_value};
 use thousandths::{Counted, count_of, word_from};
 
 // Whether all words were understood, or what is wrong with the first that was not, and its number,
@@ -53,7 +53,7 @@ fn with_word(readings: Readings, word: Word, number: usize) -> TypedReadings
     match word {
         Word::Wrong(problem) => wrong(problem, number),
         Word::Reading(meaning, x, _, _) => {
-            if is_present(entry_of(readings, meaning)) {
+            if entry_of(readings, meaning).is_some() {
                 return wrong(Problem::RepeatedWord, number);
             }
             TypedReadings {

@@ -1,4 +1,5 @@
 -- The proof of the page: each promise by its proof below. Assumes nothing.
+use Rattle.std.specs.Prelude.{Some}
 use Rattle.arithmetic.proofs.Kit.{◌≡◌, refl, ap, ◌∙◌, T, lit≤, true, false, zero, suc, ◌≤ℤ◌, Float, nan, inf, fin, of_bits, fits, le, lt, positive}
 use Rattle.antilog.specs.Log.{log_word}
 use Rattle.arithmetic.specs.Places.{places}
@@ -64,7 +65,6 @@ use Rattle.sheet.proofs.OfRecord as of_record
 use Rattle.record_laws.proofs.Pressures as pressures
 use Rattle.record_laws.proofs.Moisture as moisture
 use Rattle.record_laws.proofs.Named as named
-use Rattle.record.specs.declared.entries.Entry.TheVariants.{Present}
 use Rattle.record.specs.Entries.{entry_of}
 use Rattle.fields.specs.Fields.{altitude}
 use Rattle.writer.specs.Records.{record_of}
@@ -184,8 +184,8 @@ k2 = record { nan_in_0 = nan_in_0; one_range = layers.one-range; unmoved = layer
 k3 : K3
 k3 = record {
   shown = λ r p f is07 e. pressures.measured_shown r (entry_of r altitude) refl e p is07;
-  used = λ r h p f at is07 e. pressures.measured_used r (Present h) at e p is07;
-  banded = λ r h p f at is03 e. pressures.banded r (Present h) at e p is03;
+  used = λ r h p f at is07 e. pressures.measured_used r (Some h) at e p is07;
+  banded = λ r h p f at is03 e. pressures.banded r (Some h) at e p is03;
 }
 
 k4 : K4

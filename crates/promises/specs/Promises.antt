@@ -6,7 +6,7 @@
 -- number and the values that it hands out. `judge s` is the answer to a record's bytes s, `judged r` that to its readings r, `entry_of r m` the reading of a meaning,
 -- `station places d t` the answer to a density altitude d with a temperature t, `decimal "15.1"` the double nearest to 15.1. Every other name is defined in the
 -- specs/ of the crate that its `use` line names.
-use Rattle.std.specs.Prelude.{ℕ, ◌+◌, ◌-◌, ◌*◌, ◌/◌, ◌^◌, ◌≤◌, ◌<◌, ◌≡◌, ◌≢◌, ◌⊎◌, Bool, true, false, not, ◌||◌, cond, ℤ, pos, negsuc, ◌+ℤ◌, ◌*ℤ◌, ◌≤ℤ◌, T, ltb, Float, length, take, drop, get_or, replicate}
+use Rattle.std.specs.Prelude.{ℕ, ◌+◌, ◌-◌, ◌*◌, ◌/◌, ◌^◌, ◌≤◌, ◌<◌, ◌≡◌, ◌≢◌, ◌⊎◌, Bool, true, false, not, ◌||◌, cond, ℤ, pos, negsuc, ◌+ℤ◌, ◌*ℤ◌, ◌≤ℤ◌, T, ltb, Float, length, take, drop, get_or, replicate, None, Some}
 use mathlib.Core.List.{List, [], ◌++◌, Memᴰ, ◌∷◌, flat_map, map}
 use Rattle.std.specs.Float.{nan, fin, binary64}
 use Rattle.std.specs.Float.Ieee.{fits, is_nan, lt, le, round}
@@ -27,7 +27,7 @@ use Rattle.thousandths.specs.declared.Counted.TheVariants as counted
 use Rattle.atmosphere.specs.declared.given.Reading.{Reading}
 use Rattle.atmosphere.specs.declared.given.Reading.TheVariants.{Given, FromLayer}
 use Rattle.atmosphere.specs.Layers.{layer_at, OnlyRange, highest_up_to, standard_air}
-use Rattle.atmosphere.specs.Station.{reduced_qnh}
+use Rattle.atmosphere.specs.Station.{reduced_qnh, resolved_station_pressure}
 use Rattle.air.specs.Matched.{density_matched_altitude}
 use Rattle.atmosphere.specs.Altitudes.{faa_density_altitude, pressure_altitude}
 use Rattle.refusal.specs.Outcomes.{Outcome, accepted, refused, ◌then◌, ◌⟫◌, row, numbers}
@@ -69,9 +69,7 @@ use Rattle.trim.specs.declared.changes.Quantity.{Quantity}
 use Rattle.trim.specs.declared.changes.Quantity.TheVariants.{Temperature, MeasuredPressure}
 use Rattle.trim.specs.declared.changes.Direction.TheVariants.{Up, Down}
 use Rattle.trim.specs.Changes.{change}
-use Rattle.trim.specs.declared.changes.Found.TheVariants as found
 use Rattle.fields.specs.Fields as meaning
-use Rattle.record.specs.declared.entries.Entry.TheVariants.{Absent, Present}
 use Rattle.arithmetic.specs.Doubles.{is_finite, clamp_double}
 use Rattle.arithmetic.specs.Nearest.{units_of}
 use Rattle.antilog.specs.Sqrt.{sqrt, twice_root_squared, twice_midpoint_squared}
@@ -101,7 +99,6 @@ use Rattle.park_text.specs.Word.{Says}
 use Rattle.arithmetic.specs.Operators.{◌⊖◌, ◌⊘◌}
 use Rattle.humid_air.specs.MoistAir.{ice_point, capped, air_density_at}
 use Rattle.humid_air.specs.Humidity.{mole_fraction_celsius}
-use Rattle.atmosphere.specs.Station.{resolved_station_pressure}
 use Rattle.air.specs.Station.{kelvins, pascals, atmosphere}
 use Rattle.report.specs.Fault.{reading_about}
 use Rattle.writer.specs.Written.{length_written}
@@ -243,11 +240,11 @@ pub record K2 : Type 0 where
 -- ---- K3, a reading is a reading
 pub record K3 : Type 0 where
   -- "measured station pressure in hPa: used as it comes, whatever the altitude", and shown as it came
-  pub shown : (r : Readings) (p : Float) (f : Figures) → entry_of r meaning.measured_pressure ≡ Present p → judged r ≡ accepted f → f.pressure_hpa ≡ p
-  pub used : (r : Readings) (h p : Float) (f : Figures) → entry_of r meaning.altitude ≡ Present h → entry_of r meaning.measured_pressure ≡ Present p → judged r ≡ accepted f
+  pub shown : (r : Readings) (p : Float) (f : Figures) → entry_of r meaning.measured_pressure ≡ Some p → judged r ≡ accepted f → f.pressure_hpa ≡ p
+  pub used : (r : Readings) (h p : Float) (f : Figures) → entry_of r meaning.altitude ≡ Some h → entry_of r meaning.measured_pressure ≡ Some p → judged r ≡ accepted f
       → f ≡ figures_of (record { altitude_m = h; temperature = resolved_temperature (entry_of r meaning.temperature) h; pressure = Given p; humidity_percent = value_or_zero (entry_of r humidity) })
   -- "tag 03 and `resolve_station_pressure` go on matching the Rust": it passes its band
-  pub banded : (r : Readings) (h p : Float) (f : Figures) → entry_of r meaning.altitude ≡ Present h → entry_of r meaning.station_pressure ≡ Present p → judged r ≡ accepted f
+  pub banded : (r : Readings) (h p : Float) (f : Figures) → entry_of r meaning.altitude ≡ Some h → entry_of r meaning.station_pressure ≡ Some p → judged r ≡ accepted f
       → f ≡ figures_of (record { altitude_m = h; temperature = resolved_temperature (entry_of r meaning.temperature) h; pressure = resolved_station_pressure p h; humidity_percent = value_or_zero (entry_of r humidity) })
 
 -- ---- K4, records written, in tag order
@@ -358,25 +355,25 @@ pub record K8 : Type 0 where
 -- ---- K9, how close is the next trim class
 pub record K9 : Type 0 where
   -- "the smallest single change that gives another class", by the order of the 800
-  pub smallest : (bytes : List ℕ) (s : Start) (t : Turn) → Asks bytes s → next_trim_class bytes ≡ accepted (record { class = s.class; turn = found.Turn t })
+  pub smallest : (bytes : List ℕ) (s : Start) (t : Turn) → Asks bytes s → next_trim_class bytes ≡ accepted (record { class = s.class; turn = Some t })
       → FirstToGive s t.change t.class
   -- "equal k: temperature before pressure, up before down", and every k before the next
   pub up_before_down : (q : Quantity) (k : ℕ) → place (change q Up k) < place (change q Down k)
   pub temperature_first : (k : ℕ) → place (change Temperature Down k) < place (change MeasuredPressure Up k)
   pub smaller_first : (k : ℕ) → place (change MeasuredPressure Down k) < place (change Temperature Up (k + 1))
   -- "the answer 'no change within 200' comes only if none of the 800 does it"
-  pub none_because : (bytes : List ℕ) (s : Start) → Asks bytes s → next_trim_class bytes ≡ accepted (record { class = s.class; turn = found.Nothing }) → NoneGives s
-  pub none_where : (bytes : List ℕ) (s : Start) → Asks bytes s → NoneGives s → next_trim_class bytes ≡ accepted (record { class = s.class; turn = found.Nothing })
+  pub none_because : (bytes : List ℕ) (s : Start) → Asks bytes s → next_trim_class bytes ≡ accepted (record { class = s.class; turn = None }) → NoneGives s
+  pub none_where : (bytes : List ℕ) (s : Start) → Asks bytes s → NoneGives s → next_trim_class bytes ≡ accepted (record { class = s.class; turn = None })
   -- "22: no temperature or no measured pressure in an otherwise accepted record"
   pub own_refusal : (bytes : List ℕ) (number : ℕ) (values : List Float) → judge bytes ≡ refused number values → next_trim_class bytes ≡ refused number values
   pub by_22 : (bytes : List ℕ) (r : Readings) (f : Figures) → read_record false bytes ≡ accepted r → judged r ≡ accepted f
-      → (entry_of r meaning.temperature ≡ Absent) ⊎ (entry_of r meaning.measured_pressure ≡ Absent) → next_trim_class bytes ≡ refused 22 []
+      → (entry_of r meaning.temperature ≡ None) ⊎ (entry_of r meaning.measured_pressure ≡ None) → next_trim_class bytes ≡ refused 22 []
   -- each number has exactly its cause: those of the record, then 22
   pub trim_caused : (bytes : List ℕ) → let r = readings bytes in
       ExactlyCaused (record_rows false bytes ++ row (not (has r meaning.temperature) || not (has r meaning.measured_pressure)) 22 [] ∷ []) (next_for bytes) (next_trim_class bytes)
   -- "for a reading with temperature and measured pressure": it is answered, never refused
-  pub answered : (bytes : List ℕ) (f : Figures) (t p : Float) → judge bytes ≡ accepted f → entry_of (readings bytes) meaning.temperature ≡ Present t
-      → entry_of (readings bytes) meaning.measured_pressure ≡ Present p → (n : Next) × (next_trim_class bytes ≡ accepted n)
+  pub answered : (bytes : List ℕ) (f : Figures) (t p : Float) → judge bytes ≡ accepted f → entry_of (readings bytes) meaning.temperature ≡ Some t
+      → entry_of (readings bytes) meaning.measured_pressure ≡ Some p → (n : Next) × (next_trim_class bytes ≡ accepted n)
   -- "the count of these densities at or below the figure: 1.00, 1.05, 1.10, 1.15, 1.20, 1.25 kg/m³"
   pub class_counts : (r : Readings) (f : Figures) → judged r ≡ accepted f → let d = f.density_kg_m3 in
       class_of r ≡ accepted (cond (le (decimal "1.00") d) 1 0 + cond (le (decimal "1.05") d) 1 0 + cond (le (decimal "1.10") d) 1 0 + cond (le (decimal "1.15") d) 1 0 + cond (le (decimal "1.20") d) 1 0 + cond (le (decimal "1.25") d) 1 0)
@@ -513,7 +510,7 @@ pub record AltitudesNear : Type 0 where
   pub record_pressure : (r : Readings) (f : Figures) → judged r ≡ accepted f → (resolved r).pressure ≡ FromLayer → let h = f.altitude_m in Between (decimal "-500") (decimal "11000") h → (p : troposphere.PressureRatio (number h))
       → IsNear 37 f.pressure_hpa (troposphere.exact_pressure p ÷ the "100")
   -- or has a QNH, and the altitudes of every one
-  pub record_qnh : (r : Readings) (f : Figures) → judged r ≡ accepted f → (q : Float) → entry_of r meaning.qnh ≡ Present q → let h = f.altitude_m in Between (decimal "500") (decimal "1100") q → Between (decimal "-500") (decimal "5000") h
+  pub record_qnh : (r : Readings) (f : Figures) → judged r ≡ accepted f → (q : Float) → entry_of r meaning.qnh ≡ Some q → let h = f.altitude_m in Between (decimal "500") (decimal "1100") q → Between (decimal "-500") (decimal "5000") h
       → (p : reduction.Reduction (number q) (number h)) → IsNear 37 f.pressure_hpa (reduction.station_hpa p)
   pub record_pressure_altitude : (r : Readings) (f : Figures) → judged r ≡ accepted f → Between (decimal "500") (decimal "1100") f.pressure_hpa → (p : nws.RaisedPressure (number f.pressure_hpa))
       → IsNear 36 f.pressure_altitude_m (nws.exact_nws_altitude p)
@@ -530,7 +527,7 @@ pub record AtThePark : Type 0 where
       ≡ ascii "altitude                             0.0 m\ntemperature                        21.10 C\nstation pressure                1013.250 hPa\ndensity                           1.2000 kg/m3, the reference for the trim table\nspeed of sound                     343.9 m/s\npressure altitude                    0.0 m\ndensity-matched altitude           218.3 m\nvapour mole fraction            0.000000 mol/mol\ntrim class 5\nnext class 4 at 0.1 C warmer\nin the range for which CIPM-2007 states its formula\nnote: no pressure is given: the standard atmosphere's 1013.250 hPa is used\nnote: no humidity is given: dry air is used\nnote: the next class is searched from the temperature and the station pressure above\nrecord 0100080000000000000000020008403519999999999A\n"
   -- each reading is the double nearest to the exact value of its typed number in its unit, and there is no other; the record that a new mast would send is judged as the readings are
   pub word_is_reading : (ws : List (List ℕ)) (r : Readings) → understand ws ≡ given r → (w : List ℕ) (m : ℕ) (u : TypedUnit) (d : List ℕ) → Memᴰ w ws → Says w m u d → Nearest r m u d
-  pub no_other : (ws : List (List ℕ)) (r : Readings) → understand ws ≡ given r → (m : ℕ) (x : Float) → entry_of r m ≡ Present x → Typed ws m
+  pub no_other : (ws : List (List ℕ)) (r : Readings) → understand ws ≡ given r → (m : ℕ) (x : Float) → entry_of r m ≡ Some x → Typed ws m
   pub record_judged : (ws : List (List ℕ)) (r : Readings) → understand ws ≡ given r → judge (record_of r) ≡ judged r
   -- a number in a reading's own unit is kept as its count, so that the record has the digits that were typed
   pub typed_count_kept : (d : List ℕ) (n : ℤ) → typed 3 d ≡ typed-as.Count n → value_of (reading_in Plain n) ≡ value_as.Count (twos_complement n)
@@ -542,7 +539,7 @@ pub record AtThePark : Type 0 where
 -- ---- the report of refused readings: the reading that it names
 pub record Reports : Type 0 where
   -- "number, value": it is the one whose value the refusal hands out first
-  pub named : (r : Readings) (number : ℕ) (v : Float) (values : List Float) → judged r ≡ refused number (v ∷ values) → entry_of r (reading_about r number) ≡ Present v
+  pub named : (r : Readings) (number : ℕ) (v : Float) (values : List Float) → judged r ≡ refused number (v ∷ values) → entry_of r (reading_about r number) ≡ Some v
   -- of 1 and 4 the density altitude, of 2 and 3 the temperature, of 13 the humidity; of 11 and 12 one of those that they check
   pub named_alone : (r : Readings) → (reading_about r 1 ≡ density_altitude) × (reading_about r 2 ≡ meaning.temperature) × (reading_about r 3 ≡ meaning.temperature) × (reading_about r 4 ≡ density_altitude) × (reading_about r 13 ≡ humidity)
   pub named_11 : (r : Readings) → Memᴰ (reading_about r 11) (meaning.altitude ∷ meaning.station_pressure ∷ meaning.qnh ∷ humidity ∷ meaning.measured_pressure ∷ [])

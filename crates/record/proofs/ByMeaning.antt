@@ -1,11 +1,10 @@
 -- The entries of readings by meaning: what a new value sets and what it leaves, and that each value of a record that is read is a double. Assumes nothing.
-use Rattle.record.proofs.Kit.{◌≡◌, refl, sym, ap, subst, ◌∙◌, Bool, true, false, cond, ◌≢◌, ◌⊎◌, inl, inr, List, [], ◌∷◌, map, ℕ, zero, suc, ◌<◌, arith, T, Float, binary64, fits, of_bits-fits, length, get_or, set, replicate, length-set, get_or-set_same, get_or-set_other, exactly, Value, Slot, Readings, meanings, double_of, is_count_tag, tag_of, value_of, field, heads, noted, read_rows, readings, slot_of, no_readings, entry_for, entry_of, with_value, with_entry, accepted, read_record}
+use Rattle.std.specs.Prelude.{None, Some}
+use Rattle.record.proofs.Kit.{◌≡◌, refl, sym, ap, subst, ◌∙◌, Bool, true, false, cond, ◌≢◌, ◌⊎◌, inl, inr, List, [], ◌∷◌, map, ℕ, zero, suc, ◌<◌, arith, T, Float, binary64, fits, of_bits-fits, length, get_or, set, replicate, length-set, get_or-set_same, get_or-set_other, exactly, Value, Option, Readings, meanings, double_of, is_count_tag, tag_of, value_of, field, heads, noted, read_rows, readings, no_readings, entry_for, entry_of, with_value, with_entry, accepted, read_record}
 use mathlib.Core.List.{foldl}
 use Rattle.thousandths.specs.Thousandths.{count_of}
 use Rattle.thousandths.proofs.Laws.{thousandths-fits}
 use Rattle.fields.specs.declared.fields.Value.TheVariants.{Double, Count}
-use Rattle.record.specs.declared.entries.Entry.TheVariants.{Absent, Present}
-use Rattle.record.specs.declared.entries.Stored.TheVariants as stored
 use Rattle.fields.specs.Bytes.{number_at, double_at}
 use Rattle.record.proofs.Stated.{HoldsDoubles}
 
@@ -17,25 +16,25 @@ pub none-whole : Whole no_readings
 none-whole = refl
 
 pub with_whole : (r : Readings) (m : ℕ) (x : Float) → Whole r → Whole (with_entry r m x)
-with_whole r m x all = length-set r.slots m (slot_of (stored.Present (Double x))) ∙ all
+with_whole r m x all = length-set r.slots m (Some (Double x)) ∙ all
 
 -- ---- the entries
-all_alike : (n m : ℕ) (d : Slot) → get_or (replicate n d) m d ≡ d
+all_alike : (n m : ℕ) (d : (Option Value)) → get_or (replicate n d) m d ≡ d
 all_alike zero m d = refl
 all_alike (suc n) zero d = refl
 all_alike (suc n) (suc m) d = all_alike n m d
 
-pub none-there : (m : ℕ) → entry_of no_readings m ≡ Absent
-none-there m = ap (λ (s : Slot). entry_for s.stored) (all_alike meanings m (slot_of stored.Absent))
+pub none-there : (m : ℕ) → entry_of no_readings m ≡ None
+none-there m = ap entry_for (all_alike meanings m None)
 
-pub entry_set : (r : Readings) (m : ℕ) (x : Float) → Whole r → m < meanings → entry_of (with_entry r m x) m ≡ Present x
-entry_set r m x all h = ap (λ (s : Slot). entry_for s.stored) (get_or-set_same r.slots m (slot_of (stored.Present (Double x))) (slot_of stored.Absent) (omega arith))
+pub entry_set : (r : Readings) (m : ℕ) (x : Float) → Whole r → m < meanings → entry_of (with_entry r m x) m ≡ Some x
+entry_set r m x all h = ap entry_for (get_or-set_same r.slots m (Some (Double x)) None (omega arith))
 
 pub entry-left : (r : Readings) (m n : ℕ) (x : Float) → n ≢ m → entry_of (with_entry r m x) n ≡ entry_of r n
-entry-left r m n x other = ap (λ (s : Slot). entry_for s.stored) (get_or-set_other r.slots m n (slot_of (stored.Present (Double x))) (slot_of stored.Absent) other)
+entry-left r m n x other = ap entry_for (get_or-set_other r.slots m n (Some (Double x)) None other)
 
 -- ---- doubles
-either : (l : List Slot) (i j : ℕ) (a d : Slot) → (get_or (set l i a) j d ≡ a) ⊎ (get_or (set l i a) j d ≡ get_or l j d)
+either : (l : List (Option Value)) (i j : ℕ) (a d : (Option Value)) → (get_or (set l i a) j d ≡ a) ⊎ (get_or (set l i a) j d ≡ get_or l j d)
 either [] i j a d = inr refl
 either (e ∷ l) zero zero a d = inl refl
 either (e ∷ l) zero (suc j) a d = inr refl
@@ -44,12 +43,12 @@ either (e ∷ l) (suc i) (suc j) a d = either l i j a d
 
 with_double : (r : Readings) (m : ℕ) (v : Value) → T (fits binary64 (double_of v)) → HoldsDoubles r → HoldsDoubles (with_value r m v)
 with_double r m v double held n y e =
-    elim (either r.slots m n (slot_of (stored.Present v)) (slot_of stored.Absent)) [
+    elim (either r.slots m n (Some v) None) [
       | inl new ↦
-          let there : Present (double_of v) ≡ Present y = sym (ap (λ (s : Slot). entry_for s.stored) new) ∙ e in
+          let there : Some (double_of v) ≡ Some y = sym (ap entry_for new) ∙ e in
           let same : double_of v ≡ y = cc in
           subst (λ (z : Float). T (fits binary64 z)) same double
-      | inr old ↦ held n y (sym (ap (λ (s : Slot). entry_for s.stored) old) ∙ e)
+      | inr old ↦ held n y (sym (ap entry_for old) ∙ e)
     ]
 
 -- the double of a field's value
@@ -65,7 +64,7 @@ unfolding field
 from r [] held = held
 from r (s ∷ fs) held = from (noted r (field s)) fs (with_double r (field s).meaning (field s).value (value-double s) held)
 
-never : {x : Float} → Absent ≡ Present x → ⊥
+never : {x : Float} → None ≡ Some x → ⊥
 never e = let z : ◌≡◌ {A = ℕ} 0 1 = cc in omega arith
 
 pub reads-doubles : (s : List ℕ) (r : Readings) → read_record false s ≡ accepted r → HoldsDoubles r

@@ -1,5 +1,5 @@
 -- The order of the fields does not matter to a record that the first reader accepts: neighbours may change places. Assumes nothing.
-use Rattle.record.proofs.Kit.{◌≡◌, refl, sym, ap, ◌∙◌, false, List, ◌++◌, ℕ, arith, length, drop_of_length-le, Outcome, accepted, Row, ◌then◌, then-none, then-accepted, Slot, Readings, tag_of, field, size_of, noted, read_record}
+use Rattle.record.proofs.Kit.{Value, ◌≡◌, refl, sym, ap, ◌∙◌, false, List, ◌++◌, ℕ, arith, length, drop_of_length-le, Outcome, accepted, Row, ◌then◌, then-none, then-accepted, Option, Readings, tag_of, field, size_of, noted, read_record}
 use Rattle.record.proofs.Walk.{field_rows, read, any_last}
 use Rattle.record.proofs.EntryLaws.{is-new, with_readings, either_order}
 use Rattle.record.proofs.Followed.{read_whole}
@@ -31,7 +31,7 @@ module _ (f g t : List ℕ) (one : length f ≡ size_of f) (one' : length g ≡ 
       ∙ then-none (rows r g) (with_readings false (noted r F) 0 g second.0 false r 0 o.second refl)
       ∙ read_one (noted r G) f t one
       ∙ then-none (rows (noted r G) f) (with_readings false r 0 f first.0 false (noted r G) 0 o.first refl)
-      ∙ ap (λ (l : List Slot). whole (record { slots = l }) t) (sym o.same)
+      ∙ ap (λ (l : List (Option Value)). whole (record { slots = l }) t) (sym o.same)
       ∙ second.1
 
   -- after any accepted record a

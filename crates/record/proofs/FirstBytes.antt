@@ -1,15 +1,15 @@
 -- A record is read by its first 256 bytes: each field that is accepted takes a meaning, and with all of them taken one field more is refused. Assumes nothing.
-use Rattle.record.proofs.Kit.{◌≡◌, refl, sym, ap, ◌∙◌, Bool, true, false, cond, List, [], ◌∷◌, ◌++◌, ℕ, zero, suc, ◌+◌, ◌*◌, ◌≤◌, ◌<◌, arith, leb-true, leb-false, leb, lit≤, length, take, drop, get_or, set, length-drop, length-set, take-append-drop, length-take-le, take_all, then_same, Value, Absent, Present, Slot, Readings, meanings, tag_of, size_of, field, noted, read_record, slot_of, no_readings, entry_for, is_present, at_most_lem}
+use Rattle.record.proofs.Kit.{◌≡◌, refl, sym, ap, ◌∙◌, Bool, true, false, cond, List, [], ◌∷◌, ◌++◌, ℕ, zero, suc, ◌+◌, ◌*◌, ◌≤◌, ◌<◌, arith, leb-true, leb-false, leb, lit≤, length, take, drop, get_or, set, length-drop, length-set, take-append-drop, length-take-le, take_all, then_same, Value, None, Some, Option, Readings, meanings, tag_of, size_of, field, noted, read_record, no_readings, entry_for, is_some, at_most_lem}
 use Rattle.record.proofs.Walk.{field_rows, read, read_step}
 use Rattle.record.proofs.EntryLaws.{is-new, in_range_lem}
 use Rattle.record.proofs.Followed.{read_whole}
 
 -- ---- how many meanings have no entry yet
-abbrev pub room : List Slot → ℕ
+abbrev pub room : List (Option Value) → ℕ
 room [] = 0
-room (e ∷ l) = cond (is_present (entry_for e.stored)) 0 1 + room l
+room (e ∷ l) = cond (is_some (entry_for e)) 0 1 + room l
 
-pub falls : (l : List Slot) (m : ℕ) (x : Value) → m < length l → is_present (entry_for (get_or l m (slot_of Absent)).stored) ≡ false → suc (room (set l m (slot_of (Present x)))) ≡ room l
+pub falls : (l : List (Option Value)) (m : ℕ) (x : Value) → m < length l → is_some (entry_for (get_or l m None)) ≡ false → suc (room (set l m (Some x))) ≡ room l
 falls [] m x h e = absurd (omega arith)
 falls (a ∷ l) zero x h e = omega (arith, ap {B = ℕ} (λ b. cond b 0 1) e)
 falls (a ∷ l) (suc m) x h e = omega (arith, falls l m x (omega arith) e)
@@ -25,7 +25,7 @@ module _ (strict : Bool) where
       read_whole s t whole strict r last
       ∙ then_same (field_rows strict r last s) (λ none.
       let fewer = falls r.slots f.meaning f.value (omega (arith, in_range_lem strict r last s none)) (is-new strict r last s none) in
-      enough-fields n (noted r f) (tag_of s) (drop (size_of s) s) t (omega (arith, fewer)) (length-set r.slots f.meaning (slot_of (Present f.value)) ∙ all) (omega (arith, fewer, length-drop (size_of s) s, at_most_lem (tag_of s))))
+      enough-fields n (noted r f) (tag_of s) (drop (size_of s) s) t (omega (arith, fewer)) (length-set r.slots f.meaning (Some f.value) ∙ all) (omega (arith, fewer, length-drop (size_of s) s, at_most_lem (tag_of s))))
       ∙ sym (read_step strict r last s (omega arith))
 
   pub first-fields : (k : ℕ) → 11 * suc meanings ≤ k → (s : List ℕ) → read_record strict (take k s) ≡ read_record strict s

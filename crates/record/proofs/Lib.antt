@@ -5,7 +5,6 @@ pub mod Walk
 pub mod EntryLaws
 pub mod ByMeaning
 pub mod Turn
-pub mod Parts
 pub mod Followed
 pub mod FirstBytes
 pub mod Following

@@ -1,6 +1,6 @@
 -- The strict reader beside the first: where the tags rise they try the same rows, and else they give the same outcome or the strict one refuses by 19.
 -- Assumes nothing.
-use Rattle.record.proofs.Kit.{◌≡◌, refl, sym, ap, ap₂, ◌∙◌, Bool, true, false, ◌&&◌, cond, List, [], ◌∷◌, ◌++◌, map, ◌⊎◌, inl, inr, ⊎_elim, ℕ, le-ltb, ltb-false, ltb, Outcome, accepted, refused, Row, row, ◌then◌, NoneHolds, then_append, then-accepted, then-none, none_before, none_after, decided, Readings, tag_of, field, head_rows, heads, order_rows, noted, rows_of, read_rows, readings, read_record, no_readings, is_present, entry_of}
+use Rattle.record.proofs.Kit.{◌≡◌, refl, sym, ap, ap₂, ◌∙◌, Bool, true, false, ◌&&◌, cond, List, [], ◌∷◌, ◌++◌, map, ◌⊎◌, inl, inr, ⊎_elim, ℕ, le-ltb, ltb-false, ltb, Outcome, accepted, refused, Row, row, ◌then◌, NoneHolds, then_append, then-accepted, then-none, none_before, none_after, decided, Readings, tag_of, field, head_rows, heads, order_rows, noted, rows_of, read_rows, readings, read_record, no_readings, is_some, entry_of}
 use Rattle.fields.specs.Tags.{tags, RisingFrom, Rising}
 use Rattle.record.proofs.Walk.{field_rows}
 use Rattle.record.proofs.EntryLaws.{in_order}
@@ -11,7 +11,7 @@ unfolding field
 same_rows r last [] h = refl
 same_rows r last (s ∷ fs) h =
     let f = field s in
-    ap₂ (λ (falls : Bool) (rest : List Row). (head_rows s ++ row (is_present (entry_of r f.meaning)) 8 [] ∷ row falls 19 [] ∷ []) ++ rest)
+    ap₂ (λ (falls : Bool) (rest : List Row). (head_rows s ++ row (is_some (entry_of r f.meaning)) 8 [] ∷ row falls 19 [] ∷ []) ++ rest)
     (le-ltb (tag_of s) last h.0) (same_rows (noted r f) (tag_of s) fs h.1)
 
 pub same_where_rising : (s : List ℕ) → Rising (tags s) → read_record true s ≡ read_record false s
@@ -44,7 +44,7 @@ after rows falls {p} {q} rest = ⊎_elim (λ none. go falls rest none) (λ same.
 
 -- the rows of a field that both try
 abbrev common : Readings → List ℕ → List Row
-common r s = head_rows s ++ row (is_present (entry_of r (field s).meaning)) 8 [] ∷ []
+common r s = head_rows s ++ row (is_some (entry_of r (field s).meaning)) 8 [] ∷ []
 
 -- and then 19
 parted : (strict : Bool) (r : Readings) (last : ℕ) (s : List ℕ) (rest : List Row) (o : Outcome Readings)
@@ -53,7 +53,7 @@ parted strict r last s rest o =
     let falls = strict && ltb (field s).tag last in
     then_append (field_rows strict r last s) rest o
     ∙ then_append (head_rows s) (order_rows strict r last (field s)) (rest then o)
-    ∙ sym (then_append (head_rows s) (row (is_present (entry_of r (field s).meaning)) 8 [] ∷ []) (cond falls (refused 19 []) (rest then o)))
+    ∙ sym (then_append (head_rows s) (row (is_some (entry_of r (field s).meaning)) 8 [] ∷ []) (cond falls (refused 19 []) (rest then o)))
 
 alike : (r : Readings) (last : ℕ) (fs : List (List ℕ)) (o : Outcome Readings) → Alike (rows_of true r last fs then o) (rows_of false r last fs then o)
 alike r last [] o = inl refl

@@ -1,6 +1,7 @@
 -- A turn of the reading: what the field at a position, and the check of its order, tell of the rest of the record. Assumes nothing.
-use Rattle.record.proofs.Kit.{◌≡◌, refl, sym, ap, ◌∙◌, subst, Bool, List, ℕ, ◌≤◌, ◌<◌, arith, Float, length, drop, length-drop, Outcome, accepted, refused, ◌⟫◌, ◌then◌, checked, passed, NoneHolds, then_append, then_next, then-none, then_to, then-accepted, none_both, after_check, exactly, Readings, meanings, tag_of, field, head_rows, size_of, field_of, next_at, order_rows, noted, after_is}
-use Rattle.refusal.specs.declared.Check.{Check}
+use Rattle.std.specs.Prelude.{Result}
+use Rattle.refusal.specs.declared.Refusal.{Refusal}
+use Rattle.record.proofs.Kit.{◌≡◌, refl, sym, ap, ◌∙◌, subst, Bool, List, ℕ, ◌≤◌, ◌<◌, arith, Float, length, drop, length-drop, Outcome, accepted, refused, ◌⟫◌, ◌then◌, outcome, passed, NoneHolds, then_append, then_next, then-none, then_to, then-accepted, none_both, after_check, exactly, Readings, meanings, tag_of, field, head_rows, size_of, field_of, next_at, order_rows, noted, after_is}
 use Rattle.fields.specs.declared.fields.Field.{Field}
 use Rattle.record.proofs.Walk.{field_rows, read, read_step}
 use Rattle.record.proofs.EntryLaws.{head-whole, head-meaning}
@@ -40,15 +41,15 @@ module _ (strict : Bool) (s : List ℕ) (at : ℕ) (r : Readings) (last : ℕ) (
     pub in_place : f.meaning < meanings
     in_place = subst (λ (g : Field). g.meaning < meanings) known.1 (head-meaning left known.0)
 
-    module _ (k : Check) (g : checked k ≡ passed (order_rows strict r last f)) where
-      pub order-refuses : {n : ℕ} {vs : List Float} → checked k ≡ refused n vs → read strict r last left ≡ refused n vs
+    module _ (k : (Result (Unit {0}) Refusal)) (g : outcome k ≡ passed (order_rows strict r last f)) where
+      pub order-refuses : {n : ℕ} {vs : List Float} → outcome k ≡ refused n vs → read strict r last left ≡ refused n vs
       order-refuses h =
           refuses
           (ap (λ (o : Outcome Field). o ⟫ ordered) e
           ∙ sym (after_check (order_rows strict r last f) (accepted (noted r f)) {k = k} refl g)
           ∙ ap (λ (o : Outcome (Unit {0})). o ⟫ (λ _. accepted (noted r f))) h)
 
-      pub moves_on : checked k ≡ accepted tt → (next : ℕ) → next ≡ next_at s at → read strict r last left ≡ read strict (noted r f) f.tag (drop next s)
+      pub moves_on : outcome k ≡ accepted tt → (next : ℕ) → next ≡ next_at s at → read strict r last left ≡ read strict (noted r f) f.tag (drop next s)
       unfolding field
       moves_on h next to =
           subst (λ (p : Field). NoneHolds (order_rows strict r last p) → read strict r last left ≡ read strict (noted r p) p.tag (drop next s)) known.1 on

@@ -1,5 +1,5 @@
 -- Reading a record field by field: what the field at the head refuses, or else the reading of what follows it. Assumes nothing.
-use Rattle.record.proofs.Kit.{◌≡◌, refl, ap, ◌∙◌, Bool, false, List, [], ◌∷◌, ◌++◌, map, ℕ, ◌<◌, length, drop, length-set, Outcome, accepted, Row, ◌then◌, then_append, Readings, Present, meanings, tag_of, field, head_rows, size_of, heads, heads-none, heads-step, order_rows, noted, rows_of, readings, slot_of, no_readings}
+use Rattle.record.proofs.Kit.{◌≡◌, refl, ap, ◌∙◌, Bool, false, List, [], ◌∷◌, ◌++◌, map, ℕ, ◌<◌, length, drop, length-set, Outcome, accepted, Row, ◌then◌, then_append, Readings, Some, meanings, tag_of, field, head_rows, size_of, heads, heads-none, heads-step, order_rows, noted, rows_of, readings, no_readings}
 use mathlib.Core.List.{foldl}
 
 module _ (strict : Bool) where
@@ -38,4 +38,4 @@ all_slots s = go (heads s) no_readings refl
   where
     go : (fs : List (List ℕ)) (r : Readings) → length r.slots ≡ meanings → length (foldl noted r (map field fs)).slots ≡ meanings
     go [] r all = all
-    go (s ∷ fs) r all = let f = field s in go fs (noted r f) (length-set r.slots f.meaning (slot_of (Present f.value)) ∙ all)
+    go (s ∷ fs) r all = let f = field s in go fs (noted r f) (length-set r.slots f.meaning (Some f.value) ∙ all)

@@ -1,19 +1,18 @@
 -- The readings of a mast record, document 01: fields one after the other, each meaning at most once. The first reader takes any order of tags; document 02's
 -- strict reader takes only rising ones. Definitions only.
-use Rattle.std.specs.Prelude.{ℕ, Bool, ◌&&◌, ltb}
+use Rattle.std.specs.Prelude.{ℕ, Bool, ◌&&◌, ltb, is_some}
 use mathlib.Core.List.{List, [], ◌∷◌, ◌++◌, map, foldl}
-use Rattle.refusal.specs.Outcomes.{Outcome, accepted, refused, ◌⟫◌, Row, row, ◌then◌, checked}
+use Rattle.refusal.specs.Outcomes.{Outcome, accepted, refused, ◌⟫◌, Row, row, ◌then◌, outcome}
 use Rattle.fields.specs.declared.fields.Field.{Field}
 use Rattle.record.specs.declared.entries.Readings.{Readings}
-use Rattle.record.specs.declared.readings.Read.{Read}
 use Rattle.fields.specs.Fields.{tag_of, field, head_rows, heads}
-use Rattle.record.specs.Entries.{no_readings, with_value, entry_of, is_present}
+use Rattle.record.specs.Entries.{no_readings, with_value, entry_of}
 
 -- ---- a field that is whole, after those that gave r, the last of them with the tag `last`. 8: tag repeated, or the field in both forms. 19, to the strict
 -- reader: a tag below the last
 abbrev pub order_rows : Bool → Readings → ℕ → Field → List Row
 order_rows strict r last f =
-    row (is_present (entry_of r f.meaning)) 8 [] ∷
+    row (is_some (entry_of r f.meaning)) 8 [] ∷
     row (strict && ltb f.tag last) 19 [] ∷ []
 
 abbrev pub noted : Readings → Field → Readings
@@ -32,15 +31,3 @@ readings s = foldl noted no_readings (map field (heads s))
 
 abbrev pub read_record : Bool → List ℕ → Outcome Readings
 read_record strict s = read_rows strict s then accepted (readings s)
-
--- what the code's answer stands for
-abbrev pub read_outcome : Read → Outcome Readings
-read_outcome r = checked r.check ⟫ (λ _. accepted r.readings)
-
--- all that it holds: its check and its readings, none with a refusal
-abbrev pub parts : Read → Outcome (Unit {0}) × Readings
-parts r = (checked r.check, r.readings)
-
-abbrev pub read_parts : Outcome Readings → Outcome (Unit {0}) × Readings
-read_parts (accepted r) = (accepted tt, r)
-read_parts (refused number values) = (refused number values, no_readings)

@@ -1,32 +1,13 @@
 // Readings: what is stored for each meaning, in the form of its field, and its entry, whatever the form.
 ghost use Rattle.std.specs.Prelude.{◌≡◌};
-ghost use Rattle.record.specs.Entries.{no_readings, is_present, entry_for, stored_of, entry_of, with_value, with_entry, value_or_zero};
+ghost use Rattle.record.specs.Entries.{no_readings, stored_of, entry_of, with_value, with_entry, value_or_zero};
 
-use fields::fields::{MEANINGS, Value, double_of_value};
+use fields::fields::{MEANINGS, Value};
 
-// A reading, whatever the form of its field.
-#[derive(Clone, Copy)]
-pub enum Entry {
-    Absent,
-    Present(f64),
-}
-
-// A reading in the form of its field.
-#[derive(Clone, Copy)]
-pub enum Stored {
-    Absent,
-    Present(Value),
-}
-
-#[derive(Clone, Copy)]
-pub struct Slot {
-    pub stored: Stored,
-}
-
-// What is stored for each meaning. A struct holds no array of enums, so each has a slot.
+// What is stored for each meaning, in the form of its field.
 #[derive(Clone, Copy)]
 pub struct Readings {
-    pub slots: [Slot; MEANINGS],
+    pub slots: [Option<Value>; MEANINGS],
 }
 
 // No entry for any meaning.
@@ -34,58 +15,26 @@ pub fn no_readings() -> Readings
     ensures { result ≡ no_readings }
 {
     Readings {
-        slots: [Slot {
-            stored: Stored::Absent,
-        }; MEANINGS],
-    }
-}
-
-// Whether there is a value.
-pub fn is_present(entry: Entry) -> bool
-    ensures { result ≡ is_present entry }
-{
-    match entry {
-        Entry::Absent => false,
-        Entry::Present(_) => true,
-    }
-}
-
-// Whether a value is stored.
-pub(crate) fn is_stored(stored: Stored) -> bool
-    ensures { result ≡ is_present (entry_for stored) }
-{
-    match stored {
-        Stored::Absent => false,
-        Stored::Present(_) => true,
+        slots: [None; MEANINGS],
     }
 }
 
 // What is stored for a meaning, and nothing where there is no such meaning.
-pub fn stored_of(readings: Readings, meaning: usize) -> Stored
+pub fn stored_of(readings: Readings, meaning: usize) -> Option<Value>
     ensures { result ≡ stored_of readings meaning }
 {
     if MEANINGS <= meaning {
-        return Stored::Absent;
+        return None;
     }
     let slots = readings.slots;
-    let slot = slots[meaning];
-    slot.stored
+    slots[meaning]
 }
 
-fn entry_for(stored: Stored) -> Entry
-    ensures { result ≡ entry_for stored }
-{
-    match stored {
-        Stored::Absent => Entry::Absent,
-        Stored::Present(value) => Entry::Present(double_of_value(value)),
-    }
-}
-
-// The entry of a meaning, and none where there is no such meaning.
-pub fn entry_of(readings: Readings, meaning: usize) -> Entry
+// The entry of a meaning, whatever the form of its field, and none where there is no such meaning.
+pub fn entry_of(readings: Readings, meaning: usize) -> Option<f64>
     ensures { result ≡ entry_of readings meaning }
 {
-    entry_for(stored_of(readings, meaning))
+    stored_of(readings, meaning).map(f64::from)
 }
 
 // The readings with a value in its form for a meaning, and the same where there is no such meaning.
@@ -96,9 +45,7 @@ pub fn with_value(readings: Readings, meaning: usize, value: Value) -> Readings
         return readings;
     }
     let mut slots = readings.slots;
-    slots[meaning] = Slot {
-        stored: Stored::Present(value),
-    };
+    slots[meaning] = Some(value);
     Readings { slots }
 }
 
@@ -110,11 +57,8 @@ pub fn with_entry(readings: Readings, meaning: usize, value: f64) -> Readings
 }
 
 // The value, or 0 where there is none.
-pub fn value_or_zero(entry: Entry) -> f64
+pub fn value_or_zero(entry: Option<f64>) -> f64
     ensures { result ≡ value_or_zero entry }
 {
-    match entry {
-        Entry::Present(x) => x,
-        Entry::Absent => 0.0,
-    }
+    entry.unwrap_or(0.0)
 }

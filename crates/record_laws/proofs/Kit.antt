@@ -5,7 +5,8 @@ pub use Rattle.refusal.proofs.Rows.{exactly, none_after, none_before}
 pub use Rattle.refusal.specs.Outcomes.{Outcome, Row, ◌then◌, ◌⟫◌, accepted, refused}
 pub use Rattle.refusal.specs.declared.judge.Figures.{Figures}
 pub use Rattle.fields.specs.Fields.{altitude, density_altitude, humidity, meanings, measured_pressure, qnh, station_pressure, temperature}
-pub use Rattle.record.specs.Entries.{entry_for, entry_of, is_present, slot_of, stored_of, value_or_zero}
+pub use Rattle.record.specs.Entries.{entry_for, entry_of, stored_of, value_or_zero}
+pub use Rattle.std.specs.Prelude.{is_some}
 pub use Rattle.record.specs.declared.entries.Readings.{Readings}
 unfoldable pub use Rattle.station.specs.Figures.{figures_with}
 pub use Rattle.station.specs.Figures.{figures_of, in_cipm_range}

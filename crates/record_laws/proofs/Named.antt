@@ -1,12 +1,11 @@
 -- The reading that a report names of refused readings is the one whose value the refusal hands out: the first row that holds is a row of that reading. Assumes
 -- nothing.
-use Rattle.record_laws.proofs.Kit.{◌≡◌, refl, sym, ap, subst, ◌∙◌, Bool, true, false, cond, ◌&&◌, ◌||◌, true≢false, List, [], ◌∷◌, ◌++◌, List-as-Memᴰ, ℕ, arith, Float, accepted, refused, Row, ◌then◌, none_before, none_after, Readings, entry_of, is_present, altitude, temperature, station_pressure, qnh, humidity, density_altitude, measured_pressure, figures_of, air_rows, way_rows, resolved, reading_rows, judged, neither}
+use Rattle.std.specs.Prelude.{None, Option, Some}
+use Rattle.record_laws.proofs.Kit.{◌≡◌, refl, sym, ap, subst, ◌∙◌, Bool, true, false, cond, ◌&&◌, ◌||◌, true≢false, List, [], ◌∷◌, ◌++◌, List-as-Memᴰ, ℕ, arith, Float, accepted, refused, Row, ◌then◌, none_before, none_after, Readings, entry_of, is_some, altitude, temperature, station_pressure, qnh, humidity, density_altitude, measured_pressure, figures_of, air_rows, way_rows, resolved, reading_rows, judged, neither}
 use mathlib.Core.List.Memᴰ
 use Rattle.arithmetic.specs.Places.{places}
 use Rattle.refusal.specs.Causes.{NoneHolds}
 use Rattle.density_altitude.specs.Inverse.{temperature_rows, station_rows}
-use Rattle.record.specs.declared.entries.Entry.{Entry}
-use Rattle.record.specs.declared.entries.Entry.TheVariants.{Absent, Present}
 use Rattle.report.specs.Fault.{not_finite, not_positive, first_not_finite, first_not_positive, reading_about}
 use Rattle.mast.specs.Checks.{has, is_clash, finite_rows, pressure_rows, humidity_rows, present, value_rows}
 use Rattle.station.specs.Resolved.{given_temperature}
@@ -15,7 +14,7 @@ module _ (r : Readings) where
   -- what a refusal hands out first is the value of the reading that is named
   abbrev Named : ℕ → List Float → Type 0
   Named n [] = Unit {0}
-  Named n (v ∷ vs) = entry_of r (reading_about r n) ≡ Present v
+  Named n (v ∷ vs) = entry_of r (reading_about r n) ≡ Some v
 
   -- ---- rows of which each, where it is the first that holds, hands out the value of the reading that is named
   abbrev Sound : List Row → Type 0
@@ -40,64 +39,64 @@ module _ (r : Readings) where
   first11 a s q u = cond a altitude (cond s station_pressure (cond q qnh (cond u humidity measured_pressure)))
 
   at_11 : {a s q u : Bool} {x : Float} → not_finite (entry_of r altitude) ≡ a → not_finite (entry_of r station_pressure) ≡ s → not_finite (entry_of r qnh) ≡ q → not_finite (entry_of r humidity) ≡ u
-      → entry_of r (first11 a s q u) ≡ Present x → entry_of r (reading_about r 11) ≡ Present x
+      → entry_of r (first11 a s q u) ≡ Some x → entry_of r (reading_about r 11) ≡ Some x
   unfolding reading_about first_not_finite
-  at_11 {x = x} fa fs fq fu told = subst (λ (m : ℕ). entry_of r m ≡ Present x) (sym (λ i. first11 (fa i) (fs i) (fq i) (fu i))) told
+  at_11 {x = x} fa fs fq fu told = subst (λ (m : ℕ). entry_of r m ≡ Some x) (sym (λ i. first11 (fa i) (fs i) (fq i) (fu i))) told
 
   abbrev first12 : Bool → Bool → ℕ
   first12 s q = cond s station_pressure (cond q qnh measured_pressure)
 
-  at_12 : {s q : Bool} {x : Float} → not_positive (entry_of r station_pressure) ≡ s → not_positive (entry_of r qnh) ≡ q → entry_of r (first12 s q) ≡ Present x → entry_of r (reading_about r 12) ≡ Present x
+  at_12 : {s q : Bool} {x : Float} → not_positive (entry_of r station_pressure) ≡ s → not_positive (entry_of r qnh) ≡ q → entry_of r (first12 s q) ≡ Some x → entry_of r (reading_about r 12) ≡ Some x
   unfolding reading_about first_not_positive
-  at_12 {x = x} fs fq told = subst (λ (m : ℕ). entry_of r m ≡ Present x) (sym (λ i. first12 (fs i) (fq i))) told
+  at_12 {x = x} fs fq told = subst (λ (m : ℕ). entry_of r m ≡ Some x) (sym (λ i. first12 (fs i) (fq i))) told
 
   -- ---- the rows of each reading, where those before it hold nothing
-  sound-altitude : (e : Entry) → entry_of r altitude ≡ e → Sound (present finite_rows e)
-  sound-altitude Absent told = tt
-  sound-altitude (Present x) told = (λ h. at_11 (ap not_finite told ∙ h) refl refl refl told, λ _. tt)
+  sound-altitude : (e : (Option Float)) → entry_of r altitude ≡ e → Sound (present finite_rows e)
+  sound-altitude None told = tt
+  sound-altitude (Some x) told = (λ h. at_11 (ap not_finite told ∙ h) refl refl refl told, λ _. tt)
 
-  sound-temperature : (e : Entry) → entry_of r temperature ≡ e → Sound (present temperature_rows e)
+  sound-temperature : (e : (Option Float)) → entry_of r temperature ≡ e → Sound (present temperature_rows e)
   unfolding reading_about
-  sound-temperature Absent told = tt
-  sound-temperature (Present t) told = (λ h. told, λ _. (λ h. told, λ _. tt))
+  sound-temperature None told = tt
+  sound-temperature (Some t) told = (λ h. told, λ _. (λ h. told, λ _. tt))
 
   module _ (fa : not_finite (entry_of r altitude) ≡ false) where
-    sound-station : (e : Entry) → entry_of r station_pressure ≡ e → Sound (present pressure_rows e)
-    sound-station Absent told = tt
-    sound-station (Present p) told = (λ h. at_11 fa (ap not_finite told ∙ h) refl refl told, λ _. (λ h. at_12 (ap not_positive told ∙ h) refl told, λ _. tt))
+    sound-station : (e : (Option Float)) → entry_of r station_pressure ≡ e → Sound (present pressure_rows e)
+    sound-station None told = tt
+    sound-station (Some p) told = (λ h. at_11 fa (ap not_finite told ∙ h) refl refl told, λ _. (λ h. at_12 (ap not_positive told ∙ h) refl told, λ _. tt))
 
     module _ (fs : not_finite (entry_of r station_pressure) ≡ false) where
-      sound-qnh : (e : Entry) → not_positive (entry_of r station_pressure) ≡ false → entry_of r qnh ≡ e → Sound (present pressure_rows e)
-      sound-qnh Absent ps told = tt
-      sound-qnh (Present p) ps told = (λ h. at_11 fa fs (ap not_finite told ∙ h) refl told, λ _. (λ h. at_12 ps (ap not_positive told ∙ h) told, λ _. tt))
+      sound-qnh : (e : (Option Float)) → not_positive (entry_of r station_pressure) ≡ false → entry_of r qnh ≡ e → Sound (present pressure_rows e)
+      sound-qnh None ps told = tt
+      sound-qnh (Some p) ps told = (λ h. at_11 fa fs (ap not_finite told ∙ h) refl told, λ _. (λ h. at_12 ps (ap not_positive told ∙ h) told, λ _. tt))
 
       module _ (fq : not_finite (entry_of r qnh) ≡ false) where
-        sound-humidity : (e : Entry) → entry_of r humidity ≡ e → Sound (present humidity_rows e)
+        sound-humidity : (e : (Option Float)) → entry_of r humidity ≡ e → Sound (present humidity_rows e)
         unfolding reading_about
-        sound-humidity Absent told = tt
-        sound-humidity (Present u) told = (λ h. at_11 fa fs fq (ap not_finite told ∙ h) told, λ _. (λ h. told, λ _. tt))
+        sound-humidity None told = tt
+        sound-humidity (Some u) told = (λ h. at_11 fa fs fq (ap not_finite told ∙ h) told, λ _. (λ h. told, λ _. tt))
 
-        sound_measured : (e : Entry) → not_finite (entry_of r humidity) ≡ false → not_positive (entry_of r station_pressure) ≡ false → not_positive (entry_of r qnh) ≡ false
+        sound_measured : (e : (Option Float)) → not_finite (entry_of r humidity) ≡ false → not_positive (entry_of r station_pressure) ≡ false → not_positive (entry_of r qnh) ≡ false
             → entry_of r measured_pressure ≡ e → Sound (present pressure_rows e)
-        sound_measured Absent fu ps pq told = tt
-        sound_measured (Present p) fu ps pq told = (λ h. at_11 fa fs fq fu told, λ _. (λ h. at_12 ps pq told, λ _. tt))
+        sound_measured None fu ps pq told = tt
+        sound_measured (Some p) fu ps pq told = (λ h. at_11 fa fs fq fu told, λ _. (λ h. at_12 ps pq told, λ _. tt))
 
 -- ---- a reading whose rows hold nothing is not at fault, and neither is one that is absent
-clear-finite : (e : Entry) → NoneHolds (present finite_rows e) → not_finite e ≡ false
-clear-finite Absent h = refl
-clear-finite (Present x) h = h.0
+clear-finite : (e : (Option Float)) → NoneHolds (present finite_rows e) → not_finite e ≡ false
+clear-finite None h = refl
+clear-finite (Some x) h = h.0
 
-clear-pressure : (e : Entry) → NoneHolds (present pressure_rows e) → (not_finite e ≡ false) × (not_positive e ≡ false)
-clear-pressure Absent h = (refl, refl)
-clear-pressure (Present p) h = (h.0, h.1.0)
+clear-pressure : (e : (Option Float)) → NoneHolds (present pressure_rows e) → (not_finite e ≡ false) × (not_positive e ≡ false)
+clear-pressure None h = (refl, refl)
+clear-pressure (Some p) h = (h.0, h.1.0)
 
-clear-humidity : (e : Entry) → NoneHolds (present humidity_rows e) → not_finite e ≡ false
-clear-humidity Absent h = refl
-clear-humidity (Present u) h = h.0
+clear-humidity : (e : (Option Float)) → NoneHolds (present humidity_rows e) → not_finite e ≡ false
+clear-humidity None h = refl
+clear-humidity (Some u) h = h.0
 
-clear-absent : (e : Entry) → is_present e ≡ false → not_finite e ≡ false
-clear-absent Absent h = refl
-clear-absent (Present x) h = absurd (true≢false h)
+clear-absent : (e : (Option Float)) → is_some e ≡ false → not_finite e ≡ false
+clear-absent None h = refl
+clear-absent (Some x) h = absurd (true≢false h)
 
 -- ---- without 06
 module _ (r : Readings) where
@@ -151,19 +150,19 @@ module _ (r : Readings) where
       sound_measured r c.0 c.1 d.1 (entry_of r measured_pressure) (clear-humidity (entry_of r humidity) (none_after to_04 u n)) c.2 d.2 refl)
 
   -- ---- with 06, where altitude and pressures are absent
-  module _ (apart : is_clash r ≡ false) (d : Float) (with06 : entry_of r density_altitude ≡ Present d) where
+  module _ (apart : is_clash r ≡ false) (d : Float) (with06 : entry_of r density_altitude ≡ Some d) where
     others : (has r altitude || has r station_pressure || has r qnh || has r measured_pressure) ≡ false
     others =
         let pressures = (has r station_pressure && has r qnh) || (has r measured_pressure && (has r station_pressure || has r qnh)) in
         let excluded = has r altitude || has r station_pressure || has r qnh || has r measured_pressure in
-        sym (ap (λ (e : Entry). is_present e && excluded) with06) ∙ (neither pressures (has r density_altitude && excluded) apart).1
+        sym (ap (λ (e : (Option Float)). is_some e && excluded) with06) ∙ (neither pressures (has r density_altitude && excluded) apart).1
 
-    sound-given : (e : Entry) → entry_of r temperature ≡ e → Sound r (station_rows places d (given_temperature e))
+    sound-given : (e : (Option Float)) → entry_of r temperature ≡ e → Sound r (station_rows places d (given_temperature e))
     unfolding reading_about
-    sound-given Absent told = (λ h. with06, λ _. (λ h. with06, λ _. tt))
-    sound-given (Present t) told = (λ h. with06, λ _. (λ h. told, λ _. (λ h. told, λ _. (λ h. with06, λ _. tt))))
+    sound-given None told = (λ h. with06, λ _. (λ h. with06, λ _. tt))
+    sound-given (Some t) told = (λ h. with06, λ _. (λ h. told, λ _. (λ h. told, λ _. (λ h. with06, λ _. tt))))
 
-    sound-inverse : Sound r (way_rows r (Present d))
+    sound-inverse : Sound r (way_rows r (Some d))
     sound-inverse =
         let three = (neither (has r altitude || has r station_pressure || has r qnh) (has r measured_pressure) others).0 in
         let two = neither (has r altitude || has r station_pressure) (has r qnh) three in
@@ -172,16 +171,16 @@ module _ (r : Readings) where
         (λ _. sound-humidity r (clear-absent (entry_of r altitude) one.0) (clear-absent (entry_of r station_pressure) one.1) (clear-absent (entry_of r qnh) two.1) (entry_of r humidity) refl)
 
   -- ---- all rows
-  sound_way : is_clash r ≡ false → (e : Entry) → entry_of r density_altitude ≡ e → Sound r (way_rows r e)
-  sound_way apart Absent told = (λ _. tt, λ _. sound-values)
-  sound_way apart (Present d) told = sound-inverse apart d told
+  sound_way : is_clash r ≡ false → (e : (Option Float)) → entry_of r density_altitude ≡ e → Sound r (way_rows r e)
+  sound_way apart None told = (λ _. tt, λ _. sound-values)
+  sound_way apart (Some d) told = sound-inverse apart d told
 
   sound-readings : Sound r (reading_rows r)
   sound-readings =
       let way = entry_of r density_altitude in
       (λ _. tt, λ apart. sound-append r (way_rows r way) (air_rows (resolved r)) (sound_way apart way refl) (λ _. (λ _. tt, λ _. (λ _. tt, λ _. tt))))
 
-pub named : (r : Readings) (n : ℕ) (v : Float) (vs : List Float) → judged r ≡ refused n (v ∷ vs) → entry_of r (reading_about r n) ≡ Present v
+pub named : (r : Readings) (n : ℕ) (v : Float) (vs : List Float) → judged r ≡ refused n (v ∷ vs) → entry_of r (reading_about r n) ≡ Some v
 unfolding judged
 named r n v vs e = by_rows r (figures_of (resolved r)) (reading_rows r) (sound-readings r) e
 

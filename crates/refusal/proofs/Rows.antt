@@ -1,7 +1,8 @@
 -- Lists of rows: one after the other, what comes after them, and that an outcome of rows is exactly caused by them. Assumes nothing.
+use Rattle.std.specs.Prelude.{Result}
+use Rattle.refusal.specs.declared.Refusal.{Refusal}
 use Rattle.arithmetic.proofs.Kit.{◌≡◌, refl, sym, ap, ap₂, subst, ◌∙◌, Bool, true, false, cond, true≢false, ◌⊎◌, inl, inr, List, [], ◌∷◌, ◌++◌, ℕ, arith, Float}
-use Rattle.refusal.specs.declared.Check.{Check}
-use Rattle.refusal.specs.Outcomes.{Outcome, accepted, refused, ◌⟫◌, Row, ◌then◌, numbers, checked, passed}
+use Rattle.refusal.specs.Outcomes.{Outcome, accepted, refused, ◌⟫◌, Row, ◌then◌, numbers, passed, outcome}
 use Rattle.refusal.specs.Causes.{NoneHolds, FirstHolds, ExactlyCaused}
 
 -- ---- one list after the other
@@ -36,8 +37,8 @@ pub first-passed : (xs ys : List Row) {o p q : Outcome (Unit {0})} → o ≡ (p 
 first-passed xs ys e f g = e ∙ ap₂ (λ (p q : Outcome (Unit {0})). p ⟫ (λ _. q)) f g ∙ passed-append xs ys
 
 -- what comes after a check k that is found to be k'
-pub after_check : {A : Type 0} (rows : List Row) (o : Outcome A) {k k' : Check} → k ≡ k' → checked k ≡ passed rows → (checked k' ⟫ (λ _. o)) ≡ (rows then o)
-after_check rows o told e = ap (λ (p : Outcome (Unit {0})). p ⟫ (λ _. o)) (sym (ap checked told) ∙ e) ∙ then_next rows (accepted tt) (λ _. o)
+pub after_check : {A : Type 0} (rows : List Row) (o : Outcome A) {k k' : (Result (Unit {0}) Refusal)} → k ≡ k' → outcome k ≡ passed rows → (outcome k' ⟫ (λ _. o)) ≡ (rows then o)
+after_check rows o told e = ap (λ (p : Outcome (Unit {0})). p ⟫ (λ _. o)) (sym (ap outcome told) ∙ e) ∙ then_next rows (accepted tt) (λ _. o)
 
 -- ---- where no row holds
 pub then-none : {A : Type 0} {o : Outcome A} (rows : List Row) → NoneHolds rows → (rows then o) ≡ o

@@ -2,5 +2,3 @@
 pub mod Refusals
 pub mod Outcomes
 pub mod Causes
-pub mod Judged
-pub mod Inverted

@@ -1,9 +1,7 @@
 -- An outcome: what is accepted, or the number of a refusal with the values that it hands out. A row is a check of document 01's table; of a list of rows the
 -- first that holds refuses. Definitions only.
-use Rattle.std.specs.Prelude.{ℕ, Bool, cond, List, [], ◌∷◌, Float}
+use Rattle.std.specs.Prelude.{ℕ, Bool, cond, List, [], ◌∷◌, Float, Err, Ok, Result}
 use Rattle.refusal.specs.declared.Refusal.{Refusal}
-use Rattle.refusal.specs.declared.Check.{Check}
-use Rattle.refusal.specs.declared.Check.TheVariants as check
 use Rattle.refusal.specs.Refusals.{number_of, values_of}
 
 pub data Outcome (A : Type 0) : Type 0 where
@@ -13,6 +11,11 @@ pub data Outcome (A : Type 0) : Type 0 where
 -- the outcome of a cause of the code's
 abbrev pub refusal : {A : Type 0} → Refusal → Outcome A
 refusal c = refused (number_of c) (values_of c)
+
+-- what each case of the code's answers stands for, whatever they hold
+abbrev pub outcome : {A : Type 0} → Result A Refusal → Outcome A
+outcome (Ok x) = accepted x
+outcome (Err c) = refusal c
 
 -- what comes after an outcome: a refusal is the last word
 infixr 20 ◌⟫◌
@@ -40,10 +43,6 @@ abbrev pub numbers : List Row → List ℕ
 numbers [] = []
 numbers (r ∷ rows) = r.number ∷ numbers rows
 
--- ---- a check of the code's, and the rows that it tries
-abbrev pub checked : Check → Outcome (Unit {0})
-checked check.Passed = accepted tt
-checked (check.Refused c) = refusal c
-
+-- ---- the rows that a check of the code's tries: it passes where none holds
 abbrev pub passed : List Row → Outcome (Unit {0})
 passed rows = rows then accepted tt

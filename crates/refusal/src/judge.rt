@@ -1,6 +1,4 @@
-// The eight figures of a station and their mark, or why there are none.
-use crate::Refusal;
-
+// The eight figures of a station and their mark.
 // The figures, and whether the shown temperature and pressure lie in the range of CIPM-2007.
 #[derive(Clone, Copy)]
 pub struct Figures {
@@ -13,10 +11,4 @@ pub struct Figures {
     pub density_matched_altitude_m: f64,
     pub vapor_mole_fraction: f64,
     pub in_cipm_range: bool,
-}
-
-#[derive(Clone, Copy)]
-pub enum Answer {
-    Figures(Figures),
-    Refused(Refusal),
 }

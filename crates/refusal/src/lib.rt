@@ -7,7 +7,7 @@ pub mod judge;
 
 ghost use Rattle.std.specs.Prelude.{◌≡◌, [], ◌∷◌};
 ghost use Rattle.refusal.specs.Refusals.{number_of, values_of, listed};
-ghost use Rattle.refusal.specs.Outcomes.{checked, row, passed, ◌⟫◌};
+ghost use Rattle.refusal.specs.Outcomes.{row, passed, ◌⟫◌, outcome};
 
 #[derive(Clone, Copy)]
 pub enum Refusal {
@@ -119,30 +119,20 @@ pub fn handed_out(refusal: Refusal) -> Values
     }
 }
 
-// What a check finds: nothing, or the refusal that it gives.
-#[derive(Clone, Copy)]
-pub enum Check {
-    Passed,
-    Refused(Refusal),
-}
-
 // The check for one cause: its refusal where the cause holds.
-pub fn refuse_if(cause: bool, refusal: Refusal) -> Check
-    ensures { checked result ≡ passed (row cause (number_of refusal) (values_of refusal) ∷ []) }
+pub fn refuse_if(cause: bool, refusal: Refusal) -> Result<(), Refusal>
+    ensures { outcome result ≡ passed (row cause (number_of refusal) (values_of refusal) ∷ []) }
 {
     if cause {
-        Check::Refused(refusal)
+        Err(refusal)
     } else {
-        Check::Passed
+        Ok(())
     }
 }
 
 // The first refusal of two checks, if there is one.
-pub fn first_of(a: Check, b: Check) -> Check
-    ensures { checked result ≡ (checked a ⟫ (λ _. checked b)) }
+pub fn first_of(a: Result<(), Refusal>, b: Result<(), Refusal>) -> Result<(), Refusal>
+    ensures { outcome result ≡ (outcome a ⟫ (λ _. outcome b)) }
 {
-    match a {
-        Check::Passed => b,
-        Check::Refused(refusal) => Check::Refused(refusal),
-    }
+    a.and(b)
 }

@@ -1,4 +1,5 @@
 -- How long a report is at most. Assumes nothing.
+use Rattle.std.specs.Prelude.{None, Option, Some}
 use Rattle.arithmetic.proofs.Kit.{Bool, true, false, List, [], ◌∷◌, ℕ, ◌+◌, ◌*◌, ◌/◌, ◌%◌, ◌≤◌, arith, lit≤, length, length-append}
 use Rattle.refusal.specs.Outcomes.{Outcome, accepted, refused}
 use Rattle.record.specs.declared.entries.Readings.{Readings}
@@ -13,8 +14,6 @@ use Rattle.trim.specs.declared.changes.Quantity.TheVariants.{Temperature, Measur
 use Rattle.trim.specs.declared.changes.Direction.{Direction}
 use Rattle.trim.specs.declared.changes.Direction.TheVariants.{Up, Down}
 use Rattle.trim.specs.declared.changes.Turn.{Turn}
-use Rattle.trim.specs.declared.changes.Found.{Found}
-use Rattle.trim.specs.declared.changes.Found.TheVariants as found
 use Rattle.trim.specs.Classes.{trim_class}
 use Rattle.trim.specs.Search.{Next, next_of}
 use Rattle.arithmetic.specs.Ascii.{ascii}
@@ -74,9 +73,9 @@ turn-short t =
 next-short : (n : Outcome Next) → length (next_class_line n) ≤ 60
 next-short (accepted n) = go n.turn
   where
-    go : (f : Found) → length (change_line f) ≤ 60
-    go (found.Turn t) = omega (arith, (turn-short t).bound)
-    go found.Nothing = lit≤ tt
+    go : (f : (Option Turn)) → length (change_line f) ≤ 60
+    go (Some t) = omega (arith, (turn-short t).bound)
+    go None = lit≤ tt
 next-short (refused number values) = lit≤ tt
 
 mark-short : (b : Bool) → Within (mark_line b) 60

@@ -1,21 +1,19 @@
 -- The reading that a refusal of readings is about, by its meaning; `meanings` where there is not one. Definitions only.
-use Rattle.std.specs.Prelude.{ℕ, Bool, false, not, cond, eqb}
+use Rattle.std.specs.Prelude.{ℕ, Bool, false, not, cond, eqb, None, Option, Some}
 use Rattle.std.specs.Float.Ieee.{le}
 use Rattle.arithmetic.specs.Decimals.{nought}
 use Rattle.arithmetic.specs.Doubles.{is_finite}
-use Rattle.record.specs.declared.entries.Entry.{Entry}
-use Rattle.record.specs.declared.entries.Entry.TheVariants.{Absent, Present}
 use Rattle.record.specs.declared.entries.Readings.{Readings}
 use Rattle.fields.specs.Fields.{meanings, altitude, temperature, station_pressure, qnh, humidity, density_altitude, measured_pressure}
 use Rattle.record.specs.Entries.{entry_of}
 
-abbrev pub not_finite : Entry → Bool
-not_finite Absent = false
-not_finite (Present x) = not (is_finite x)
+abbrev pub not_finite : (Option Float) → Bool
+not_finite None = false
+not_finite (Some x) = not (is_finite x)
 
-abbrev pub not_positive : Entry → Bool
-not_positive Absent = false
-not_positive (Present p) = le p nought
+abbrev pub not_positive : (Option Float) → Bool
+not_positive None = false
+not_positive (Some p) = le p nought
 
 -- 11: the first that is not finite, by the order of the checks
 unfoldable pub first_not_finite : Readings → ℕ

@@ -1,6 +1,6 @@
 -- The trim class of a report, and the smallest change of temperature or pressure that gives another, searched as document 02's K9 says; as bytes in ASCII.
 -- Definitions only.
-use Rattle.std.specs.Prelude.{ℕ, ◌+◌, ◌/◌, ◌%◌, List, [], ◌∷◌, ◌++◌}
+use Rattle.std.specs.Prelude.{ℕ, ◌+◌, ◌/◌, ◌%◌, List, [], ◌∷◌, ◌++◌, None, Option, Some}
 use Rattle.arithmetic.specs.Decimals.{nought}
 use Rattle.refusal.specs.Outcomes.{Outcome, accepted, refused}
 use Rattle.refusal.specs.declared.judge.Figures.{Figures}
@@ -12,8 +12,6 @@ use Rattle.trim.specs.declared.changes.Quantity.TheVariants.{Temperature, Measur
 use Rattle.trim.specs.declared.changes.Direction.{Direction}
 use Rattle.trim.specs.declared.changes.Direction.TheVariants.{Up, Down}
 use Rattle.trim.specs.declared.changes.Turn.{Turn}
-use Rattle.trim.specs.declared.changes.Found.{Found}
-use Rattle.trim.specs.declared.changes.Found.TheVariants as found
 use Rattle.trim.specs.Search.{Next, next_of}
 use Rattle.arithmetic.specs.Ascii.{ascii}
 use Rattle.pages.specs.Characters.{number_text}
@@ -36,9 +34,9 @@ turn_line t =
     ascii "next class " ++ number_text t.class ++ ascii " at " ++ tenths_text t.change.tenths
     ++ change_words t.change.quantity t.change.direction
 
-abbrev pub change_line : Found → List ℕ
-change_line (found.Turn t) = turn_line t
-change_line found.Nothing = ascii "no other class within 20 C or 20 hPa\n"
+abbrev pub change_line : (Option Turn) → List ℕ
+change_line (Some t) = turn_line t
+change_line None = ascii "no other class within 20 C or 20 hPa\n"
 
 -- ---- where a reading for the search is wanting, 22, it starts at what the figures show, as if measured at sea level, where no default band acts: the density
 -- is that of the temperature, pressure and humidity alone. No line where that is refused

@@ -4,18 +4,15 @@ ghost use Rattle.record.specs.Entries.{entry_of};
 ghost use Rattle.report.specs.Fault.{not_finite, not_positive, first_not_finite, first_not_positive, reading_about};
 
 use arithmetic::doubles::is_finite;
-use fields::fields::{
-    ALTITUDE, DENSITY_ALTITUDE, HUMIDITY, MEANINGS, MEASURED_PRESSURE, QNH, STATION_PRESSURE,
-    TEMPERATURE,
-};
-use record::entries::{Entry, Readings, entry_of};
+use fields::fields::{ALTITUDE, DENSITY_ALTITUDE, HUMIDITY, MEANINGS, MEASURED_PRESSURE, QNH, STATION_PRESSURE, TEMPERATURE};
+use record::entries::{Readings, entry_of};
 
 fn is_not_finite(readings: Readings, meaning: usize) -> bool
     ensures { result ≡ not_finite (entry_of readings meaning) }
 {
     match entry_of(readings, meaning) {
-        Entry::Absent => false,
-        Entry::Present(x) => !is_finite(x),
+        None => false,
+        Some(x) => !is_finite(x),
     }
 }
 
@@ -23,8 +20,8 @@ fn is_not_positive(readings: Readings, meaning: usize) -> bool
     ensures { result ≡ not_positive (entry_of readings meaning) }
 {
     match entry_of(readings, meaning) {
-        Entry::Absent => false,
-        Entry::Present(p) => p <= 0.0,
+        None => false,
+        Some(p) => p <= 0.0,
     }
 }
 

@@ -22,10 +22,10 @@ use notes::put_notes;
 use pages::{put, put_hex, put_refusal};
 use record::entries::Readings;
 use record::readings::read_record;
-use refusal::judge::{Answer, Figures};
-use refusal::{Check, number};
+use refusal::judge::Figures;
+use refusal::number;
 use trim::classes::trim_class;
-use writer::{Written, write};
+use writer::write;
 
 // Where readings come from: a record, or words that were typed, which say whether the altitude was typed
 // with a point that may mean thousands.
@@ -73,8 +73,8 @@ fn put_answer(page: &mut [u8], at: usize, readings: Readings, origin: Origin) ->
     ensures { Appended page.old at (answer_lines origin readings (judged readings)) page.new result }
 {
     match judge_readings(readings) {
-        Answer::Figures(figures) => put_noted(page, at, readings, figures, origin),
-        Answer::Refused(refusal) => put_refused(page, at, origin, readings, refusal),
+        Ok(figures) => put_noted(page, at, readings, figures, origin),
+        Err(refusal) => put_refused(page, at, origin, readings, refusal),
     }
 }
 
@@ -91,8 +91,8 @@ fn put_record(page: &mut [u8], at: usize, readings: Readings) -> usize
 {
     let mut record = [0u8; 154];
     match write(readings, &mut record) {
-        Written::Refused(_) => at,
-        Written::Length(length) => put_record_line(page, at, &record[..length]),
+        Err(_) => at,
+        Ok(length) => put_record_line(page, at, &record[..length]),
     }
 }
 
@@ -111,8 +111,8 @@ pub fn put_record_report(page: &mut [u8], at: usize, bytes: &[u8]) -> usize
     let read = read_record(bytes);
     let check = read.check;
     match check {
-        Check::Passed => put_report(page, at, read.readings, Origin::Record),
-        Check::Refused(refusal) => {
+        Ok(()) => put_report(page, at, read.readings, Origin::Record),
+        Err(refusal) => {
             let number = number(refusal);
             let line = put_refusal(page, at, number);
             let cause = put_cause(page, line, Origin::Record, number);

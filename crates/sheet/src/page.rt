@@ -1,28 +1,20 @@
 // The page: all rows are judged on a page of its own before the first byte of the lent one is written.
 ghost use Rattle.std.specs.Prelude.{◌≡◌, ◌<◌, length};
-ghost use Rattle.refusal.specs.Outcomes.{checked, passed, accepted, ◌⟫◌};
+ghost use Rattle.refusal.specs.Outcomes.{passed, accepted, ◌⟫◌, outcome};
 ghost use Rattle.sheet.specs.Over.{over_or_left};
-ghost use Rattle.sheet.specs.Sheet.{celsius_of_row, rows, sheet_input_rows, setting_sheet, sheet_outcome, bare};
+ghost use Rattle.sheet.specs.Sheet.{celsius_of_row, rows, sheet_input_rows, setting_sheet, bare};
 
 use super::row::write_row;
 use mast::checks::{check_altitude, check_humidity, check_pressure};
 use pages::put;
-use record::entries::Entry;
-use refusal::{Check, Refusal, first_of};
+use refusal::{Refusal, first_of};
 
-// What comes of a sheet.
-#[derive(Clone, Copy)]
-pub enum Sheet {
-    Written,
-    Refused(Refusal),
-}
-
-fn check_inputs(altitude_m: f64, pressure_hpa: f64, humidity_percent: f64) -> Check
-    ensures { checked result ≡ passed (sheet_input_rows altitude_m pressure_hpa humidity_percent) }
+fn check_inputs(altitude_m: f64, pressure_hpa: f64, humidity_percent: f64) -> Result<(), Refusal>
+    ensures { outcome result ≡ passed (sheet_input_rows altitude_m pressure_hpa humidity_percent) }
 {
-    let altitude = check_altitude(Entry::Present(altitude_m));
-    let pressure = check_pressure(Entry::Present(pressure_hpa));
-    let humidity = check_humidity(Entry::Present(humidity_percent));
+    let altitude = check_altitude(Some(altitude_m));
+    let pressure = check_pressure(Some(pressure_hpa));
+    let humidity = check_humidity(Some(humidity_percent));
     first_of(first_of(altitude, pressure), humidity)
 }
 
@@ -33,9 +25,9 @@ fn celsius(n: u32) -> f64
     (n as i32 - 10) as f64
 }
 
-fn write_rows(page: &mut [u8], altitude_m: f64, pressure_hpa: f64, humidity_percent: f64) -> Check
+fn write_rows(page: &mut [u8], altitude_m: f64, pressure_hpa: f64, humidity_percent: f64) -> Result<(), Refusal>
     requires { length page.old ≡ 1530 }
-    ensures { rows altitude_m pressure_hpa humidity_percent 51 ≡ (checked result ⟫ (λ _. accepted page.new)) }
+    ensures { rows altitude_m pressure_hpa humidity_percent 51 ≡ (outcome result ⟫ (λ _. accepted page.new)) }
 {
     let mut n: u32 = 0;
     while n < 51 {
@@ -48,11 +40,11 @@ fn write_rows(page: &mut [u8], altitude_m: f64, pressure_hpa: f64, humidity_perc
             humidity_percent,
             celsius(n),
         ) {
-            Check::Refused(refusal) => return Check::Refused(refusal),
-            Check::Passed => n += 1,
+            Err(refusal) => return Err(refusal),
+            Ok(()) => n += 1,
         }
     }
-    Check::Passed
+    Ok(())
 }
 
 // The sheet of a station on the first 1,530 bytes of the page, or a refusal, 11 to 17, which leaves the
@@ -62,23 +54,23 @@ pub fn setting_sheet(
     pressure_hpa: f64,
     humidity_percent: f64,
     page: &mut [u8],
-) -> Sheet
-    ensures answered { sheet_outcome result ≡ bare (setting_sheet altitude_m pressure_hpa humidity_percent (length page.old)) }
+) -> Result<(), Refusal>
+    ensures answered { outcome result ≡ bare (setting_sheet altitude_m pressure_hpa humidity_percent (length page.old)) }
     ensures written { page.new ≡ over_or_left page.old 0
         (setting_sheet altitude_m pressure_hpa humidity_percent (length page.old)) }
 {
     if page.len() < 1530 {
-        return Sheet::Refused(Refusal::PageTooShort);
+        return Err(Refusal::PageTooShort);
     }
     match check_inputs(altitude_m, pressure_hpa, humidity_percent) {
-        Check::Refused(refusal) => Sheet::Refused(refusal),
-        Check::Passed => {
+        Err(refusal) => Err(refusal),
+        Ok(()) => {
             let mut own = [0u8; 1530];
             match write_rows(&mut own, altitude_m, pressure_hpa, humidity_percent) {
-                Check::Refused(refusal) => Sheet::Refused(refusal),
-                Check::Passed => {
+                Err(refusal) => Err(refusal),
+                Ok(()) => {
                     put(page, 0, &own);
-                    Sheet::Written
+                    Ok(())
                 }
             }
         }

@@ -1,6 +1,6 @@
 // A row of the setting sheet: four figures, each at the right of its column.
 ghost use Rattle.std.specs.Prelude.{◌≡◌, [], ◌∷◌, ◌++◌, ◌-◌, ◌≤◌, drop};
-ghost use Rattle.refusal.specs.Outcomes.{checked};
+ghost use Rattle.refusal.specs.Outcomes.{outcome};
 ghost use Rattle.pages.specs.Pages.{Appended};
 ghost use Rattle.sheet.specs.Over.{over_or_left};
 ghost use Rattle.sheet.specs.Row.{figures_outcome, row_outcome};
@@ -10,8 +10,8 @@ use atmosphere::given::Reading;
 use decimals::shown::{DecimalText, decimal_text};
 use mast::judge::answer_of;
 use pages::put;
-use refusal::judge::{Answer, Figures};
-use refusal::{Check, Refusal};
+use refusal::judge::Figures;
+use refusal::Refusal;
 use station::resolved::Resolved;
 
 // A figure's text at the right of its column, and the byte after the column; the position after both.
@@ -25,8 +25,8 @@ fn put_cell(page: &mut [u8], at: usize, text: DecimalText, width: usize, end: u8
     put(page, column, &last)
 }
 
-fn write_figures(page: &mut [u8], at: usize, temperature_c: f64, figures: Figures) -> Check
-    ensures checked { checked result ≡ bare (figures_outcome temperature_c figures) }
+fn write_figures(page: &mut [u8], at: usize, temperature_c: f64, figures: Figures) -> Result<(), Refusal>
+    ensures outcome { outcome result ≡ bare (figures_outcome temperature_c figures) }
     ensures written { page.new ≡ over_or_left page.old at (figures_outcome temperature_c figures) }
 {
     let temperature = decimal_text(temperature_c, 1);
@@ -34,13 +34,13 @@ fn write_figures(page: &mut [u8], at: usize, temperature_c: f64, figures: Figure
     let sound = decimal_text(figures.speed_of_sound_mps, 1);
     let altitude = decimal_text(figures.density_matched_altitude_m, 0);
     if (temperature.len > 6) | (density.len > 7) | (sound.len > 6) | (altitude.len > 7) {
-        return Check::Refused(Refusal::TooWide);
+        return Err(Refusal::TooWide);
     }
     let second = put_cell(page, at, temperature, 6, b' ');
     let third = put_cell(page, second, density, 7, b' ');
     let fourth = put_cell(page, third, sound, 6, b' ');
     put_cell(page, fourth, altitude, 7, b'\n');
-    Check::Passed
+    Ok(())
 }
 
 // The row of a temperature at `at`, or its refusal.
@@ -51,8 +51,8 @@ pub(crate) fn write_row(
     pressure_hpa: f64,
     humidity_percent: f64,
     temperature_c: f64,
-) -> Check
-    ensures checked { checked result ≡ bare (row_outcome altitude_m pressure_hpa humidity_percent temperature_c) }
+) -> Result<(), Refusal>
+    ensures outcome { outcome result ≡ bare (row_outcome altitude_m pressure_hpa humidity_percent temperature_c) }
     ensures written { page.new ≡ over_or_left page.old at (row_outcome altitude_m pressure_hpa humidity_percent temperature_c) }
 {
     let station = Resolved {
@@ -62,7 +62,7 @@ pub(crate) fn write_row(
         humidity_percent,
     };
     match answer_of(station) {
-        Answer::Refused(refusal) => Check::Refused(refusal),
-        Answer::Figures(figures) => write_figures(page, at, temperature_c, figures),
+        Err(refusal) => Err(refusal),
+        Ok(figures) => write_figures(page, at, temperature_c, figures),
     }
 }

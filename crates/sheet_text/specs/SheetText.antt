@@ -1,11 +1,9 @@
 -- The sheet to pin up that readings give, docs/PARK.md: the setting sheet under a heading; or why it is refused, or what readings a sheet takes.
 -- Definitions only.
-use Rattle.std.specs.Prelude.{ℕ, Bool, false, not, ◌&&◌, ◌||◌, cond, List, [], ◌++◌, ltb, Float}
+use Rattle.std.specs.Prelude.{ℕ, Bool, false, not, ◌&&◌, ◌||◌, cond, List, [], ◌++◌, ltb, Float, None, Option, Some}
 use Rattle.std.specs.Float.Ieee.{le}
 use Rattle.arithmetic.specs.Decimals.{nought}
 use Rattle.refusal.specs.Outcomes.{Outcome, accepted, refused}
-use Rattle.record.specs.declared.entries.Entry.{Entry}
-use Rattle.record.specs.declared.entries.Entry.TheVariants.{Absent, Present}
 use Rattle.record.specs.declared.entries.Readings.{Readings}
 use Rattle.record.specs.Entries.{entry_of}
 use Rattle.fields.specs.Fields.{altitude, temperature, station_pressure, qnh, density_altitude, measured_pressure}
@@ -39,9 +37,9 @@ unfoldable pub sheet_page : Float → Float → Float → Readings → Reading �
 sheet_page h p u r resolved = pinned h p u r resolved (setting_sheet h p u 1530)
 
 -- ---- readings: altitude, pressure and humidity as they are resolved; a QNH that is not above 0 is refused as any pressure is, 12
-abbrev pub pressure_for : Entry → Float → Float
-pressure_for Absent p = p
-pressure_for (Present q) p = cond (le q nought) q p
+abbrev pub pressure_for : (Option Float) → Float → Float
+pressure_for None p = p
+pressure_for (Some q) p = cond (le q nought) q p
 
 abbrev pub sheet_at : Readings → Resolved → List ℕ
 sheet_at r a = sheet_page a.altitude_m (pressure_for (entry_of r qnh) (shown_pressure a)) a.humidity_percent r a.pressure

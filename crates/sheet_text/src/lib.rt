@@ -16,15 +16,13 @@ use crate::rows::{celsius, refused_row};
 use crate::sheet_lines::{put_heading, put_limits, put_rows};
 use atmosphere::given::Reading;
 use decimals::figures::put_shown;
-use fields::fields::{
-    ALTITUDE, DENSITY_ALTITUDE, MEASURED_PRESSURE, QNH, STATION_PRESSURE, TEMPERATURE,
-};
+use fields::fields::{ALTITUDE, DENSITY_ALTITUDE, MEASURED_PRESSURE, QNH, STATION_PRESSURE, TEMPERATURE};
 use pages::{put, put_refusal};
-use record::entries::{Entry, Readings, entry_of, is_present};
+use record::entries::{Readings, entry_of};
 use refusal::{Refusal, number};
 use report::Origin;
 use report::advice::put_cause;
-use sheet::page::{Sheet, setting_sheet};
+use sheet::page::setting_sheet;
 use station::figures::figures_of;
 use station::resolved::{Resolved, ordinary};
 
@@ -88,7 +86,7 @@ fn put_sheet_page(
 {
     let mut rows = [0u8; 1530];
     match setting_sheet(altitude_m, pressure_hpa, humidity_percent, &mut rows) {
-        Sheet::Written => {
+        Ok(()) => {
             let heading = put_heading(
                 page,
                 at,
@@ -108,7 +106,7 @@ fn put_sheet_page(
             );
             put_limits(page, last, altitude_m, pressure_hpa, humidity_percent)
         }
-        Sheet::Refused(refusal) => put_refused_sheet(
+        Err(refusal) => put_refused_sheet(
             page,
             at,
             altitude_m,
@@ -129,12 +127,12 @@ fn unless_positive(qnh_hpa: f64, resolved_hpa: f64) -> f64
 }
 
 // The pressure that a sheet is for: what is resolved, or a QNH that is not above 0, to be refused.
-fn pressure_for(qnh: Entry, resolved_hpa: f64) -> f64
+fn pressure_for(qnh: Option<f64>, resolved_hpa: f64) -> f64
     ensures { result ≡ pressure_for qnh resolved_hpa }
 {
     match qnh {
-        Entry::Absent => resolved_hpa,
-        Entry::Present(q) => unless_positive(q, resolved_hpa),
+        None => resolved_hpa,
+        Some(q) => unless_positive(q, resolved_hpa),
     }
 }
 
@@ -160,17 +158,17 @@ fn put_sheet_at(page: &mut [u8], at: usize, readings: Readings, resolved: Resolv
 fn takes_other(readings: Readings) -> bool
     ensures { result ≡ takes_other readings }
 {
-    is_present(entry_of(readings, TEMPERATURE)) | is_present(entry_of(readings, DENSITY_ALTITUDE))
+    entry_of(readings, TEMPERATURE).is_some() | entry_of(readings, DENSITY_ALTITUDE).is_some()
 }
 
 // Whether a reading that a sheet needs is absent, or one pressure too many is there.
 fn is_wanting(readings: Readings) -> bool
     ensures { result ≡ is_wanting readings }
 {
-    let altitude = is_present(entry_of(readings, ALTITUDE));
-    let station_pressure = is_present(entry_of(readings, STATION_PRESSURE));
-    let qnh = is_present(entry_of(readings, QNH));
-    let measured = is_present(entry_of(readings, MEASURED_PRESSURE));
+    let altitude = entry_of(readings, ALTITUDE).is_some();
+    let station_pressure = entry_of(readings, STATION_PRESSURE).is_some();
+    let qnh = entry_of(readings, QNH).is_some();
+    let measured = entry_of(readings, MEASURED_PRESSURE).is_some();
     !altitude
         | !(station_pressure | qnh | measured)
         | (station_pressure & qnh)

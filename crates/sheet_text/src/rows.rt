@@ -7,7 +7,7 @@ ghost use Rattle.sheet_text.specs.Rows.{row_density, is_refused, refused_row, fi
 use atmosphere::given::Reading;
 use decimals::shown::decimal_text;
 use mast::judge::answer_of;
-use refusal::judge::{Answer, Figures};
+use refusal::judge::Figures;
 use station::figures::figures_of;
 use station::resolved::Resolved;
 
@@ -57,8 +57,8 @@ fn is_refused(altitude_m: f64, pressure_hpa: f64, humidity_percent: f64, n: u32)
     ensures { result ≡ is_refused (row_outcome altitude_m pressure_hpa humidity_percent (celsius_of_row n)) }
 {
     match answer_of(station_of_row(altitude_m, pressure_hpa, humidity_percent, n)) {
-        Answer::Refused(_) => true,
-        Answer::Figures(figures) => is_too_wide(celsius(n), figures),
+        Err(_) => true,
+        Ok(figures) => is_too_wide(celsius(n), figures),
     }
 }
 

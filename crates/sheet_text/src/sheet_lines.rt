@@ -10,7 +10,7 @@ use decimals::figures::{put_last, put_shown};
 use decimals::shown::decimal_text;
 use fields::fields::{MEASURED_PRESSURE, QNH, STATION_PRESSURE};
 use pages::{put, put_number};
-use record::entries::{Readings, entry_of, is_present, value_or_zero};
+use record::entries::{Readings, entry_of, value_or_zero};
 use trim::classes::trim_class;
 
 // Each puts a piece on the page from `at` on, and answers the position after it.
@@ -46,10 +46,10 @@ fn put_mast(page: &mut [u8], at: usize, resolved: Reading) -> usize
 fn put_source(page: &mut [u8], at: usize, readings: Readings, resolved: Reading) -> usize
     ensures { Appended page.old at (source_line readings resolved) page.new result }
 {
-    if is_present(entry_of(readings, MEASURED_PRESSURE)) {
+    if entry_of(readings, MEASURED_PRESSURE).is_some() {
         return put(page, at, b", measured");
     }
-    if is_present(entry_of(readings, STATION_PRESSURE)) {
+    if entry_of(readings, STATION_PRESSURE).is_some() {
         return put_mast(page, at, resolved);
     }
     let word = put(page, at, b", from the QNH ");

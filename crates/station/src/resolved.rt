@@ -8,7 +8,7 @@ use atmosphere::resolvers::{
     reduce_qnh_to_station_pressure, resolve_station_pressure, resolve_station_temperature,
 };
 use fields::fields::{ALTITUDE, HUMIDITY, MEASURED_PRESSURE, QNH, STATION_PRESSURE, TEMPERATURE};
-use record::entries::{Entry, Readings, entry_of, value_or_zero};
+use record::entries::{Readings, entry_of, value_or_zero};
 use refusal::inverse::Station;
 
 #[derive(Clone, Copy)]
@@ -29,14 +29,14 @@ pub struct Resolved {
     pub humidity_percent: f64,
 }
 
-fn unmeasured_pressure(station_pressure_hpa: Entry, qnh_hpa: Entry) -> Pressure
+fn unmeasured_pressure(station_pressure_hpa: Option<f64>, qnh_hpa: Option<f64>) -> Pressure
     ensures { result ≡ unmeasured_pressure station_pressure_hpa qnh_hpa }
 {
     match station_pressure_hpa {
-        Entry::Present(p) => Pressure::Station(p),
-        Entry::Absent => match qnh_hpa {
-            Entry::Present(q) => Pressure::Qnh(q),
-            Entry::Absent => Pressure::Absent,
+        Some(p) => Pressure::Station(p),
+        None => match qnh_hpa {
+            Some(q) => Pressure::Qnh(q),
+            None => Pressure::Absent,
         },
     }
 }
@@ -45,8 +45,8 @@ fn pressure_of(readings: Readings) -> Pressure
     ensures { result ≡ pressure_of readings }
 {
     match entry_of(readings, MEASURED_PRESSURE) {
-        Entry::Present(p) => Pressure::Measured(p),
-        Entry::Absent => {
+        Some(p) => Pressure::Measured(p),
+        None => {
             unmeasured_pressure(
                 entry_of(readings, STATION_PRESSURE),
                 entry_of(readings, QNH),
@@ -55,12 +55,12 @@ fn pressure_of(readings: Readings) -> Pressure
     }
 }
 
-fn resolved_temperature(temperature_c: Entry, altitude_m: f64) -> Reading
+fn resolved_temperature(temperature_c: Option<f64>, altitude_m: f64) -> Reading
     ensures { result ≡ resolved_temperature temperature_c altitude_m }
 {
     match temperature_c {
-        Entry::Present(t) => resolve_station_temperature(t, altitude_m),
-        Entry::Absent => Reading::FromLayer,
+        Some(t) => resolve_station_temperature(t, altitude_m),
+        None => Reading::FromLayer,
     }
 }
 
@@ -76,12 +76,12 @@ fn resolved_pressure(pressure: Pressure, altitude_m: f64) -> Reading
 }
 
 // The temperature of an entry as given, or that the layer has it.
-pub fn given_temperature(entry: Entry) -> Reading
+pub fn given_temperature(entry: Option<f64>) -> Reading
     ensures { result ≡ given_temperature entry }
 {
     match entry {
-        Entry::Present(t) => Reading::Given(t),
-        Entry::Absent => Reading::FromLayer,
+        Some(t) => Reading::Given(t),
+        None => Reading::FromLayer,
     }
 }
 

@@ -2,7 +2,7 @@
 // its text on the page from `at` on, as far as the page reaches, and answers the position after it.
 ghost use Rattle.std.specs.Prelude.{◌++◌};
 ghost use Rattle.refusal.specs.Refusals.{number_of};
-ghost use Rattle.refusal.specs.Judged.{outcome};
+ghost use Rattle.refusal.specs.Outcomes.{outcome};
 ghost use Rattle.pages.specs.Characters.{refusal_line};
 ghost use Rattle.pages.specs.Pages.{Appended};
 ghost use Rattle.text.specs.Lines.{double_cell, mark_cell, station_line, air_line};
@@ -11,7 +11,7 @@ ghost use Rattle.text.specs.Text.{answer_text};
 use fields::bits::pattern;
 use pages::digits::put_digits;
 use pages::put;
-use refusal::judge::{Answer, Figures};
+use refusal::judge::Figures;
 use refusal::{Refusal, number};
 
 // A blank and a double's digits.
@@ -70,11 +70,11 @@ pub fn put_refusal(page: &mut [u8], at: usize, refusal: Refusal) -> usize
 }
 
 // The two lines of the figures, or the one of a refusal.
-pub fn put_answer(page: &mut [u8], at: usize, answer: Answer) -> usize
+pub fn put_answer(page: &mut [u8], at: usize, answer: Result<Figures, Refusal>) -> usize
     ensures { Appended page.old at (answer_text (outcome answer)) page.new result }
 {
     match answer {
-        Answer::Figures(figures) => put_figures(page, at, figures),
-        Answer::Refused(refusal) => put_refusal(page, at, refusal),
+        Ok(figures) => put_figures(page, at, figures),
+        Err(refusal) => put_refusal(page, at, refusal),
     }
 }

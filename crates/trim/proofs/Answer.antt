@@ -1,6 +1,6 @@
 -- The answer to a record: the smallest change that gives another class, and the refusals. Assumes nothing.
-use Rattle.trim.proofs.Kit.{◌≡◌, refl, sym, ap, subst, ◌∙◌, false, List, [], ◌⊎◌, ⊎_elim, ℕ, arith, Float, Outcome, accepted, refused, ◌⟫◌, Entry, Absent, Present, Readings, temperature, measured_pressure, read_record, entry_of, Figures, judged, judge, Turn, Found, Start, trim_class, class_of, changes, first_of, Next, next_from, start_of, next_with, next_of, next_trim_class, OneOfThe800, FirstToGive, Asks}
-use Rattle.trim.specs.declared.changes.Found.TheVariants as found
+use Rattle.std.specs.Prelude.{None, Some}
+use Rattle.trim.proofs.Kit.{◌≡◌, refl, sym, ap, subst, ◌∙◌, false, List, [], ◌⊎◌, ⊎_elim, ℕ, arith, Float, Outcome, accepted, refused, ◌⟫◌, Option, None, Some, Readings, temperature, measured_pressure, read_record, entry_of, Figures, judged, judge, Turn, Start, trim_class, class_of, changes, first_of, Next, next_from, start_of, next_with, next_of, next_trim_class, OneOfThe800, FirstToGive, Asks}
 use Rattle.trim.proofs.Stated.{ClassAnswered, Refusals, Searched}
 use Rattle.trim.proofs.Found.{FromCount, gives-from, gives_not_from, from-count}
 
@@ -9,20 +9,20 @@ answer : (bytes : List ℕ) (s : Start) → Asks bytes s → next_trim_class byt
 unfolding next_trim_class next_of next_with next_from
 answer bytes s a =
     ap (λ (o : Outcome Readings). o ⟫ next_of) a.read ∙ ap (λ (o : Outcome ℕ). o ⟫ next_with s.readings) a.class
-    ∙ ap (λ (t : Entry). start_of s.readings s.class t (entry_of s.readings measured_pressure) ⟫ next_from) a.temperature_there
-    ∙ ap (λ (p : Entry). start_of s.readings s.class (Present s.temperature_c) p ⟫ next_from) a.pressure_there
+    ∙ ap (λ (t : (Option Float)). start_of s.readings s.class t (entry_of s.readings measured_pressure) ⟫ next_from) a.temperature_there
+    ∙ ap (λ (p : (Option Float)). start_of s.readings s.class (Some s.temperature_c) p ⟫ next_from) a.pressure_there
 
 same_next : {n m : Next} → accepted n ≡ accepted m → n ≡ m
 same_next e = cc
 
-same_turn : {t u : Turn} → found.Turn t ≡ found.Turn u → t ≡ u
+same_turn : {t u : Turn} → Some t ≡ Some u → t ≡ u
 same_turn e = cc
 
-apart : {t : Turn} → found.Turn t ≡ found.Nothing → ⊥
+apart : {t : Turn} → Some t ≡ None → ⊥
 apart e = let z : ◌≡◌ {A = ℕ} 0 1 = cc in omega arith
 
 module _ (bytes : List ℕ) (s : Start) (a : Asks bytes s) where
-  found-is : {f : Found} → next_trim_class bytes ≡ accepted (record { class = s.class; turn = f }) → first_of s changes ≡ f
+  found-is : {f : (Option Turn)} → next_trim_class bytes ≡ accepted (record { class = s.class; turn = f }) → first_of s changes ≡ f
   found-is e = ap (λ (n : Next). n.turn) (same_next (sym (answer bytes s a) ∙ e))
 
   searched : FromCount s 200 1 → Searched bytes s
@@ -39,7 +39,7 @@ module _ (bytes : List ℕ) (s : Start) (a : Asks bytes s) where
       record {
         turns = λ t h. absurd (apart (sym (found-is h) ∙ e));
         none-because = λ h y j one. none y one.at_least (omega (arith, one.at_most)) j;
-        none_where = λ none. answer bytes s a ∙ ap (λ (f : Found). accepted (record { class = s.class; turn = f })) e;
+        none_where = λ none. answer bytes s a ∙ ap (λ (f : (Option Turn)). accepted (record { class = s.class; turn = f })) e;
       }
 
 pub smallest-change : (bytes : List ℕ) (s : Start) → Asks bytes s → Searched bytes s
@@ -62,16 +62,16 @@ own-refusal bytes number values e = go (read_record false bytes) e
     go (accepted r) e = by r (judged r) e
     go (refused n vs) e = cc
 
-no_reading : (r : Readings) (n : ℕ) (t p : Entry) → (t ≡ Absent) ⊎ (p ≡ Absent) → (start_of r n t p ⟫ next_from) ≡ refused 22 []
-no_reading r n Absent p h = refl
-no_reading r n (Present t) Absent h = refl
-no_reading r n (Present t) (Present p) h = absurd (⊎_elim (λ e. there e) (λ e. there e) h)
+no_reading : (r : Readings) (n : ℕ) (t p : (Option Float)) → (t ≡ None) ⊎ (p ≡ None) → (start_of r n t p ⟫ next_from) ≡ refused 22 []
+no_reading r n None p h = refl
+no_reading r n (Some t) None h = refl
+no_reading r n (Some t) (Some p) h = absurd (⊎_elim (λ e. there e) (λ e. there e) h)
   where
-    there : {x : Float} → Present x ≡ Absent → ⊥
+    there : {x : Float} → Some x ≡ None → ⊥
     there e = let z : ◌≡◌ {A = ℕ} 0 1 = cc in omega arith
 
 no_reading-refused : (bytes : List ℕ) (r : Readings) (f : Figures) → read_record false bytes ≡ accepted r → judged r ≡ accepted f
-    → (entry_of r temperature ≡ Absent) ⊎ (entry_of r measured_pressure ≡ Absent) → next_trim_class bytes ≡ refused 22 []
+    → (entry_of r temperature ≡ None) ⊎ (entry_of r measured_pressure ≡ None) → next_trim_class bytes ≡ refused 22 []
 unfolding next_trim_class next_of next_with class_of
 no_reading-refused bytes r f e j h =
     ap (λ (o : Outcome Readings). o ⟫ next_of) e
@@ -82,16 +82,16 @@ answered : (bytes : List ℕ) (n : Next) → next_trim_class bytes ≡ accepted 
 unfolding next_trim_class next_of next_with next_from
 answered bytes n e = go (read_record false bytes) refl e
   where
-    by_entries : (r : Readings) (m : ℕ) (t p : Entry) → read_record false bytes ≡ accepted r → class_of r ≡ accepted m
+    by_entries : (r : Readings) (m : ℕ) (t p : (Option Float)) → read_record false bytes ≡ accepted r → class_of r ≡ accepted m
         → entry_of r temperature ≡ t → entry_of r measured_pressure ≡ p → (start_of r m t p ⟫ next_from) ≡ accepted n → ClassAnswered bytes n
-    by_entries r m (Present t) (Present p) read class there there' e =
+    by_entries r m (Some t) (Some p) read class there there' e =
         record {
           start = record { readings = r; temperature_c = t; pressure_hpa = p; class = m };
           asks = record { read = read; class = class; temperature_there = there; pressure_there = there' };
           class = ap (λ (n : Next). n.class) (same_next (sym e));
         }
-    by_entries r m (Present t) Absent read class there there' e = absurd (refused_or e)
-    by_entries r m Absent p read class there there' e = absurd (refused_or e)
+    by_entries r m (Some t) None read class there there' e = absurd (refused_or e)
+    by_entries r m None p read class there there' e = absurd (refused_or e)
 
     by-class : (r : Readings) (o : Outcome ℕ) → read_record false bytes ≡ accepted r → class_of r ≡ o → (o ⟫ next_with r) ≡ accepted n → ClassAnswered bytes n
     by-class r (accepted m) read class e = by_entries r m (entry_of r temperature) (entry_of r measured_pressure) read class refl refl e

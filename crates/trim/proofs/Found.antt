@@ -1,19 +1,19 @@
 -- What the search finds: of one change, of the four changes by one count, and of the counts from k on. Assumes nothing.
-use Rattle.trim.proofs.Kit.{◌≡◌, refl, sym, ap, subst, ◌∙◌, Bool, true, false, cond, ⊎_elim, ℕ, zero, suc, ◌+◌, ◌≤◌, ◌<◌, eq-or-lt_of_le, arith, eqb-true, eqb-false, T, leb, eqb, leb→le, Outcome, accepted, refused, Quantity, Temperature, MeasuredPressure, Up, Down, Change, Found, Start, class_of, changed, change, another, tried, changes_of, changes_from, first_of, rank, place, Gives}
+use Rattle.std.specs.Prelude.{None, Some}
+use Rattle.trim.proofs.Kit.{◌≡◌, refl, sym, ap, subst, ◌∙◌, Bool, true, false, cond, ⊎_elim, ℕ, zero, suc, ◌+◌, ◌≤◌, ◌<◌, eq-or-lt_of_le, arith, eqb-true, eqb-false, T, leb, eqb, leb→le, Outcome, accepted, refused, Quantity, Temperature, MeasuredPressure, Up, Down, Change, Option, Start, class_of, changed, change, another, tried, changes_of, changes_from, first_of, rank, place, Gives}
 use Rattle.trim.specs.declared.changes.Direction.{Direction}
-use Rattle.trim.specs.declared.changes.Found.TheVariants as found
 use Rattle.trim.proofs.First.{first-append}
 
 abbrev pub NotGiven : Start → Change → Type 0
 NotGiven s x = (m : ℕ) → Gives s x m → ⊥
 
-abbrev pub turn : Change → ℕ → Found
-turn x n = found.Turn (record { change = x; class = n })
+abbrev pub turn : Change → ℕ → (Option Turn)
+turn x n = Some (record { change = x; class = n })
 
 -- ---- one change
 data Tried (s : Start) (x : Change) : Type 0 where
   gives : (n : ℕ) → Gives s x n → tried s x ≡ turn x n → Tried s x
-  gives_not : NotGiven s x → tried s x ≡ found.Nothing → Tried s x
+  gives_not : NotGiven s x → tried s x ≡ None → Tried s x
 
 try : (s : Start) (x : Change) → Tried s x
 unfolding tried
@@ -23,11 +23,11 @@ try s x = go (class_of (changed s x)) refl
     by-class n true e same =
         gives_not
         (λ m g. g.another (let h : n ≡ m = cc in sym h ∙ eqb-true n s.class same))
-        (ap (another s.class x) e ∙ ap (λ (b : Bool). cond b found.Nothing (turn x n)) same)
+        (ap (another s.class x) e ∙ ap (λ (b : Bool). cond b None (turn x n)) same)
     by-class n false e differs =
         gives n
         (record { class = e; another = eqb-false n s.class differs })
-        (ap (another s.class x) e ∙ ap (λ (b : Bool). cond b found.Nothing (turn x n)) differs)
+        (ap (another s.class x) e ∙ ap (λ (b : Bool). cond b None (turn x n)) differs)
 
     go : (o : Outcome ℕ) → class_of (changed s x) ≡ o → Tried s x
     go (accepted n) e = by-class n (eqb n s.class) e refl
@@ -51,7 +51,7 @@ module _ (s : Start) (k : ℕ) where
   data ByCount : Type 0 where
     gives-by : (q : Quantity) (d : Direction) (n : ℕ) → Gives s (change q d k) n → Below (rank q d)
         → first_of s (changes_of k) ≡ turn (change q d k) n → ByCount
-    gives_not_by : Below 4 → first_of s (changes_of k) ≡ found.Nothing → ByCount
+    gives_not_by : Below 4 → first_of s (changes_of k) ≡ None → ByCount
 
   four : Tried s (change Temperature Up k) → Tried s (change Temperature Down k)
       → Tried s (change MeasuredPressure Up k) → Tried s (change MeasuredPressure Down k) → ByCount
@@ -81,7 +81,7 @@ of-count s k r none y e h m g = none y.quantity y.direction h m (subst (λ (i : 
 pub data FromCount (s : Start) (n k : ℕ) : Type 0 where
   gives-from : (x : Change) (m : ℕ) → k ≤ x.tenths → x.tenths < n + k → Gives s x m
       → ((y : Change) → k ≤ y.tenths → place y < place x → NotGiven s y) → first_of s (changes_from n k) ≡ turn x m → FromCount s n k
-  gives_not_from : ((y : Change) → k ≤ y.tenths → y.tenths < n + k → NotGiven s y) → first_of s (changes_from n k) ≡ found.Nothing → FromCount s n k
+  gives_not_from : ((y : Change) → k ≤ y.tenths → y.tenths < n + k → NotGiven s y) → first_of s (changes_from n k) ≡ None → FromCount s n k
 
 module _ (s : Start) (n k : ℕ) where
   none-of-count : (y : Change) → Below s k 4 → y.tenths ≡ k → NotGiven s y

@@ -1,10 +1,10 @@
 -- What is proved of trim classes and of the search for the next one beyond their contracts, as types. The page of promises says it in full. Assumes nothing.
-use Rattle.trim.proofs.Kit.{ℕ, ◌+◌, ◌<◌, ◌≡◌, false, not, ◌||◌, List, [], ◌∷◌, ◌++◌, Float, ◌⊎◌, accepted, Row, row, refused, Absent, Readings, temperature, measured_pressure, readings, read_record, entry_of, is_present, Figures, record_rows, judged, judge, Quantity, Temperature, MeasuredPressure, Up, Down, Turn, Start, change, Next, next_trim_class, place, FirstToGive, NoneGives, Asks, next_for}
+use Rattle.std.specs.Prelude.{None, Some}
+use Rattle.trim.proofs.Kit.{ℕ, ◌+◌, ◌<◌, ◌≡◌, false, not, ◌||◌, List, [], ◌∷◌, ◌++◌, Float, ◌⊎◌, accepted, Row, row, refused, None, Readings, temperature, measured_pressure, readings, read_record, entry_of, is_some, Figures, record_rows, judged, judge, Quantity, Temperature, MeasuredPressure, Up, Down, Turn, Start, change, Next, next_trim_class, place, FirstToGive, NoneGives, Asks, next_for}
 use Rattle.refusal.specs.Causes.{ExactlyCaused}
-use Rattle.trim.specs.declared.changes.Found.TheVariants as found
 
 abbrev pub NoChange : List ℕ → Start → Type 0
-NoChange bytes s = next_trim_class bytes ≡ accepted (record { class = s.class; turn = found.Nothing })
+NoChange bytes s = next_trim_class bytes ≡ accepted (record { class = s.class; turn = None })
 
 -- ---- every other record is refused
 pub record ClassAnswered (bytes : List ℕ) (n : Next) : Type 0 where
@@ -15,7 +15,7 @@ pub record ClassAnswered (bytes : List ℕ) (n : Next) : Type 0 where
 pub record Refusals (bytes : List ℕ) : Type 0 where
   pub own : (number : ℕ) (values : List Float) → judge bytes ≡ refused number values → next_trim_class bytes ≡ refused number values
   pub no_reading : (r : Readings) (f : Figures) → read_record false bytes ≡ accepted r → judged r ≡ accepted f
-      → (entry_of r temperature ≡ Absent) ⊎ (entry_of r measured_pressure ≡ Absent) → next_trim_class bytes ≡ refused 22 []
+      → (entry_of r temperature ≡ None) ⊎ (entry_of r measured_pressure ≡ None) → next_trim_class bytes ≡ refused 22 []
   pub else_answered : (n : Next) → next_trim_class bytes ≡ accepted n → ClassAnswered bytes n
 
 pub record InTheirOrder : Type 0 where
@@ -24,7 +24,7 @@ pub record InTheirOrder : Type 0 where
   pub smaller_first : (k : ℕ) → place (change MeasuredPressure Down k) < place (change Temperature Up (k + 1))
 
 pub record Searched (bytes : List ℕ) (s : Start) : Type 0 where
-  pub turns : (t : Turn) → next_trim_class bytes ≡ accepted (record { class = s.class; turn = found.Turn t }) → FirstToGive s t.change t.class
+  pub turns : (t : Turn) → next_trim_class bytes ≡ accepted (record { class = s.class; turn = Some t }) → FirstToGive s t.change t.class
   pub none-because : NoChange bytes s → NoneGives s
   pub none_where : NoneGives s → NoChange bytes s
 
@@ -32,7 +32,7 @@ pub record Searched (bytes : List ℕ) (s : Start) : Type 0 where
 abbrev pub trim_rows : List ℕ → List Row
 trim_rows bytes =
     let r = readings bytes in
-    record_rows false bytes ++ row (not (is_present (entry_of r temperature)) || not (is_present (entry_of r measured_pressure))) 22 [] ∷ []
+    record_rows false bytes ++ row (not (is_some (entry_of r temperature)) || not (is_some (entry_of r measured_pressure))) 22 [] ∷ []
 
 abbrev pub Caused : List ℕ → Type 0
 Caused bytes = ExactlyCaused (trim_rows bytes) (next_for bytes) (next_trim_class bytes)

@@ -1,6 +1,7 @@
 -- The changes of one reading, document 02: "k tenths of a degree or of a hectopascal, k from 1 to 200, applied as one tenth-count divided by 10 and added
 -- to the field's value; the record is then judged anew". Definitions only.
-use Rattle.std.specs.Prelude.{ℕ, cond, eqb, pos, Float}
+use Rattle.trim.specs.declared.changes.Turn.{Turn}
+use Rattle.std.specs.Prelude.{ℕ, cond, eqb, pos, Float, None, Option, Some}
 use Rattle.std.specs.Float.{binary64}
 use Rattle.std.specs.Float.Ieee.{neg, of_int}
 use Rattle.arithmetic.specs.Decimals.{decimal}
@@ -14,8 +15,6 @@ use Rattle.trim.specs.declared.changes.Quantity.TheVariants.{Temperature, Measur
 use Rattle.trim.specs.declared.changes.Direction.{Direction}
 use Rattle.trim.specs.declared.changes.Direction.TheVariants.{Up, Down}
 use Rattle.trim.specs.declared.changes.Change.{Change}
-use Rattle.trim.specs.declared.changes.Found.{Found}
-use Rattle.trim.specs.declared.changes.Found.TheVariants.{Turn, Nothing}
 use Rattle.trim.specs.declared.changes.Start.{Start}
 use Rattle.trim.specs.Classes.{class_of}
 
@@ -41,9 +40,9 @@ abbrev pub change : Quantity → Direction → ℕ → Change
 change q d k = record { quantity = q; direction = d; tenths = k }
 
 -- ---- the class that a change gives, where it is another than the first; a changed reading that is refused does not count
-abbrev pub another : ℕ → Change → Outcome ℕ → Found
-another first x (accepted n) = cond (eqb n first) Nothing (Turn (record { change = x; class = n }))
-another first x (refused number values) = Nothing
+abbrev pub another : ℕ → Change → Outcome ℕ → (Option Turn)
+another first x (accepted n) = cond (eqb n first) None (Some (record { change = x; class = n }))
+another first x (refused number values) = None
 
-unfoldable pub tried : Start → Change → Found
+unfoldable pub tried : Start → Change → (Option Turn)
 tried s x = another s.class x (class_of (changed s x))

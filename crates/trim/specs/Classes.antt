@@ -1,13 +1,12 @@
 -- The trim class, document 02: "the count of these densities at or below the figure: 1.00, 1.05, 1.10, 1.15, 1.20, 1.25 kg/m³, each as its double".
 -- Definitions only.
-use Rattle.std.specs.Prelude.{ℕ, ◌+◌, cond, List, [], ◌∷◌, Float}
+use Rattle.refusal.specs.declared.Refusal.{Refusal}
+use Rattle.std.specs.Prelude.{ℕ, ◌+◌, cond, List, [], ◌∷◌, Float, Err, Ok, Result}
 use Rattle.std.specs.Float.Ieee.{le}
 use Rattle.arithmetic.specs.Decimals.{decimal}
 use Rattle.refusal.specs.Outcomes.{Outcome, accepted, refusal, ◌⟫◌}
 use Rattle.record.specs.declared.entries.Readings.{Readings}
 use Rattle.mast.specs.Judge.{judged}
-use Rattle.trim.specs.declared.classes.Class.{Class}
-use Rattle.trim.specs.declared.classes.Class.TheVariants as class
 
 unfoldable pub class_densities : List Float
 class_densities = decimal "1.00" ∷ decimal "1.05" ∷ decimal "1.10" ∷ decimal "1.15" ∷ decimal "1.20" ∷ decimal "1.25" ∷ []
@@ -25,6 +24,6 @@ unfoldable pub class_of : Readings → Outcome ℕ
 class_of r = judged r ⟫ (λ f. accepted (trim_class f.density_kg_m3))
 
 -- what each case of the code's answer stands for
-abbrev pub classified : Class → Outcome ℕ
-classified (class.Of n) = accepted n
-classified (class.Refused c) = refusal c
+abbrev pub classified : (Result ℕ Refusal) → Outcome ℕ
+classified (Ok n) = accepted n
+classified (Err c) = refusal c

@@ -1,10 +1,9 @@
 -- The 800 changes in their order, document 02, and the first of some that gives another class. Definitions only.
-use Rattle.std.specs.Prelude.{ℕ, zero, suc, List, [], ◌∷◌, ◌++◌}
+use Rattle.trim.specs.declared.changes.Turn.{Turn}
+use Rattle.std.specs.Prelude.{ℕ, zero, suc, List, [], ◌∷◌, ◌++◌, None, Option, Some}
 use Rattle.trim.specs.declared.changes.Quantity.TheVariants.{Temperature, MeasuredPressure}
 use Rattle.trim.specs.declared.changes.Direction.TheVariants.{Up, Down}
 use Rattle.trim.specs.declared.changes.Change.{Change}
-use Rattle.trim.specs.declared.changes.Found.{Found}
-use Rattle.trim.specs.declared.changes.Found.TheVariants.{Turn, Nothing}
 use Rattle.trim.specs.declared.changes.Start.{Start}
 use Rattle.trim.specs.Changes.{change, tried}
 
@@ -21,10 +20,10 @@ unfoldable pub changes : List Change
 changes = changes_from 200 1
 
 -- ---- the first of some changes that gives another class
-abbrev pub or_else : Found → Found → Found
-or_else (Turn t) later = Turn t
-or_else Nothing later = later
+abbrev pub or_else : (Option Turn) → (Option Turn) → (Option Turn)
+or_else (Some t) later = Some t
+or_else None later = later
 
-unfoldable pub first_of : Start → List Change → Found
-first_of s [] = Nothing
+unfoldable pub first_of : Start → List Change → (Option Turn)
+first_of s [] = None
 first_of s (x ∷ xs) = or_else (tried s x) (first_of s xs)

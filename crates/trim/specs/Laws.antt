@@ -1,8 +1,7 @@
 -- What may be relied on of the answer, document 02: it is a change that gives another class and no change before it does; none is answered exactly if none
 -- of the 800 does; a record's own refusal comes first, and then 22. Definitions only.
-use Rattle.std.specs.Prelude.{ℕ, ◌+◌, ◌*◌, ◌≤◌, ◌<◌, ◌≡◌, ◌≢◌, false, List}
+use Rattle.std.specs.Prelude.{ℕ, ◌+◌, ◌*◌, ◌≤◌, ◌<◌, ◌≡◌, ◌≢◌, false, List, Some}
 use Rattle.refusal.specs.Outcomes.{accepted}
-use Rattle.record.specs.declared.entries.Entry.TheVariants.{Present}
 use Rattle.fields.specs.Fields.{temperature, measured_pressure}
 use Rattle.record.specs.Readings.{readings, read_record}
 use Rattle.record.specs.Entries.{entry_of, value_or_zero}
@@ -50,8 +49,8 @@ NoneGives s = (y : Change) (m : ℕ) → OneOfThe800 y → Gives s y m → ⊥
 pub record Asks (bytes : List ℕ) (s : Start) : Type 0 where
   pub read : read_record false bytes ≡ accepted s.readings
   pub class : class_of s.readings ≡ accepted s.class
-  pub temperature_there : entry_of s.readings temperature ≡ Present s.temperature_c
-  pub pressure_there : entry_of s.readings measured_pressure ≡ Present s.pressure_hpa
+  pub temperature_there : entry_of s.readings temperature ≡ Some s.temperature_c
+  pub pressure_there : entry_of s.readings measured_pressure ≡ Some s.pressure_hpa
 
 -- where both readings are there
 abbrev pub start_at : List ℕ → Start

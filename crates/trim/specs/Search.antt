@@ -1,14 +1,11 @@
 -- The smallest change that gives another trim class, document 02: the first of the 800 changes in their order. Definitions only.
-use Rattle.std.specs.Prelude.{ℕ, false, List, []}
+use Rattle.trim.specs.declared.changes.Turn.{Turn}
+use Rattle.std.specs.Prelude.{ℕ, false, List, [], Float, None, Option, Some}
 use Rattle.refusal.specs.Outcomes.{Outcome, accepted, refused, refusal, ◌⟫◌}
-use Rattle.record.specs.declared.entries.Entry.{Entry}
-use Rattle.record.specs.declared.entries.Entry.TheVariants.{Absent, Present}
 use Rattle.record.specs.declared.entries.Readings.{Readings}
 use Rattle.fields.specs.Fields.{temperature, measured_pressure}
 use Rattle.record.specs.Readings.{read_record}
 use Rattle.record.specs.Entries.{entry_of}
-use Rattle.trim.specs.declared.changes.Found.{Found}
-use Rattle.trim.specs.declared.changes.Found.TheVariants as found
 use Rattle.trim.specs.declared.changes.Start.{Start}
 use Rattle.trim.specs.declared.search.Trim.{Trim}
 use Rattle.trim.specs.declared.search.Trim.TheVariants.{Turns, NoChange, Refused}
@@ -18,12 +15,12 @@ use Rattle.trim.specs.InOrder.{changes, first_of}
 -- the class, and the first change that gives another, if there is one
 pub record Next : Type 0 where
   pub class : ℕ
-  pub turn : Found
+  pub turn : (Option Turn)
 
 -- what each case of the code's answer stands for
 abbrev pub trim_outcome : Trim → Outcome Next
-trim_outcome (Turns c t) = accepted (record { class = c; turn = found.Turn t })
-trim_outcome (NoChange c) = accepted (record { class = c; turn = found.Nothing })
+trim_outcome (Turns c t) = accepted (record { class = c; turn = Some t })
+trim_outcome (NoChange c) = accepted (record { class = c; turn = None })
 trim_outcome (Refused c) = refusal c
 
 -- ---- of accepted readings with temperature and measured pressure
@@ -31,10 +28,10 @@ unfoldable pub next_from : Start → Outcome Next
 next_from s = accepted (record { class = s.class; turn = first_of s changes })
 
 -- 22: no temperature or no measured pressure
-abbrev pub start_of : Readings → ℕ → Entry → Entry → Outcome Start
-start_of r c (Present t) (Present p) = accepted (record { readings = r; temperature_c = t; pressure_hpa = p; class = c })
-start_of r c (Present t) Absent = refused 22 []
-start_of r c Absent p = refused 22 []
+abbrev pub start_of : Readings → ℕ → (Option Float) → (Option Float) → Outcome Start
+start_of r c (Some t) (Some p) = accepted (record { readings = r; temperature_c = t; pressure_hpa = p; class = c })
+start_of r c (Some t) None = refused 22 []
+start_of r c None p = refused 22 []
 
 unfoldable pub next_with : Readings → ℕ → Outcome Next
 next_with r c = start_of r c (entry_of r temperature) (entry_of r measured_pressure) ⟫ next_from

@@ -1,9 +1,10 @@
 // A change of one reading by tenths, and the class that it gives.
 ghost use Rattle.std.specs.Prelude.{◌≡◌};
-ghost use Rattle.trim.specs.Classes.{classified};
+ghost use Rattle.refusal.specs.Outcomes.{outcome};
 ghost use Rattle.trim.specs.Changes.{by, changed, change, another, tried};
 
-use crate::classes::{Class, class_of};
+use refusal::Refusal;
+use crate::classes::class_of;
 use fields::fields::{MEASURED_PRESSURE, TEMPERATURE};
 use record::entries::{Readings, with_entry};
 
@@ -32,12 +33,6 @@ pub struct Change {
 pub struct Turn {
     pub change: Change,
     pub class: u8,
-}
-
-#[derive(Clone, Copy)]
-pub enum Found {
-    Turn(Turn),
-    Nothing,
 }
 
 // Readings with their temperature, their measured pressure and their class.
@@ -78,22 +73,22 @@ fn changed(start: Start, change: Change) -> Readings
 }
 
 // The change with its class, where that is another than the first.
-fn another(first: u8, change: Change, class: Class) -> Found
-    ensures { result ≡ another first change (classified class) }
+fn another(first: u8, change: Change, class: Result<u8, Refusal>) -> Option<Turn>
+    ensures { result ≡ another first change (outcome class) }
 {
     match class {
-        Class::Refused(_) => Found::Nothing,
-        Class::Of(class) => {
+        Err(_) => None,
+        Ok(class) => {
             if class == first {
-                return Found::Nothing;
+                return None;
             }
-            Found::Turn(Turn { change, class })
+            Some(Turn { change, class })
         }
     }
 }
 
 // A change with the class that it gives, where the changed readings are accepted with another class.
-pub(crate) fn tried(start: Start, quantity: Quantity, direction: Direction, tenths: u8) -> Found
+pub(crate) fn tried(start: Start, quantity: Quantity, direction: Direction, tenths: u8) -> Option<Turn>
     ensures { result ≡ tried start (change quantity direction tenths) }
 {
     let change = Change {

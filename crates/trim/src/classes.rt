@@ -1,21 +1,14 @@
 // The trim class of a density, and of readings.
 ghost use Rattle.std.specs.Prelude.{◌≡◌};
-ghost use Rattle.trim.specs.Classes.{trim_class, classified, class_of};
+ghost use Rattle.trim.specs.Classes.{trim_class, class_of};
+ghost use Rattle.refusal.specs.Outcomes.{outcome};
 
 use mast::judge::judge_readings;
 use record::entries::Readings;
 use refusal::Refusal;
-use refusal::judge::Answer;
 
 // kg/m3
 const CLASS_DENSITIES: [f64; 6] = [1.0, 1.05, 1.1, 1.15, 1.2, 1.25];
-
-// A class, or why readings have none.
-#[derive(Clone, Copy)]
-pub enum Class {
-    Of(u8),
-    Refused(Refusal),
-}
 
 // The trim class of a density, kg/m3: how many of the class densities are at or below it.
 pub fn trim_class(density_kg_m3: f64) -> u8
@@ -33,11 +26,11 @@ pub fn trim_class(density_kg_m3: f64) -> u8
 }
 
 // The trim class of readings, or their refusal.
-pub(crate) fn class_of(readings: Readings) -> Class
-    ensures { classified result ≡ class_of readings }
+pub(crate) fn class_of(readings: Readings) -> Result<u8, Refusal>
+    ensures { outcome result ≡ class_of readings }
 {
     match judge_readings(readings) {
-        Answer::Figures(figures) => Class::Of(trim_class(figures.density_kg_m3)),
-        Answer::Refused(refusal) => Class::Refused(refusal),
+        Ok(figures) => Ok(trim_class(figures.density_kg_m3)),
+        Err(refusal) => Err(refusal),
     }
 }

@@ -3,12 +3,12 @@ ghost use Rattle.std.specs.Prelude.{◌≡◌};
 ghost use Rattle.trim.specs.InOrder.{changes_of, first_of};
 ghost use Rattle.trim.specs.Search.{trim_outcome, next_from, next_with, next_of, next_trim_class};
 
-use crate::changes::{Direction, Found, Quantity, Start, Turn, tried};
-use crate::classes::{Class, class_of};
+use crate::changes::{Direction, Quantity, Start, Turn, tried};
+use crate::classes::class_of;
 use fields::fields::{MEASURED_PRESSURE, TEMPERATURE};
-use record::entries::{Entry, Readings, entry_of};
+use record::entries::{Readings, entry_of};
 use record::readings::read_record;
-use refusal::{Check, Refusal};
+use refusal::Refusal;
 
 // the largest number of tenths that is tried
 const MOST_TENTHS: u8 = 200;
@@ -23,19 +23,19 @@ pub enum Trim {
 
 // The first change by so many tenths that gives another class: temperature before pressure, up before
 // down.
-fn first_by(start: Start, tenths: u8) -> Found
+fn first_by(start: Start, tenths: u8) -> Option<Turn>
     ensures { result ≡ first_of start (changes_of tenths) }
 {
     let warmer = tried(start, Quantity::Temperature, Direction::Up, tenths);
-    if let Found::Turn(_) = warmer {
+    if let Some(_) = warmer {
         return warmer;
     }
     let colder = tried(start, Quantity::Temperature, Direction::Down, tenths);
-    if let Found::Turn(_) = colder {
+    if let Some(_) = colder {
         return colder;
     }
     let higher = tried(start, Quantity::MeasuredPressure, Direction::Up, tenths);
-    if let Found::Turn(_) = higher {
+    if let Some(_) = higher {
         return higher;
     }
     tried(start, Quantity::MeasuredPressure, Direction::Down, tenths)
@@ -47,7 +47,7 @@ fn next_from(start: Start) -> Trim
 {
     let mut tenths = 1;
     while tenths <= MOST_TENTHS {
-        if let Found::Turn(turn) = first_by(start, tenths) {
+        if let Some(turn) = first_by(start, tenths) {
             return Trim::Turns(start.class, turn);
         }
         tenths += 1;
@@ -59,10 +59,10 @@ fn next_with(readings: Readings, class: u8) -> Trim
     ensures { trim_outcome result ≡ next_with readings class }
 {
     match entry_of(readings, TEMPERATURE) {
-        Entry::Absent => Trim::Refused(Refusal::NoReadingToChange),
-        Entry::Present(temperature_c) => match entry_of(readings, MEASURED_PRESSURE) {
-            Entry::Absent => Trim::Refused(Refusal::NoReadingToChange),
-            Entry::Present(pressure_hpa) => {
+        None => Trim::Refused(Refusal::NoReadingToChange),
+        Some(temperature_c) => match entry_of(readings, MEASURED_PRESSURE) {
+            None => Trim::Refused(Refusal::NoReadingToChange),
+            Some(pressure_hpa) => {
                 next_from(Start {
                     readings,
                     temperature_c,
@@ -79,8 +79,8 @@ pub fn next_trim_class_of_readings(readings: Readings) -> Trim
     ensures { trim_outcome result ≡ next_of readings }
 {
     match class_of(readings) {
-        Class::Refused(refusal) => Trim::Refused(refusal),
-        Class::Of(class) => next_with(readings, class),
+        Err(refusal) => Trim::Refused(refusal),
+        Ok(class) => next_with(readings, class),
     }
 }
 
@@ -94,7 +94,7 @@ pub fn next_trim_class(record: &[u8]) -> Trim
     let read = read_record(record);
     let check = read.check;
     match check {
-        Check::Refused(refusal) => Trim::Refused(refusal),
-        Check::Passed => next_trim_class_of_readings(read.readings),
+        Err(refusal) => Trim::Refused(refusal),
+        Ok(()) => next_trim_class_of_readings(read.readings),
     }
 }

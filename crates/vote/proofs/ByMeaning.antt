@@ -1,25 +1,25 @@
 -- The voted readings by meaning: each meaning that is in all three has the middle, and no other is there. Assumes nothing.
-use Rattle.vote.proofs.Kit.{◌≡◌, refl, sym, subst, ◌∙◌, ◌≢◌, ◌⊎◌, inl, inr, ℕ, zero, suc, ◌≤◌, ◌<◌, eq-or-lt_of_le, le_of_suc-le-suc, arith, Entry, Absent, Present, Readings, meanings, entry_of, middle, with_middle, voted_of, middle_entry, voted}
+use Rattle.vote.proofs.Kit.{◌≡◌, refl, sym, subst, ◌∙◌, ◌≢◌, ◌⊎◌, inl, inr, ℕ, zero, suc, ◌≤◌, ◌<◌, eq-or-lt_of_le, le_of_suc-le-suc, arith, Option, None, Some, Readings, meanings, entry_of, middle, with_middle, voted_of, middle_entry, voted}
 use Rattle.record.proofs.ByMeaning.{Whole, none-whole, with_whole, none-there, entry_set, entry-left}
 
 -- ---- one meaning more
-with_middle-whole : (r : Readings) (m : ℕ) (e f g : Entry) → Whole r → Whole (with_middle r m e f g)
-with_middle-whole r m (Present x) (Present y) (Present z) h = with_whole r m (middle x y z) h
-with_middle-whole r m (Present x) (Present y) Absent h = h
-with_middle-whole r m (Present x) Absent g h = h
-with_middle-whole r m Absent f g h = h
+with_middle-whole : (r : Readings) (m : ℕ) (e f g : (Option Float)) → Whole r → Whole (with_middle r m e f g)
+with_middle-whole r m (Some x) (Some y) (Some z) h = with_whole r m (middle x y z) h
+with_middle-whole r m (Some x) (Some y) None h = h
+with_middle-whole r m (Some x) None g h = h
+with_middle-whole r m None f g h = h
 
-here : (r : Readings) (m : ℕ) (e f g : Entry) → Whole r → m < meanings → entry_of r m ≡ Absent → entry_of (with_middle r m e f g) m ≡ middle_entry e f g
-here r m (Present x) (Present y) (Present z) h l none = entry_set r m (middle x y z) h l
-here r m (Present x) (Present y) Absent h l none = none
-here r m (Present x) Absent g h l none = none
-here r m Absent f g h l none = none
+here : (r : Readings) (m : ℕ) (e f g : (Option Float)) → Whole r → m < meanings → entry_of r m ≡ None → entry_of (with_middle r m e f g) m ≡ middle_entry e f g
+here r m (Some x) (Some y) (Some z) h l none = entry_set r m (middle x y z) h l
+here r m (Some x) (Some y) None h l none = none
+here r m (Some x) None g h l none = none
+here r m None f g h l none = none
 
-elsewhere : (r : Readings) (m n : ℕ) (e f g : Entry) → n ≢ m → entry_of (with_middle r m e f g) n ≡ entry_of r n
-elsewhere r m n (Present x) (Present y) (Present z) other = entry-left r m n (middle x y z) other
-elsewhere r m n (Present x) (Present y) Absent other = refl
-elsewhere r m n (Present x) Absent g other = refl
-elsewhere r m n Absent f g other = refl
+elsewhere : (r : Readings) (m n : ℕ) (e f g : (Option Float)) → n ≢ m → entry_of (with_middle r m e f g) n ≡ entry_of r n
+elsewhere r m n (Some x) (Some y) (Some z) other = entry-left r m n (middle x y z) other
+elsewhere r m n (Some x) (Some y) None other = refl
+elsewhere r m n (Some x) None g other = refl
+elsewhere r m n None f g other = refl
 
 -- ---- the first n meanings
 module _ (a b c : Readings) where
@@ -28,7 +28,7 @@ module _ (a b c : Readings) where
   voted-whole zero = none-whole
   voted-whole (suc n) = with_middle-whole (voted_of n a b c) n (entry_of a n) (entry_of b n) (entry_of c n) (voted-whole n)
 
-  not_yet : (n m : ℕ) → n ≤ m → entry_of (voted_of n a b c) m ≡ Absent
+  not_yet : (n m : ℕ) → n ≤ m → entry_of (voted_of n a b c) m ≡ None
   unfolding voted_of
   not_yet zero m h = none-there m
   not_yet (suc n) m h = elsewhere (voted_of n a b c) n m (entry_of a n) (entry_of b n) (entry_of c n) (λ e. omega arith) ∙ not_yet n m (omega arith)

@@ -1,5 +1,5 @@
 -- Each number of a vote has exactly its cause, and a mast is named exactly if it is the first that is refused. Assumes nothing.
-use Rattle.vote.proofs.Kit.{◌≡◌, refl, sym, ap, ◌∙◌, Bool, true, false, not, ◌&&◌, ◌||◌, cond, false≢true, ◌⊎◌, inl, inr, List, [], ◌∷◌, ◌++◌, ℕ, zero, suc, ◌+◌, ◌≤◌, ◌<◌, eq-or-lt_of_le, le_of_suc-le-suc, arith, Float, Outcome, accepted, refused, ◌⟫◌, Row, ◌then◌, Readings, entry_of, is_present, meanings, read_rows, readings, Figures, resolved, reading_rows, record_rows, judged, judge, one_if, is_not_in_all, not_in_all_of, any_not_in_all, shared_rows, voted, VoteOutcome, by_mast, by_no_mast, accepted_readings, after_mast, voted_outcome, vote, Accepts}
+use Rattle.vote.proofs.Kit.{◌≡◌, refl, sym, ap, ◌∙◌, Bool, true, false, not, ◌&&◌, ◌||◌, cond, false≢true, ◌⊎◌, inl, inr, List, [], ◌∷◌, ◌++◌, ℕ, zero, suc, ◌+◌, ◌≤◌, ◌<◌, eq-or-lt_of_le, le_of_suc-le-suc, arith, Float, Outcome, accepted, refused, ◌⟫◌, Row, ◌then◌, Readings, entry_of, is_some, meanings, read_rows, readings, Figures, resolved, reading_rows, record_rows, judged, judge, one_if, is_not_in_all, not_in_all_of, any_not_in_all, shared_rows, voted, VoteOutcome, by_mast, by_no_mast, accepted_readings, after_mast, voted_outcome, vote, Accepts}
 use mathlib.Core.Bool.{or-true}
 use Rattle.refusal.proofs.Rows.{then_append, then_next, then-rows, then-none, exactly-by, never-refused}
 use Rattle.station.specs.Figures.{figures_of}
@@ -167,12 +167,12 @@ module _ (a b c : List ℕ) where
       let any = voted-so (readings a) (readings b) (readings c) (sym (ap (λ (v : VoteOutcome). v.outcome) (masts_accepted a b c p q r)) ∙ e) in
       let w = any_because (readings a) (readings b) (readings c) meanings any in
       let m = w.0 in
-      ((p, (q, r)), (m, (w.1.0, missing-because (is_present (entry_of (readings a) m)) (is_present (entry_of (readings b) m)) (is_present (entry_of (readings c) m)) w.1.1)))
+      ((p, (q, r)), (m, (w.1.0, missing-because (is_some (entry_of (readings a) m)) (is_some (entry_of (readings b) m)) (is_some (entry_of (readings c) m)) w.1.1)))
 
   so : Accepts a → Accepts b → Accepts c → InOneOrTwo a b c → vote a b c ≡ by_no_mast (refused 21 [])
   unfolding voted_outcome
   so p q r (m, (is, (low, high))) =
-      let here = missing_where (is_present (entry_of (readings a) m)) (is_present (entry_of (readings b) m)) (is_present (entry_of (readings c) m)) low high in
+      let here = missing_where (is_some (entry_of (readings a) m)) (is_some (entry_of (readings b) m)) (is_some (entry_of (readings c) m)) low high in
       masts_accepted a b c p q r
       ∙ ap (λ (t : Bool). by_no_mast (cond t (refused 21 []) (judged (voted_readings a b c)))) (any_where (readings a) (readings b) (readings c) meanings m is here)
 

@@ -1,5 +1,5 @@
 -- What is known of the readings of accepted records: each value is a double that is not NaN. So the vote on them is the same in every order. Assumes nothing.
-use Rattle.vote.proofs.Kit.{◌≡◌, refl, sym, ap, ap₂, ◌∙◌, Bool, true, false, not, ◌&&◌, ◌||◌, cond, false≢true, List, [], ℕ, zero, suc, ◌≤◌, ◌<◌, arith, Outcome, accepted, refused, ◌⟫◌, Entry, Absent, Present, Readings, meanings, read_record, entry_of, with_entry, is_present, Figures, judged, judge, is_not_in_all, not_in_all_of, with_middle, voted_of, voted, accepted_readings, voted_outcome, middle_entry, SameFields}
+use Rattle.vote.proofs.Kit.{◌≡◌, refl, sym, ap, ap₂, ◌∙◌, Bool, true, false, not, ◌&&◌, ◌||◌, cond, false≢true, List, [], ℕ, zero, suc, ◌≤◌, ◌<◌, arith, Outcome, accepted, refused, ◌⟫◌, Option, None, Some, Readings, meanings, read_record, entry_of, with_entry, is_some, Figures, judged, judge, is_not_in_all, not_in_all_of, with_middle, voted_of, voted, accepted_readings, voted_outcome, middle_entry, SameFields}
 use Rattle.record.proofs.ByMeaning.{reads-doubles}
 use Rattle.mast.proofs.Stated.{FiniteEntry}
 use Rattle.mast.proofs.Entries.{judged-by_entries, accepted-is_finite}
@@ -40,9 +40,9 @@ by-the-judge s = go (read_record false s)
     go (refused n vs) = refl
 
 -- ---- its values
-abbrev Number : Entry → Type 0
-Number Absent = Unit {0}
-Number (Present x) = IsNumber x
+abbrev Number : (Option Float) → Type 0
+Number None = Unit {0}
+Number (Some x) = IsNumber x
 
 abbrev pub Numbers : Readings → Type 0
 Numbers r = (m : ℕ) → m < meanings → Number (entry_of r m)
@@ -50,27 +50,27 @@ Numbers r = (m : ℕ) → m < meanings → Number (entry_of r m)
 pub numbers : (s : List ℕ) (r : Readings) → accepted_readings s ≡ accepted r → Numbers r
 numbers s r e m h = let a = is_accepted_lem s r e in go a.read (entry_of r m) refl (accepted-is_finite r a.figures a.judged-so m h)
   where
-    go : read_record false s ≡ accepted r → (e : Entry) → entry_of r m ≡ e → FiniteEntry e → Number e
-    go read Absent told f = tt
-    go read (Present x) told f = record { double = reads-doubles s r read m x told; number = is_number x f }
+    go : read_record false s ≡ accepted r → (e : (Option Float)) → entry_of r m ≡ e → FiniteEntry e → Number e
+    go read None told f = tt
+    go read (Some x) told f = record { double = reads-doubles s r read m x told; number = is_number x f }
 
 -- ---- a field's vote, with the first two or the last two exchanged
-exchanged-first : (r : Readings) (m : ℕ) (e f g : Entry) → Number e → Number f → Number g → with_middle r m f e g ≡ with_middle r m e f g
-exchanged-first r m (Present x) (Present y) (Present z) p q s = ap (with_entry r m) (middle_in_every-order x y z p q s).first_two
-exchanged-first r m (Present x) (Present y) Absent p q s = refl
-exchanged-first r m (Present x) Absent g p q s = refl
-exchanged-first r m Absent (Present y) g p q s = refl
-exchanged-first r m Absent Absent g p q s = refl
+exchanged-first : (r : Readings) (m : ℕ) (e f g : (Option Float)) → Number e → Number f → Number g → with_middle r m f e g ≡ with_middle r m e f g
+exchanged-first r m (Some x) (Some y) (Some z) p q s = ap (with_entry r m) (middle_in_every-order x y z p q s).first_two
+exchanged-first r m (Some x) (Some y) None p q s = refl
+exchanged-first r m (Some x) None g p q s = refl
+exchanged-first r m None (Some y) g p q s = refl
+exchanged-first r m None None g p q s = refl
 
-exchanged-last : (r : Readings) (m : ℕ) (e f g : Entry) → Number e → Number f → Number g → with_middle r m e g f ≡ with_middle r m e f g
-exchanged-last r m (Present x) (Present y) (Present z) p q s = ap (with_entry r m) (middle_in_every-order x y z p q s).last-two
-exchanged-last r m (Present x) (Present y) Absent p q s = refl
-exchanged-last r m (Present x) Absent (Present z) p q s = refl
-exchanged-last r m (Present x) Absent Absent p q s = refl
-exchanged-last r m Absent f g p q s = refl
+exchanged-last : (r : Readings) (m : ℕ) (e f g : (Option Float)) → Number e → Number f → Number g → with_middle r m e g f ≡ with_middle r m e f g
+exchanged-last r m (Some x) (Some y) (Some z) p q s = ap (with_entry r m) (middle_in_every-order x y z p q s).last-two
+exchanged-last r m (Some x) (Some y) None p q s = refl
+exchanged-last r m (Some x) None (Some z) p q s = refl
+exchanged-last r m (Some x) None None p q s = refl
+exchanged-last r m None f g p q s = refl
 
-some_first : (e f g : Entry) → is_not_in_all f e g ≡ is_not_in_all e f g
-some_first e f g = go (is_present e) (is_present f) (is_present g)
+some_first : (e f g : (Option Float)) → is_not_in_all f e g ≡ is_not_in_all e f g
+some_first e f g = go (is_some e) (is_some f) (is_some g)
   where
     go : (p q s : Bool) → ((q || p || s) && not (q && p && s)) ≡ ((p || q || s) && not (p && q && s))
     go true true s = refl
@@ -78,8 +78,8 @@ some_first e f g = go (is_present e) (is_present f) (is_present g)
     go false true s = refl
     go false false s = refl
 
-some-last : (e f g : Entry) → is_not_in_all e g f ≡ is_not_in_all e f g
-some-last e f g = go (is_present e) (is_present f) (is_present g)
+some-last : (e f g : (Option Float)) → is_not_in_all e g f ≡ is_not_in_all e f g
+some-last e f g = go (is_some e) (is_some f) (is_some g)
   where
     go : (p q s : Bool) → ((p || s || q) && not (p && s && q)) ≡ ((p || q || s) && not (p && q && s))
     go true true true = refl
@@ -121,10 +121,10 @@ exchange-last a b c p q r =
     same_outcome a b c a c b (λ m h. record { takes = λ v. exchanged-last v m (entry_of a m) (entry_of b m) (entry_of c m) (p m h) (q m h) (r m h); misses = some-last (entry_of a m) (entry_of b m) (entry_of c m) })
 
 -- ---- two equal readings outvote a third with the same fields
-the-two : (e f : Entry) → is_present e ≡ is_present f → middle_entry e e f ≡ e
-the-two (Present x) (Present z) h = ap Present (two_equal x z)
-the-two (Present x) Absent h = absurd (false≢true (sym h))
-the-two Absent f h = refl
+the-two : (e f : (Option Float)) → is_some e ≡ is_some f → middle_entry e e f ≡ e
+the-two (Some x) (Some z) h = ap Some (two_equal x z)
+the-two (Some x) None h = absurd (false≢true (sym h))
+the-two None f h = refl
 
 pub two_equal_values : (r q : Readings) → SameFields r q → (m : ℕ) → m < meanings → entry_of (voted r r q) m ≡ entry_of r m
 two_equal_values r q same m h = voted-by-meaning r r q m h ∙ the-two (entry_of r m) (entry_of q m) (same m h)
@@ -134,7 +134,7 @@ unfolding not_in_all_of
 none-missing r q same zero h = refl
 none-missing r q same (suc n) h =
     ap₂ (λ (s t : Bool). s || t) (none-missing r q same n (omega arith))
-    (ap (λ (t : Bool). (is_present (entry_of r n) || is_present (entry_of r n) || t) && not (is_present (entry_of r n) && is_present (entry_of r n) && t)) (sym (same n h)) ∙ go (is_present (entry_of r n)))
+    (ap (λ (t : Bool). (is_some (entry_of r n) || is_some (entry_of r n) || t) && not (is_some (entry_of r n) && is_some (entry_of r n) && t)) (sym (same n h)) ∙ go (is_some (entry_of r n)))
   where
     go : (p : Bool) → ((p || p || p) && not (p && p && p)) ≡ false
     go true = refl

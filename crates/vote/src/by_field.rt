@@ -4,15 +4,15 @@ ghost use Rattle.vote.specs.Fields.{is_not_in_all, any_not_in_all, with_middle, 
 
 use arithmetic::middle::middle;
 use fields::fields::MEANINGS;
-use record::entries::{Entry, Readings, entry_of, is_present, no_readings, with_entry};
+use record::entries::{Readings, entry_of, no_readings, with_entry};
 
 // Whether one or two of three entries are there.
-fn is_not_in_all(a: Entry, b: Entry, c: Entry) -> bool
+fn is_not_in_all(a: Option<f64>, b: Option<f64>, c: Option<f64>) -> bool
     ensures { result ≡ is_not_in_all a b c }
 {
-    let first = is_present(a);
-    let second = is_present(b);
-    let third = is_present(c);
+    let first = a.is_some();
+    let second = b.is_some();
+    let third = c.is_some();
     (first | second | third) & !(first & second & third)
 }
 
@@ -35,16 +35,16 @@ pub(crate) fn any_not_in_all(a: Readings, b: Readings, c: Readings) -> bool
 }
 
 // The readings with the middle of three entries.
-fn with_middle(readings: Readings, meaning: usize, a: Entry, b: Entry, c: Entry) -> Readings
+fn with_middle(readings: Readings, meaning: usize, a: Option<f64>, b: Option<f64>, c: Option<f64>) -> Readings
     ensures { result ≡ with_middle readings meaning a b c }
 {
-    let Entry::Present(x) = a else {
+    let Some(x) = a else {
         return readings;
     };
-    let Entry::Present(y) = b else {
+    let Some(y) = b else {
         return readings;
     };
-    let Entry::Present(z) = c else {
+    let Some(z) = c else {
         return readings;
     };
     with_entry(readings, meaning, middle(x, y, z))

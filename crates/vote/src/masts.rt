@@ -1,17 +1,17 @@
 // The vote of three masts: the masts one after the other, then the fields that they share, then the
 // judge.
 ghost use Rattle.std.specs.Prelude.{◌≡◌};
-ghost use Rattle.refusal.specs.Judged.{outcome};
+ghost use Rattle.refusal.specs.Outcomes.{outcome};
 ghost use Rattle.record.specs.Readings.{read_outcome};
 ghost use Rattle.vote.specs.Vote.{accepted_readings, voted_outcome, vote_outcome, vote};
 
+use refusal::judge::Figures;
 use super::answer::Vote;
 use crate::by_field::{any_not_in_all, voted};
 use mast::judge::judge_readings;
 use record::entries::Readings;
 use record::readings::{Read, read_record};
-use refusal::judge::Answer;
-use refusal::{Check, Refusal};
+use refusal::Refusal;
 
 // The readings of a record that is accepted by itself, or its refusal.
 fn accepted_readings(bytes: &[u8]) -> Read
@@ -20,17 +20,17 @@ fn accepted_readings(bytes: &[u8]) -> Read
 {
     let read = read_record(bytes);
     let check = read.check;
-    if let Check::Refused(_) = check {
+    if let Err(_) = check {
         return read;
     }
     let readings = read.readings;
     match judge_readings(readings) {
-        Answer::Refused(refusal) => Read {
-            check: Check::Refused(refusal),
+        Err(refusal) => Read {
+            check: Err(refusal),
             readings,
         },
-        Answer::Figures(_) => Read {
-            check: Check::Passed,
+        Ok(_) => Read {
+            check: Ok(()),
             readings,
         },
     }
@@ -38,11 +38,11 @@ fn accepted_readings(bytes: &[u8]) -> Read
 
 // What the readings of three records give together: that a field is not in all of them, or what the
 // judge says of the voted readings.
-fn vote_readings(a: Readings, b: Readings, c: Readings) -> Answer
+fn vote_readings(a: Readings, b: Readings, c: Readings) -> Result<Figures, Refusal>
     ensures { outcome result ≡ voted_outcome a b c }
 {
     if any_not_in_all(a, b, c) {
-        return Answer::Refused(Refusal::FieldNotInAll);
+        return Err(Refusal::FieldNotInAll);
     }
     judge_readings(voted(a, b, c))
 }
@@ -57,21 +57,21 @@ pub fn vote(a: &[u8], b: &[u8], c: &[u8]) -> Vote
 {
     let first = accepted_readings(a);
     let check = first.check;
-    if let Check::Refused(refusal) = check {
+    if let Err(refusal) = check {
         return Vote::Mast(1, refusal);
     }
     let second = accepted_readings(b);
     let check = second.check;
-    if let Check::Refused(refusal) = check {
+    if let Err(refusal) = check {
         return Vote::Mast(2, refusal);
     }
     let third = accepted_readings(c);
     let check = third.check;
-    if let Check::Refused(refusal) = check {
+    if let Err(refusal) = check {
         return Vote::Mast(3, refusal);
     }
     match vote_readings(first.readings, second.readings, third.readings) {
-        Answer::Figures(figures) => Vote::Figures(figures),
-        Answer::Refused(refusal) => Vote::Refused(refusal),
+        Ok(figures) => Vote::Figures(figures),
+        Err(refusal) => Vote::Refused(refusal),
     }
 }

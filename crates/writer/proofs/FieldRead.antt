@@ -1,5 +1,5 @@
 -- A field that is written, as the readers see it: no row of a field refuses it, and its value is the one that was written. Assumes nothing.
-use Rattle.writer.proofs.Kit.{◌≡◌, sym, ap, ap₂, ◌∙◌, Bool, true, false, not, ◌&&◌, cond, List, [], ◌++◌, append-nil, append_assoc, ℕ, ◌+◌, ◌%◌, ◌^◌, ◌<◌, mod-eq_of_lt, arith, le-ltb, eq-eqb, not-true, ltb, binary64, of_bits, of_bits-to_bits, length, length-append, drop_of_length-le, NoneHolds, then-none, none_both, Value, Double, Count, Readings, number_at, double_at, is_count_tag, is_tag, meaning_of, is_count, data_size, tag_of, length_of, size_of, value_of, field, head_rows, order_rows, noted, with_value, entry_of, is_present, size-by, at_most_lem, field_rows, read, bytes, data_of, field_with, has_form, IsHeld}
+use Rattle.writer.proofs.Kit.{◌≡◌, sym, ap, ap₂, ◌∙◌, Bool, true, false, not, ◌&&◌, cond, List, [], ◌++◌, append-nil, append_assoc, ℕ, ◌+◌, ◌%◌, ◌^◌, ◌<◌, mod-eq_of_lt, arith, le-ltb, eq-eqb, not-true, ltb, binary64, of_bits, of_bits-to_bits, length, length-append, drop_of_length-le, NoneHolds, then-none, none_both, Value, Double, Count, Readings, number_at, double_at, is_count_tag, is_tag, meaning_of, is_count, data_size, tag_of, length_of, size_of, value_of, field, head_rows, order_rows, noted, with_value, entry_of, is_some, size-by, at_most_lem, field_rows, read, bytes, data_of, field_with, has_form, IsHeld}
 use lib.Ieee.Bits.{to_bits-lt}
 use Rattle.record.proofs.Followed.{read_whole}
 use Rattle.writer.proofs.Bytes.{length-bytes}
@@ -69,12 +69,12 @@ module _ (tag : ℕ) (v : Value) (known : is_tag tag ≡ true) (small : tag < 25
       )
 
   -- read after others
-  module _ (held : IsHeld v) (strict : Bool) (q : Readings) (last : ℕ) (new : is_present (entry_of q (meaning_of tag)) ≡ false) (rises : (strict && ltb tag last) ≡ false) where
+  module _ (held : IsHeld v) (strict : Bool) (q : Readings) (last : ℕ) (new : is_some (entry_of q (meaning_of tag)) ≡ false) (rises : (strict && ltb tag last) ≡ false) where
     all_none : NoneHolds (field_rows strict q last f)
     unfolding field
     all_none =
         none_both (head_rows f) (order_rows strict q last (field f)) none-refuses
-        (ap (λ (t : ℕ). is_present (entry_of q (meaning_of t))) tag_read ∙ new, (ap (λ (t : ℕ). strict && ltb t last) tag_read ∙ rises, tt))
+        (ap (λ (t : ℕ). is_some (entry_of q (meaning_of t))) tag_read ∙ new, (ap (λ (t : ℕ). strict && ltb t last) tag_read ∙ rises, tt))
 
     noted-so : noted q (field f) ≡ with_value q (meaning_of tag) v
     unfolding field

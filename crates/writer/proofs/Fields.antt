@@ -1,5 +1,5 @@
 -- The bytes of a field and of the fields from a tag on: how many they are, and one field after the other. Assumes nothing.
-use Rattle.writer.proofs.Kit.{◌≡◌, sym, ap, ◌∙◌, Bool, true, false, cond, List, [], ◌++◌, ℕ, zero, suc, ◌+◌, ◌-◌, ◌*◌, ◌≤◌, ◌<◌, arith, add-one, lt-ltb, le-ltb, ltb, length, length-append, Value, Stored, Absent, Present, Readings, meanings, meaning_of, tag_in, data_size, is_count, stored_of, at_most_lem, bytes, data_of, field_with, field_for, has_form, stored_field, fields_from}
+use Rattle.writer.proofs.Kit.{◌≡◌, sym, ap, ◌∙◌, Bool, true, false, cond, List, [], ◌++◌, ℕ, zero, suc, ◌+◌, ◌-◌, ◌*◌, ◌≤◌, ◌<◌, arith, add-one, lt-ltb, le-ltb, ltb, length, length-append, Value, Option, None, Some, Readings, meanings, meaning_of, tag_in, data_size, is_count, stored_of, at_most_lem, bytes, data_of, field_with, field_for, has_form, stored_field, fields_from}
 use Rattle.writer.proofs.Bytes.{length-bytes}
 
 pub length-field : (tag : ℕ) (v : Value) → length (field_with tag v) ≡ 3 + data_size tag
@@ -27,11 +27,11 @@ module _ (m : ℕ) (v : Value) where
       go false = omega arith
 
 -- the field of a tag, by what is stored
-module _ (tag : ℕ) {e : Stored} where
-  pub absent : e ≡ Absent → stored_field tag e ≡ []
+module _ (tag : ℕ) {e : (Option Value)} where
+  pub absent : e ≡ None → stored_field tag e ≡ []
   absent told = ap (stored_field tag) told
 
-  pub by_form : {v : Value} {b : Bool} → e ≡ Present v → has_form tag v ≡ b → stored_field tag e ≡ cond b (field_with tag v) []
+  pub by_form : {v : Value} {b : Bool} → e ≡ Some v → has_form tag v ≡ b → stored_field tag e ≡ cond b (field_with tag v) []
   by_form {v} told form = ap (stored_field tag) told ∙ ap (λ (b : Bool). cond b (field_with tag v) []) form
 
 -- the fields from a tag on, up to one
@@ -52,9 +52,9 @@ unfolding fields_from
 no_field end tag r h = let none : end - tag ≡ 0 = omega arith in ap (λ (k : ℕ). fields_from k tag r) none
 
 -- a field has eleven bytes at most
-stored-size : (tag : ℕ) (e : Stored) → length (stored_field tag e) ≤ 11
-stored-size tag Absent = omega arith
-stored-size tag (Present v) = go (has_form tag v)
+stored-size : (tag : ℕ) (e : (Option Value)) → length (stored_field tag e) ≤ 11
+stored-size tag None = omega arith
+stored-size tag (Some v) = go (has_form tag v)
   where
     go : (b : Bool) → length (cond b (field_with tag v) []) ≤ 11
     go true = omega (arith, length-field tag v, at_most_lem tag)

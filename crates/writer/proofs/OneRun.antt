@@ -1,5 +1,5 @@
 -- A record as one run of tags, 01 to 17 (hex): those between the two forms have no field. Assumes nothing.
-use Rattle.writer.proofs.Kit.{◌≡◌, refl, sym, ap, ◌∙◌, Bool, true, false, cond, List, [], ◌++◌, append_assoc, ℕ, zero, suc, ◌+◌, ◌≤◌, ◌<◌, arith, add-one, length, Stored, Absent, Present, Readings, meanings, meaning_of, is_count, tag_in, stored_of, field_with, has_form, stored_field, fields_from, record_of}
+use Rattle.writer.proofs.Kit.{◌≡◌, refl, sym, ap, ◌∙◌, Bool, true, false, cond, List, [], ◌++◌, append_assoc, ℕ, zero, suc, ◌+◌, ◌≤◌, ◌<◌, arith, add-one, length, Option, None, Some, Readings, meanings, meaning_of, is_count, tag_in, stored_of, field_with, has_form, stored_field, fields_from, record_of}
 use Rattle.writer.proofs.Fields.{rest, next_field}
 use Rattle.writer.proofs.Passed.{NoField, is-meant, form-tag}
 
@@ -12,9 +12,9 @@ module _ (tag : ℕ) (r : Readings) (none : NoField tag r) where
   no_bytes : stored_field tag (stored_of r (meaning_of tag)) ≡ []
   no_bytes = go (stored_of r (meaning_of tag)) refl
     where
-      go : (e : Stored) → stored_of r (meaning_of tag) ≡ e → stored_field tag e ≡ []
-      go Absent told = refl
-      go (Present v) told = in_form (has_form tag v) refl
+      go : (e : (Option Value)) → stored_of r (meaning_of tag) ≡ e → stored_field tag e ≡ []
+      go None told = refl
+      go (Some v) told = in_form (has_form tag v) refl
         where
           in_form : (b : Bool) → has_form tag v ≡ b → cond b (field_with tag v) [] ≡ []
           in_form true form = absurd (none v told form)

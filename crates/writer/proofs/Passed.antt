@@ -1,34 +1,33 @@
 -- What is stored of readings for the tags below one: how far a record is written or read, field by field in the order of its tags. Assumes nothing.
-use Rattle.writer.proofs.Kit.{◌≡◌, refl, sym, ap, subst, ◌∙◌, Bool, true, false, not, cond, List, ℕ, suc, ◌+◌, ◌-◌, ◌≤◌, ◌<◌, arith, lt-ltb, le-ltb, ltb-true, ltb-false, leb-true, leb-false, eqb-true, eqb-false, ltb, leb, eqb, length, length-set, List·getD-eq-default, get_or-set_same, get_or-set_other, ext_get_or, Value, Double, Count, Stored, Absent, Present, Readings, meanings, is_count_tag, meaning_of, tag_in, is_count, slot_of, no_readings, stored_of, with_value, from_first, tag-form, tag-meaning, has_form}
+use Rattle.writer.proofs.Kit.{◌≡◌, refl, sym, ap, subst, ◌∙◌, Bool, true, false, not, cond, List, ℕ, suc, ◌+◌, ◌-◌, ◌≤◌, ◌<◌, arith, lt-ltb, le-ltb, ltb-true, ltb-false, leb-true, leb-false, eqb-true, eqb-false, ltb, leb, eqb, length, length-set, List·getD-eq-default, get_or-set_same, get_or-set_other, ext_get_or, Value, Double, Count, Option, None, Some, Readings, meanings, is_count_tag, meaning_of, tag_in, is_count, no_readings, stored_of, with_value, from_first, tag-form, tag-meaning, has_form}
 use lib.ListN.{get_or-replicate}
-use Rattle.record.specs.declared.entries.Slot.{Slot}
 use Rattle.writer.proofs.FieldRead.{one_form}
 
 -- ---- what is stored for a meaning
-pub no_stored : (m : ℕ) → stored_of no_readings m ≡ Absent
+pub no_stored : (m : ℕ) → stored_of no_readings m ≡ None
 no_stored m = go (leb meanings m) refl
   where
-    go : (b : Bool) → leb meanings m ≡ b → stored_of no_readings m ≡ Absent
-    go true e = ap (λ (s : Slot). s.stored) (List·getD-eq-default no_readings.slots (slot_of Absent) (leb-true meanings m e))
-    go false e = ap (λ (s : Slot). s.stored) (get_or-replicate meanings m (slot_of Absent) (slot_of Absent) (leb-false meanings m e))
+    go : (b : Bool) → leb meanings m ≡ b → stored_of no_readings m ≡ None
+    go true e = (List·getD-eq-default no_readings.slots None (leb-true meanings m e))
+    go false e = (get_or-replicate meanings m None None (leb-false meanings m e))
 
 -- where a value is stored, there is such a meaning
-pub is-meant : (r : Readings) (m : ℕ) {v : Value} → stored_of r m ≡ Present v → m < length r.slots
+pub is-meant : (r : Readings) (m : ℕ) {v : Value} → stored_of r m ≡ Some v → m < length r.slots
 is-meant r m told = go (leb (length r.slots) m) refl
   where
     go : (b : Bool) → leb (length r.slots) m ≡ b → m < length r.slots
     go true e =
-        let none : stored_of r m ≡ Absent = ap (λ (s : Slot). s.stored) (List·getD-eq-default r.slots (slot_of Absent) (leb-true (length r.slots) m e)) in
+        let none : stored_of r m ≡ None = (List·getD-eq-default r.slots None (leb-true (length r.slots) m e)) in
         let z : ◌≡◌ {A = ℕ} 0 1 = cc in
         absurd (omega arith)
     go false e = leb-false (length r.slots) m e
 
 module _ (q : Readings) (m : ℕ) (v : Value) where
-  pub stored_same : m < length q.slots → stored_of (with_value q m v) m ≡ Present v
-  stored_same h = ap (λ (s : Slot). s.stored) (get_or-set_same q.slots m (slot_of (Present v)) (slot_of Absent) h)
+  pub stored_same : m < length q.slots → stored_of (with_value q m v) m ≡ Some v
+  stored_same h = (get_or-set_same q.slots m (Some v) None h)
 
   pub stored_other : (n : ℕ) → (n ≡ m → ⊥) → stored_of (with_value q m v) n ≡ stored_of q n
-  stored_other n h = ap (λ (s : Slot). s.stored) (get_or-set_other q.slots m n (slot_of (Present v)) (slot_of Absent) h)
+  stored_other n h = (get_or-set_other q.slots m n (Some v) None h)
 
 -- ---- the tag of a value with a meaning
 pub tag-at_least : (counts : Bool) (m : ℕ) → 1 ≤ tag_in counts m
@@ -52,30 +51,30 @@ tag_of-form m (Double x) h = ap not (tag-form m h false)
 tag_of-form m (Count word) h = tag-form m h true
 
 -- ---- what is stored, where its tag is below one
-abbrev pub up_to : ℕ → ℕ → Stored → Stored
-up_to tag m Absent = Absent
-up_to tag m (Present v) = cond (ltb (tag_in (is_count v) m) tag) (Present v) Absent
+abbrev pub up_to : ℕ → ℕ → (Option Value) → (Option Value)
+up_to tag m None = None
+up_to tag m (Some v) = cond (ltb (tag_in (is_count v) m) tag) (Some v) None
 
 module _ (tag m : ℕ) (v : Value) where
-  pub is_below : tag_in (is_count v) m < tag → up_to tag m (Present v) ≡ Present v
-  is_below h = ap (λ (b : Bool). cond b (Present v) Absent) (lt-ltb (tag_in (is_count v) m) tag h)
+  pub is_below : tag_in (is_count v) m < tag → up_to tag m (Some v) ≡ Some v
+  is_below h = ap (λ (b : Bool). cond b (Some v) None) (lt-ltb (tag_in (is_count v) m) tag h)
 
-  pub is_not_below : tag ≤ tag_in (is_count v) m → up_to tag m (Present v) ≡ Absent
-  is_not_below h = ap (λ (b : Bool). cond b (Present v) Absent) (le-ltb (tag_in (is_count v) m) tag h)
+  pub is_not_below : tag ≤ tag_in (is_count v) m → up_to tag m (Some v) ≡ None
+  is_not_below h = ap (λ (b : Bool). cond b (Some v) None) (le-ltb (tag_in (is_count v) m) tag h)
 
-none_below : (m : ℕ) (e : Stored) → up_to 1 m e ≡ Absent
-none_below m Absent = refl
-none_below m (Present v) = is_not_below 1 m v (tag-at_least (is_count v) m)
+none_below : (m : ℕ) (e : (Option Value)) → up_to 1 m e ≡ None
+none_below m None = refl
+none_below m (Some v) = is_not_below 1 m v (tag-at_least (is_count v) m)
 
-all-below : (m : ℕ) (e : Stored) → m < meanings → up_to (17 + meanings) m e ≡ e
-all-below m Absent h = refl
-all-below m (Present v) h = is_below (17 + meanings) m v (tag-at_most (is_count v) m h)
+all-below : (m : ℕ) (e : (Option Value)) → m < meanings → up_to (17 + meanings) m e ≡ e
+all-below m None h = refl
+all-below m (Some v) h = is_below (17 + meanings) m v (tag-at_most (is_count v) m h)
 
-one_more : (tag m : ℕ) (e : Stored) → ((v : Value) → e ≡ Present v → tag_in (is_count v) m ≡ tag → ⊥) → up_to tag m e ≡ up_to (suc tag) m e
-one_more tag m Absent other = refl
-one_more tag m (Present v) other = go (ltb (tag_in (is_count v) m) tag) refl
+one_more : (tag m : ℕ) (e : (Option Value)) → ((v : Value) → e ≡ Some v → tag_in (is_count v) m ≡ tag → ⊥) → up_to tag m e ≡ up_to (suc tag) m e
+one_more tag m None other = refl
+one_more tag m (Some v) other = go (ltb (tag_in (is_count v) m) tag) refl
   where
-    go : (b : Bool) → ltb (tag_in (is_count v) m) tag ≡ b → up_to tag m (Present v) ≡ up_to (suc tag) m (Present v)
+    go : (b : Bool) → ltb (tag_in (is_count v) m) tag ≡ b → up_to tag m (Some v) ≡ up_to (suc tag) m (Some v)
     go true e = let h = ltb-true (tag_in (is_count v) m) tag e in is_below tag m v h ∙ sym (is_below (suc tag) m v (omega arith))
     go false e =
         let h = ltb-false (tag_in (is_count v) m) tag e in
@@ -92,16 +91,16 @@ none_passed r = record { all = refl; each = λ m h. no_stored m ∙ sym (none_be
 
 pub all-passed : (q r : Readings) → length r.slots ≡ meanings → Below (17 + meanings) q r → q ≡ r
 all-passed q r all h =
-    ap from (ext_get_or (slot_of Absent) q.slots r.slots (h.all ∙ sym all) (λ i j.
+    ap from (ext_get_or None q.slots r.slots (h.all ∙ sym all) (λ i j.
     let less : i < meanings = omega (arith, h.all) in
     ap slot_of (h.each i less ∙ all-below i (stored_of r i) less)))
   where
-    from : List Slot → Readings
+    from : List (Option Value) → Readings
     from l = record { slots = l }
 
 -- a tag has no field: nothing is stored for its meaning in its form
 abbrev pub NoField : ℕ → Readings → Type 0
-NoField tag r = (v : Value) → stored_of r (meaning_of tag) ≡ Present v → has_form tag v ≡ true → ⊥
+NoField tag r = (v : Value) → stored_of r (meaning_of tag) ≡ Some v → has_form tag v ≡ true → ⊥
 
 module _ (tag : ℕ) (some : 1 ≤ tag) (q r : Readings) (h : Below tag q r) where
   pub no_field-passed : NoField tag r → Below (suc tag) q r
@@ -111,8 +110,8 @@ module _ (tag : ℕ) (some : 1 ≤ tag) (q r : Readings) (h : Below tag q r) whe
         none v (ap (stored_of r) (ap meaning_of (sym same) ∙ tag-meaning m less (is_count v)) ∙ told) (subst (λ (t : ℕ). has_form t v ≡ true) same (tag_of-form m v less)));
   }
 
-  pub field-passed : (v : Value) → meaning_of tag < meanings → stored_of r (meaning_of tag) ≡ Present v → has_form tag v ≡ true → Below (suc tag) (with_value q (meaning_of tag) v) r
-  field-passed v meant told form = record { all = length-set q.slots (meaning_of tag) (slot_of (Present v)) ∙ h.all; each = λ m less. go m less (eqb m (meaning_of tag)) refl }
+  pub field-passed : (v : Value) → meaning_of tag < meanings → stored_of r (meaning_of tag) ≡ Some v → has_form tag v ≡ true → Below (suc tag) (with_value q (meaning_of tag) v) r
+  field-passed v meant told form = record { all = length-set q.slots (meaning_of tag) (Some v) ∙ h.all; each = λ m less. go m less (eqb m (meaning_of tag)) refl }
     where
       q' : Readings
       q' = with_value q (meaning_of tag) v

@@ -1,6 +1,6 @@
 -- To the first reader a record and what it converts to are the same: field by field, it notes the same doubles for the same meanings. Assumes nothing.
-use Rattle.writer.proofs.Kit.{◌≡◌, refl, sym, ap, subst, ◌∙◌, Bool, true, false, List, ◌∷◌, ◌++◌, ℕ, ◌≤◌, ◌<◌, arith, eqb-true, eqb-false, eqb, length, take, drop, length-set, accepted, NoneHolds, then-none, then-accepted, none_before, none_after, none_both, Field, Value, Present, Readings, meanings, double_of, tag_of, size_of, field, head_rows, heads_from, order_rows, noted, read_rows, readings, read_record, slot_of, no_readings, with_value, entry_for, entry_of, is_present, Split, at-end, at_field, split, field_rows, no_bytes, read_step, any_last, is-new, is_whole, in_range_lem, AreBytes, field_in, turned_of, has_no_count, fields_of, fields_in, record_in, count_rows, converted}
-use Rattle.record.specs.declared.entries.Entry.TheVariants as entry
+use Rattle.std.specs.Prelude.{Some}
+use Rattle.writer.proofs.Kit.{◌≡◌, refl, sym, ap, subst, ◌∙◌, Bool, true, false, List, ◌∷◌, ◌++◌, ℕ, ◌≤◌, ◌<◌, arith, eqb-true, eqb-false, eqb, length, take, drop, length-set, accepted, NoneHolds, then-none, then-accepted, none_before, none_after, none_both, Field, Value, Some, Readings, meanings, double_of, tag_of, size_of, field, head_rows, heads_from, order_rows, noted, read_rows, readings, read_record, no_readings, with_value, entry_for, entry_of, is_some, Split, at-end, at_field, split, field_rows, no_bytes, read_step, any_last, is-new, is_whole, in_range_lem, AreBytes, field_in, turned_of, has_no_count, fields_of, fields_in, record_in, count_rows, converted}
 use Rattle.record.proofs.Exchange.{whole, read_one}
 use Rattle.writer.proofs.Passed.{stored_same, stored_other}
 use Rattle.writer.proofs.ConversionStated.{SameEntries}
@@ -14,7 +14,7 @@ record Same (r p : Readings) : Type 0 where
   each : (n : ℕ) → entry_of r n ≡ entry_of p n
 
 -- a value noted for a meaning
-entry-same : (r : Readings) (m : ℕ) (v : Value) → m < length r.slots → entry_of (with_value r m v) m ≡ entry.Present (double_of v)
+entry-same : (r : Readings) (m : ℕ) (v : Value) → m < length r.slots → entry_of (with_value r m v) m ≡ Some (double_of v)
 entry-same r m v h = ap entry_for (stored_same r m v h)
 
 entry_other : (r : Readings) (m n : ℕ) (v : Value) → (n ≡ m → ⊥) → entry_of (with_value r m v) n ≡ entry_of r n
@@ -22,8 +22,8 @@ entry_other r m n v h = ap entry_for (stored_other r m v n h)
 
 noted-same : (r p : Readings) (m : ℕ) (v w : Value) → m < meanings → double_of v ≡ double_of w → Same r p → Same (with_value r m v) (with_value p m w)
 noted-same r p m v w meant double h = record {
-  all = length-set r.slots m (slot_of (Present v)) ∙ h.all;
-  all' = length-set p.slots m (slot_of (Present w)) ∙ h.all';
+  all = length-set r.slots m (Some v) ∙ h.all;
+  all' = length-set p.slots m (Some w) ∙ h.all';
   each = λ n. go n (eqb n m) refl;
 }
   where
@@ -32,7 +32,7 @@ noted-same r p m v w meant double h = record {
         let here : n ≡ m = eqb-true n m e in
         ap (entry_of (with_value r m v)) here
         ∙ entry-same r m v (omega (arith, h.all))
-        ∙ ap entry.Present double
+        ∙ ap Some double
         ∙ sym (entry-same p m w (omega (arith, h.all')))
         ∙ ap (entry_of (with_value p m w)) (sym here)
     go n false e =
@@ -73,7 +73,7 @@ module _ (counts : Bool) where
     none-of_it : NoneHolds (field_rows false p 0 g)
     none-of_it =
         none_both (head_rows g) (order_rows false p 0 (field g)) seen.none
-        (ap is_present (ap (entry_of p) meaning ∙ sym (h.each (field s).meaning)) ∙ is-new false r 0 s none, (refl, tt))
+        (ap is_some (ap (entry_of p) meaning ∙ sym (h.each (field s).meaning)) ∙ is-new false r 0 s none, (refl, tt))
 
     noted-so : Same (noted r (field s)) (noted p (field g))
     noted-so =

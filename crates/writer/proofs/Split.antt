@@ -1,5 +1,5 @@
 -- The fields of a record, each with all of its bytes: the first, and those that follow it. A record that is read is whole, and its fields are few. Assumes nothing.
-use Rattle.writer.proofs.Kit.{◌≡◌, refl, sym, ap, ap₂, subst, ◌∙◌, Bool, true, false, List, [], ◌∷◌, ◌++◌, map, ℕ, ◌+◌, ◌*◌, ◌≤◌, ◌<◌, arith, ltb-true, ltb-false, ltb, length, take, drop, get_or, length-take, length-append, length-set, take-append-drop, List·getD-eq-default, length-take-le, get_or-drop, get_or-take, take-append_seam, drop-append_seam, NoneHolds, none_before, none_after, Present, Readings, meanings, data_size, tag_of, size_of, field, head_rows, heads, noted, order_rows, rows_of, read_rows, slot_of, no_readings, at_most_lem, heads-step, field_rows, is-new, in_range_lem, AreBytes, Turned, Kept, Other, NoCount, field_as, size_as, turned_of, field_in, fields_of, fields_in, record_in}
+use Rattle.writer.proofs.Kit.{◌≡◌, refl, sym, ap, ap₂, subst, ◌∙◌, Bool, true, false, List, [], ◌∷◌, ◌++◌, map, ℕ, ◌+◌, ◌*◌, ◌≤◌, ◌<◌, arith, ltb-true, ltb-false, ltb, length, take, drop, get_or, length-take, length-append, length-set, take-append-drop, List·getD-eq-default, length-take-le, get_or-drop, get_or-take, take-append_seam, drop-append_seam, NoneHolds, none_before, none_after, Some, Readings, meanings, data_size, tag_of, size_of, field, head_rows, heads, noted, order_rows, rows_of, read_rows, no_readings, at_most_lem, heads-step, field_rows, is-new, in_range_lem, AreBytes, Turned, Kept, Other, NoCount, field_as, size_as, turned_of, field_in, fields_of, fields_in, record_in}
 use lib.ListN.{get_or-append}
 use Rattle.record.proofs.Followed.{same_rows, same-field}
 use Rattle.record.proofs.FirstBytes.{room, falls}
@@ -80,7 +80,7 @@ fields-few r last (s ∷ fs) all h =
     let g = field s in
     let one = here r last s fs h in
     let fewer = falls r.slots g.meaning g.value (omega (arith, in_range_lem false r last s one)) (is-new false r last s one) in
-    omega (arith, fewer, fields-few (noted r g) (tag_of s) fs (length-set r.slots g.meaning (slot_of (Present g.value)) ∙ all) (after r last s fs h))
+    omega (arith, fewer, fields-few (noted r g) (tag_of s) fs (length-set r.slots g.meaning (Some g.value) ∙ all) (after r last s fs h))
 
 pub length_as : (f : List ℕ) (t : Turned) → length (field_as f t) ≡ size_as (length f) t
 length_as f Kept = refl

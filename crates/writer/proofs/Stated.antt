@@ -1,12 +1,12 @@
 -- What is proved of a record that is written and read, as types; the page of promises says it in full. Assumes nothing.
-use Rattle.writer.proofs.Kit.{ℕ, ◌≡◌, true, false, List, is_nan, length, accepted, ExactlyCaused, Value, Double, Count, Present, Readings, read_record, stored_of, record_of, room_rows, length_written, AreBytes}
+use Rattle.writer.proofs.Kit.{ℕ, ◌≡◌, true, false, List, is_nan, length, accepted, ExactlyCaused, Value, Double, Count, Some, Readings, read_record, stored_of, record_of, room_rows, length_written, AreBytes}
 
 abbrev pub NotNan : Value → Type 0
 NotNan (Double x) = is_nan x ≡ false
 NotNan (Count word) = Unit {0}
 
 abbrev pub NoNan : Readings → Type 0
-NoNan r = (m : ℕ) (v : Value) → stored_of r m ≡ Present v → NotNan v
+NoNan r = (m : ℕ) (v : Value) → stored_of r m ≡ Some v → NotNan v
 
 -- every record that the strict reader takes is byte for byte what is written of its readings, where none of them is NaN, which has other patterns too
 abbrev pub WrittenAgain : Type 0

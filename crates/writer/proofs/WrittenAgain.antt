@@ -1,5 +1,5 @@
 -- What the strict reader takes is what is written of its readings: its tags rise, so field by field the record is the fields of the tags passed. Assumes nothing.
-use Rattle.writer.proofs.Kit.{◌≡◌, refl, sym, ap, ap₂, subst, ◌∙◌, Bool, true, false, true≢false, List, [], ◌∷◌, ◌++◌, ◌⊎◌, inl, inr, ⊎_elim, ℕ, suc, ◌+◌, ◌-◌, ◌≤◌, ◌<◌, arith, add-one, ltb-true, ltb-false, eqb-true, eqb-false, ltb, eqb, length, drop, length-set, take-append-drop, get_or-drop, accepted, NoneHolds, then-accepted, none_before, Value, Stored, Present, Readings, meanings, meaning_of, tag_in, is_count, tag_of, size_of, value_of, field, head_rows, order_rows, noted, slot_of, no_readings, stored_of, with_value, entry_for, entry_of, is_present, Tagged, Split, at-end, at_field, split, field_rows, no_bytes, read, read_step, is-new, in_order, AreBytes}
+use Rattle.writer.proofs.Kit.{◌≡◌, refl, sym, ap, ap₂, subst, ◌∙◌, Bool, true, false, true≢false, List, [], ◌∷◌, ◌++◌, ◌⊎◌, inl, inr, ⊎_elim, ℕ, suc, ◌+◌, ◌-◌, ◌≤◌, ◌<◌, arith, add-one, ltb-true, ltb-false, eqb-true, eqb-false, ltb, eqb, length, drop, length-set, take-append-drop, get_or-drop, accepted, NoneHolds, then-accepted, none_before, Value, Option, Some, Readings, meanings, meaning_of, tag_in, is_count, tag_of, size_of, value_of, field, head_rows, order_rows, noted, no_readings, stored_of, with_value, entry_for, entry_of, is_some, Tagged, Split, at-end, at_field, split, field_rows, no_bytes, read, read_step, is-new, in_order, AreBytes}
 use Rattle.writer.proofs.Stated.{NoNan, WrittenAgain}
 use Rattle.writer.proofs.Fields.{next_field, no_field, by_form}
 use Rattle.writer.proofs.FieldWritten.{value-form, has_its_form, tag_is, same_bytes}
@@ -10,14 +10,14 @@ use Rattle.writer.proofs.OneRun.{from, skipped, one-run}
 record Reached (last : ℕ) (q : Readings) : Type 0 where
   all : length q.slots ≡ meanings
   few : last < 17 + meanings
-  passed : (m : ℕ) (v : Value) → stored_of q m ≡ Present v → tag_in (is_count v) m ≤ last
-  here : (last ≡ 0) ⊎ (is_present (entry_of q (meaning_of last)) ≡ true)
+  passed : (m : ℕ) (v : Value) → stored_of q m ≡ Some v → tag_in (is_count v) m ≤ last
+  here : (last ≡ 0) ⊎ (is_some (entry_of q (meaning_of last)) ≡ true)
 
 record Taken (last : ℕ) (q r : Readings) (s : List ℕ) : Type 0 where
   same : s ≡ from (suc last) r
   all : length r.slots ≡ meanings
-  kept : (m : ℕ) (v : Value) → stored_of q m ≡ Present v → stored_of r m ≡ Present v
-  only : (m : ℕ) (v : Value) → stored_of r m ≡ Present v → tag_in (is_count v) m ≤ last → stored_of q m ≡ Present v
+  kept : (m : ℕ) (v : Value) → stored_of q m ≡ Some v → stored_of r m ≡ Some v
+  only : (m : ℕ) (v : Value) → stored_of r m ≡ Some v → tag_in (is_count v) m ≤ last → stored_of q m ≡ Some v
 
 -- nothing is left
 taken-all : (q : Readings) (last : ℕ) → Reached last q → Taken last q q []
@@ -50,7 +50,7 @@ module _ (s : List ℕ) (all : AreBytes s) (q : Readings) (last : ℕ) (none : N
   its_tag : tag_in (is_count v) m₀ ≡ t
   its_tag = ap (λ (b : Bool). tag_in b m₀) (value-form s) ∙ tag.same
 
-  new : is_present (entry_of q m₀) ≡ false
+  new : is_some (entry_of q m₀) ≡ false
   unfolding field
   new = is-new true q last s none
 
@@ -58,40 +58,40 @@ module _ (s : List ℕ) (all : AreBytes s) (q : Readings) (last : ℕ) (none : N
   unfolding field
   rises = ⊎_elim (λ none_before. omega (arith, its_tag, tag-at_least (is_count v) m₀)) (λ present. go (ltb last t) refl present) before.here
     where
-      go : (b : Bool) → ltb last t ≡ b → is_present (entry_of q (meaning_of last)) ≡ true → last < t
+      go : (b : Bool) → ltb last t ≡ b → is_some (entry_of q (meaning_of last)) ≡ true → last < t
       go true e present = ltb-true last t e
       go false e present =
           let same : last ≡ t = omega (arith, ltb-false last t e, ltb-false t last (in_order true q last s none)) in
-          absurd (true≢false (sym present ∙ ap (λ (n : ℕ). is_present (entry_of q (meaning_of n))) same ∙ new))
+          absurd (true≢false (sym present ∙ ap (λ (n : ℕ). is_some (entry_of q (meaning_of n))) same ∙ new))
 
-  not_there : (w : Value) → stored_of q m₀ ≡ Present w → ⊥
-  not_there w told = true≢false (sym (ap (λ (e : Stored). is_present (entry_for e)) told) ∙ new)
+  not_there : (w : Value) → stored_of q m₀ ≡ Some w → ⊥
+  not_there w told = true≢false (sym (ap (λ (e : (Option Value)). is_some (entry_for e)) told) ∙ new)
 
-  here_now : stored_of q' m₀ ≡ Present v
+  here_now : stored_of q' m₀ ≡ Some v
   here_now = stored_same q m₀ v (omega (arith, tag.meant, before.all))
 
   -- a value by now, at the new field's place or at another
-  by_place : (m : ℕ) (w : Value) → stored_of q' m ≡ Present w → (tag_in (is_count w) m ≡ t) ⊎ (stored_of q m ≡ Present w)
+  by_place : (m : ℕ) (w : Value) → stored_of q' m ≡ Some w → (tag_in (is_count w) m ≡ t) ⊎ (stored_of q m ≡ Some w)
   by_place m w told = go (eqb m m₀) refl
     where
-      go : (b : Bool) → eqb m m₀ ≡ b → (tag_in (is_count w) m ≡ t) ⊎ (stored_of q m ≡ Present w)
+      go : (b : Bool) → eqb m m₀ ≡ b → (tag_in (is_count w) m ≡ t) ⊎ (stored_of q m ≡ Some w)
       go true e =
           let place = eqb-true m m₀ e in
-          let is : Present w ≡ Present v = sym told ∙ ap (stored_of q') place ∙ here_now in
+          let is : Some w ≡ Some v = sym told ∙ ap (stored_of q') place ∙ here_now in
           let same : w ≡ v = cc in
           inl (ap₂ (λ (u : Value) (n : ℕ). tag_in (is_count u) n) same place ∙ its_tag)
       go false e = inr (sym (stored_other q m₀ v m (eqb-false m m₀ e)) ∙ told)
 
   reached : Reached t q'
   reached = record {
-    all = length-set q.slots m₀ (slot_of (Present v)) ∙ before.all;
+    all = length-set q.slots m₀ (Some v) ∙ before.all;
     few = omega (arith, its_tag, tag-at_most (is_count v) m₀ tag.meant);
     passed = λ m w told. ⊎_elim (λ now. omega arith) (λ old. omega (arith, before.passed m w old, rises)) (by_place m w told);
-    here = inr (ap (λ (e : Stored). is_present (entry_for e)) here_now);
+    here = inr (ap (λ (e : (Option Value)). is_some (entry_for e)) here_now);
   }
 
   module _ (r : Readings) (numbers : NoNan r) (after : Taken t q' r (drop (size_of s) s)) where
-    value : stored_of r m₀ ≡ Present v
+    value : stored_of r m₀ ≡ Some v
     value = after.kept m₀ v here_now
 
     -- no field between the two tags
@@ -118,7 +118,7 @@ module _ (s : List ℕ) (all : AreBytes s) (q : Readings) (last : ℕ) (none : N
           only = λ m w told less. ⊎_elim (λ now. absurd (omega (arith, rises))) (λ old. old) (by_place m w (after.only m w told (omega (arith, rises))));
         }
       where
-        go : (m : ℕ) (w : Value) → stored_of q m ≡ Present w → (b : Bool) → eqb m m₀ ≡ b → stored_of r m ≡ Present w
+        go : (m : ℕ) (w : Value) → stored_of q m ≡ Some w → (b : Bool) → eqb m m₀ ≡ b → stored_of r m ≡ Some w
         go m w told true e = absurd (not_there w (ap (stored_of q) (sym (eqb-true m m₀ e)) ∙ told))
         go m w told false e = after.kept m w (stored_other q m₀ v m (eqb-false m m₀ e) ∙ told)
 

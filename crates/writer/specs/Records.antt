@@ -1,11 +1,9 @@
 -- The bytes of readings as a mast record, document 02: any set of fields, each in its form, the tag bytes rising, absent fields skipped. Definitions only.
-use Rattle.std.specs.Prelude.{ℕ, zero, suc, ◌/◌, ◌%◌, ◌^◌, Bool, not, cond, List, [], ◌∷◌, ◌++◌, ltb}
+use Rattle.std.specs.Prelude.{ℕ, zero, suc, ◌/◌, ◌%◌, ◌^◌, Bool, not, cond, List, [], ◌∷◌, ◌++◌, ltb, None, Option, Some}
 use Rattle.std.specs.Float.{binary64}
 use Rattle.std.specs.Float.Ieee.{to_bits}
 use Rattle.fields.specs.declared.fields.Value.{Value}
 use Rattle.fields.specs.declared.fields.Value.TheVariants.{Double, Count}
-use Rattle.record.specs.declared.entries.Stored.{Stored}
-use Rattle.record.specs.declared.entries.Stored.TheVariants.{Absent, Present}
 use Rattle.record.specs.declared.entries.Readings.{Readings}
 use Rattle.fields.specs.Fields.{meanings, is_count_tag, meaning_of, tag_in, data_size, is_count}
 use Rattle.record.specs.Entries.{stored_of}
@@ -34,9 +32,9 @@ has_form tag (Double x) = not (is_count_tag tag)
 has_form tag (Count word) = is_count_tag tag
 
 -- the field of a tag, where there is a value in its form
-abbrev pub stored_field : ℕ → Stored → List ℕ
-stored_field tag Absent = []
-stored_field tag (Present v) = cond (has_form tag v) (field_with tag v) []
+abbrev pub stored_field : ℕ → (Option Value) → List ℕ
+stored_field tag None = []
+stored_field tag (Some v) = cond (has_form tag v) (field_with tag v) []
 
 -- the fields of the tags from `tag` on, k of them
 unfoldable pub fields_from : ℕ → ℕ → Readings → List ℕ

@@ -1,8 +1,7 @@
 -- Bytes written at the start of a lent buffer. Definitions only.
-use Rattle.std.specs.Prelude.{ℕ, cond, List, [], ◌∷◌, ◌++◌, ltb, length, drop}
+use Rattle.refusal.specs.declared.Refusal.{Refusal}
+use Rattle.std.specs.Prelude.{ℕ, cond, List, [], ◌∷◌, ◌++◌, ltb, length, drop, Err, Ok, Result}
 use Rattle.refusal.specs.Outcomes.{Outcome, accepted, refusal, Row, row, ◌then◌}
-use Rattle.writer.specs.declared.Written.{Written}
-use Rattle.writer.specs.declared.Written.TheVariants as answer
 
 -- 18: the buffer is shorter than s
 abbrev pub room_rows : List ℕ → List ℕ → List Row
@@ -17,6 +16,6 @@ abbrev pub overwritten : List ℕ → List ℕ → List ℕ
 overwritten s buffer = cond (ltb (length buffer) (length s)) buffer (s ++ drop (length s) buffer)
 
 -- what each case of the code's answer stands for
-abbrev pub written : Written → Outcome ℕ
-written (answer.Length n) = accepted n
-written (answer.Refused c) = refusal c
+abbrev pub written : (Result ℕ Refusal) → Outcome ℕ
+written (Ok n) = accepted n
+written (Err c) = refusal c

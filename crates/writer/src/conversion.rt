@@ -3,16 +3,15 @@
 ghost use Rattle.std.specs.Prelude.{◌≡◌, true, false, ◌+◌, ◌≤◌, length};
 ghost use Rattle.std.proofs.lemmas.List.Edits.{sets};
 ghost use Rattle.refusal.specs.Causes.{NoneHolds};
-ghost use Rattle.refusal.specs.Outcomes.{accepted, ◌then◌};
+ghost use Rattle.refusal.specs.Outcomes.{accepted, ◌then◌, outcome};
 ghost use Rattle.record.specs.Readings.{read_rows};
-ghost use Rattle.writer.specs.Written.{written};
 ghost use Rattle.writer.specs.Conversion.{counted_field, turned, field_as, size_as, has_no_count, fields_of, record_in, count_rows, converted, length_converted, written_in};
 
-use crate::{Written, field_size, write_field};
+use crate::{field_size, write_field};
 use fields::fields::Value;
-use fields::reader::{Step, step_from};
+use fields::reader::step_from;
 use record::readings::read_record;
-use refusal::{Check, Refusal};
+use refusal::Refusal;
 use thousandths::{Counted, count_of, double_of_word, word_from};
 
 // A field in a form: as it is, with the other value of its meaning, or none, where a double has no count.
@@ -72,25 +71,25 @@ fn turned_size(size: usize, turned: Turned) -> usize
 }
 
 // The length of a record that was read, in a form, or cause 20. None of its fields is refused.
-fn converted_length(bytes: &[u8], counts: bool) -> Written
+fn converted_length(bytes: &[u8], counts: bool) -> Result<usize, Refusal>
     requires { NoneHolds (read_rows false bytes.now) }
-    ensures { written result ≡ (count_rows counts (fields_of bytes.now) then accepted (length (record_in counts bytes.now))) }
+    ensures { outcome result ≡ (count_rows counts (fields_of bytes.now) then accepted (length (record_in counts bytes.now))) }
 {
     let mut size = 0;
     let mut at = 0;
     while at < bytes.len() {
-        let Step::Field(field, next) = step_from(bytes, at) else {
-            return Written::Length(size);
+        let Ok((field, next)) = step_from(bytes, at) else {
+            return Ok(size);
         };
         let value = field.value;
         let turned = turn(field.meaning, value, counts);
         if has_no_count(turned) {
-            return Written::Refused(Refusal::NoCount);
+            return Err(Refusal::NoCount);
         }
         size += turned_size(next - at, turned);
         at = next;
     }
-    Written::Length(size)
+    Ok(size)
 }
 
 fn copy(field: &[u8], out: &mut [u8], at: usize)
@@ -130,7 +129,7 @@ fn put_converted(bytes: &[u8], counts: bool, out: &mut [u8])
     let mut place = 0;
     let mut at = 0;
     while at < bytes.len() {
-        let Step::Field(field, next) = step_from(bytes, at) else {
+        let Ok((field, next)) = step_from(bytes, at) else {
             return;
         };
         let value = field.value;
@@ -140,21 +139,21 @@ fn put_converted(bytes: &[u8], counts: bool, out: &mut [u8])
     }
 }
 
-fn convert(bytes: &[u8], counts: bool, out: &mut [u8]) -> Written
-    ensures answered { written result ≡ length_converted counts bytes.now out.old }
+fn convert(bytes: &[u8], counts: bool, out: &mut [u8]) -> Result<usize, Refusal>
+    ensures answered { outcome result ≡ length_converted counts bytes.now out.old }
     ensures lent { out.new ≡ written_in (converted counts bytes.now) out.old }
 {
     let read = read_record(bytes);
     let check = read.check;
-    if let Check::Refused(refusal) = check {
-        return Written::Refused(refusal);
+    if let Err(refusal) = check {
+        return Err(refusal);
     }
     let answer = converted_length(bytes, counts);
-    let Written::Length(length) = answer else {
+    let Ok(length) = answer else {
         return answer;
     };
     if out.len() < length {
-        return Written::Refused(Refusal::BufferTooShort);
+        return Err(Refusal::BufferTooShort);
     }
     put_converted(bytes, counts, out);
     answer
@@ -162,8 +161,8 @@ fn convert(bytes: &[u8], counts: bool, out: &mut [u8]) -> Written
 
 // The record in counts at the start of the buffer, and its length; or a cause 5 to 8, 20 or 18, and then
 // the buffer is left as it was, as are the bytes past the record. The record is left.
-pub fn to_counts(bytes: &[u8], out: &mut [u8]) -> Written
-    ensures answered { written result ≡ length_converted true bytes.now out.old }
+pub fn to_counts(bytes: &[u8], out: &mut [u8]) -> Result<usize, Refusal>
+    ensures answered { outcome result ≡ length_converted true bytes.now out.old }
     ensures lent { out.new ≡ written_in (converted true bytes.now) out.old }
     ensures kept { bytes.now ≡ bytes.now }
 {
@@ -172,8 +171,8 @@ pub fn to_counts(bytes: &[u8], out: &mut [u8]) -> Written
 
 // The record in doubles at the start of the buffer, and its length; or a cause 5 to 8 or 18, and then the
 // buffer is left as it was, as are the bytes past the record. The record is left.
-pub fn to_doubles(bytes: &[u8], out: &mut [u8]) -> Written
-    ensures answered { written result ≡ length_converted false bytes.now out.old }
+pub fn to_doubles(bytes: &[u8], out: &mut [u8]) -> Result<usize, Refusal>
+    ensures answered { outcome result ≡ length_converted false bytes.now out.old }
     ensures lent { out.new ≡ written_in (converted false bytes.now) out.old }
     ensures kept { bytes.now ≡ bytes.now }
 {

@@ -8,21 +8,13 @@ ghost use Rattle.std.specs.Prelude.{◌≡◌, ◌+◌, ◌≤◌, ◌<◌, leng
 ghost use Rattle.std.proofs.lemmas.List.Edits.{sets};
 ghost use Rattle.fields.specs.Fields.{meanings, tag_in, is_count};
 ghost use Rattle.writer.specs.Records.{bytes, data_of, field_with, field_for, has_form, stored_field, fields_from, record_of};
-ghost use Rattle.writer.specs.Written.{written, length_written, overwritten};
+ghost use Rattle.writer.specs.Written.{length_written, overwritten};
+ghost use Rattle.refusal.specs.Outcomes.{outcome};
 
 use fields::bits::pattern;
-use fields::fields::{
-    FIRST_COUNT, FIRST_DOUBLE, HEADER, MEANINGS, Value, data_size, is_count_tag, meaning_of,
-};
-use record::entries::{Readings, Stored, stored_of};
+use fields::fields::{FIRST_COUNT, FIRST_DOUBLE, HEADER, MEANINGS, Value, data_size, is_count_tag, meaning_of};
+use record::entries::{Readings, stored_of};
 use refusal::Refusal;
-
-// How many bytes were written, or why none was.
-#[derive(Clone, Copy)]
-pub enum Written {
-    Length(usize),
-    Refused(Refusal),
-}
 
 // The last `width` bytes of a number, the highest first.
 fn put_number(out: &mut [u8], at: usize, width: u64, n: u64)
@@ -69,12 +61,12 @@ fn has_form(tag: u8, value: Value) -> bool
     }
 }
 
-fn put_stored(out: &mut [u8], at: usize, tag: u8, stored: Stored) -> usize
+fn put_stored(out: &mut [u8], at: usize, tag: u8, stored: Option<Value>) -> usize
     requires { at + length (stored_field tag stored) ≤ length out.old }
     ensures value { result ≡ at + length (stored_field tag stored) }
     ensures out_after { out.new ≡ sets out.old at (stored_field tag stored) }
 {
-    let Stored::Present(value) = stored else {
+    let Some(value) = stored else {
         return at;
     };
     if has_form(tag, value) {
@@ -83,10 +75,10 @@ fn put_stored(out: &mut [u8], at: usize, tag: u8, stored: Stored) -> usize
     at
 }
 
-fn stored_size(tag: u8, stored: Stored) -> usize
+fn stored_size(tag: u8, stored: Option<Value>) -> usize
     ensures { result ≡ length (stored_field tag stored) }
 {
-    let Stored::Present(value) = stored else {
+    let Some(value) = stored else {
         return 0;
     };
     if has_form(tag, value) {
@@ -127,17 +119,17 @@ fn put_fields(out: &mut [u8], start: usize, first: u8, readings: Readings) -> us
 
 // The record of any readings, clashing or none, at the start of the buffer, and its length. What is past
 // it is left, and so is the whole of a buffer that is shorter (cause 18).
-pub fn write(readings: Readings, out: &mut [u8]) -> Written
-    ensures answered { written result ≡ length_written (record_of readings) out.old }
+pub fn write(readings: Readings, out: &mut [u8]) -> Result<usize, Refusal>
+    ensures answered { outcome result ≡ length_written (record_of readings) out.old }
     ensures lent { out.new ≡ overwritten (record_of readings) out.old }
 {
     let length = fields_length(FIRST_DOUBLE, readings) + fields_length(FIRST_COUNT, readings);
     if out.len() < length {
-        return Written::Refused(Refusal::BufferTooShort);
+        return Err(Refusal::BufferTooShort);
     }
     let at = put_fields(out, 0, FIRST_DOUBLE, readings);
     put_fields(out, at, FIRST_COUNT, readings);
-    Written::Length(length)
+    Ok(length)
 }
 
 fn tag_for(meaning: usize, value: Value) -> u8
@@ -163,15 +155,15 @@ pub(crate) fn field_size(meaning: usize, value: Value) -> usize
 // The field of a meaning with a value, in the value's form, at the start of the buffer, and its length;
 // nothing where there is no such meaning. What is past it is left, and so is the whole of a buffer that is
 // shorter (cause 18).
-pub(crate) fn write_field(meaning: usize, value: Value, out: &mut [u8]) -> Written
-    ensures answered { written result ≡ length_written (field_for meaning value) out.old }
+pub(crate) fn write_field(meaning: usize, value: Value, out: &mut [u8]) -> Result<usize, Refusal>
+    ensures answered { outcome result ≡ length_written (field_for meaning value) out.old }
     ensures lent { out.new ≡ overwritten (field_for meaning value) out.old }
 {
     if MEANINGS <= meaning {
-        return Written::Length(0);
+        return Ok(0);
     }
     if out.len() < field_size(meaning, value) {
-        return Written::Refused(Refusal::BufferTooShort);
+        return Err(Refusal::BufferTooShort);
     }
-    Written::Length(put_field(out, 0, tag_for(meaning, value), value))
+    Ok(put_field(out, 0, tag_for(meaning, value), value))
 }

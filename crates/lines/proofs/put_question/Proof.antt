@@ -1,8 +1,7 @@
 -- `lines::put_question` meets its contract. Assumes nothing.
 use Rattle.arithmetic.proofs.Kit.{◌≡◌, sym, ap, ap₂, ◌∙◌, true, false, List, [], ℕ, ◌≤◌, ◌<◌, le-leb, lt-leb, eq-eqb, ne_eqb, get_or, rules}
 use Rattle.pages.proofs.Growing.{same_more}
-use Rattle.questions.specs.Words.{place_in}
-use Rattle.questions.specs.Words.{line_parts}
+use Rattle.questions.specs.Words.{place_in, line_parts}
 use Rattle.questions.specs.Forms.{fits, wrong_line}
 use Rattle.lines.specs.Asked.{function_answer}
 use Rattle.lines.specs.Items.{write_answer}

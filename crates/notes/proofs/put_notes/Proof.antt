@@ -1,7 +1,6 @@
 -- `notes::put_notes` meets its contract. Assumes nothing.
 use Rattle.arithmetic.proofs.Kit.{ap, ap₂, ◌∙◌, ◌++◌, rules}
-use Rattle.refusal.specs.Outcomes.{Outcome}
-use Rattle.refusal.specs.Judged.{outcome}
+use Rattle.refusal.specs.Outcomes.{Outcome, outcome}
 use Rattle.refusal.specs.declared.judge.Figures.{Figures}
 use Rattle.mast.specs.Judge.{air_outcome}
 use Rattle.pages.proofs.Growing.{same_more}

@@ -8,12 +8,12 @@ use Rattle.park_text.proofs.Said.{said-given, said-wrong}
 use Rattle.park_text.proofs.put_readings_words.Statement.{statement}
 use Rattle.park_text.proofs.put_readings_words.Tie as tie
 
-returns : tie.Need-returns-in-Passed
+returns : tie.Need-returns-in-Ok
 unfolding readings_words
 returns c =
     let told = c in
     let read = c in
-    same_more (said-given (report_of (arguments read.args.text.now)) (arguments read.args.text.now) read.read_words-read.result read.read_words-read.ensures.0 told.in-Passed.is)
+    same_more (said-given (report_of (arguments read.args.text.now)) (arguments read.args.text.now) read.read_words-read.result read.read_words-read.ensures.0 told.in-Ok.is)
     c.put_said.ensures
 
 returns_2 : tie.Need-returns-in-Wrong

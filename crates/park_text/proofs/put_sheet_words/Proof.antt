@@ -9,12 +9,12 @@ use Rattle.park_text.proofs.Said.{said-given, said-wrong}
 use Rattle.park_text.proofs.put_sheet_words.Statement.{statement}
 use Rattle.park_text.proofs.put_sheet_words.Tie as tie
 
-returns : tie.Need-returns-in-Passed
+returns : tie.Need-returns-in-Ok
 unfolding sheet_words
 returns c =
     let told = c in
     let read = c in
-    same_more (said-given sheet_of (arguments read.args.text.now) read.read_words-read.result read.read_words-read.ensures.0 told.in-Passed.is)
+    same_more (said-given sheet_of (arguments read.args.text.now) read.read_words-read.result read.read_words-read.ensures.0 told.in-Ok.is)
     c.put_sheet_of.ensures
 
 returns_2 : tie.Need-returns-in-Wrong

@@ -1,7 +1,7 @@
 -- `report::put_record` meets its contract: the buffer has room for any record. Assumes nothing.
 use Rattle.arithmetic.proofs.Kit.{◌≡◌, sym, ap, ◌∙◌, List, ℕ, arith, rules, length, take, replicate, length-replicate}
 use Rattle.writer.specs.Records.{record_of}
-use Rattle.writer.specs.Written.{written}
+use Rattle.refusal.specs.Outcomes.{outcome}
 use Rattle.pages.proofs.Growing.{same_more}
 use Rattle.report.specs.Report.{record_line}
 use Rattle.report.proofs.Short.{record_short}
@@ -17,22 +17,22 @@ buffer_length : length buffer ≡ 154
 buffer_length = length-replicate {A = ℕ} 154 0
 
 -- what is written is the record, and its length is answered
-counted : (c : tie.In-Length) → c.in-Length.length ≡ length (record_of c.args.readings)
-counted c = length-is c.args.readings buffer buffer_length (ap written (sym c.in-Length.is) ∙ c.write.ensures.0)
+counted : (c : tie.In-Ok) → c.in-Ok.length ≡ length (record_of c.args.readings)
+counted c = length-is c.args.readings buffer buffer_length (ap outcome (sym c.in-Ok.is) ∙ c.write.ensures.0)
 
-whole_record : (c : tie.In-Length) → take c.in-Length.length c.write.new.out ≡ record_of c.args.readings
+whole_record : (c : tie.In-Ok) → take c.in-Ok.length c.write.new.out ≡ record_of c.args.readings
 whole_record c = recorded c.args.readings buffer buffer_length (counted c) c.write.ensures.1
 
 array_share_prefix_record : tie.Need-slice_bounds-record-end
 array_share_prefix_record c = let told = c.before in omega (arith, counted told, record_short told.args.readings)
 
-returns : tie.Need-returns-in-Refused
+returns : tie.Need-returns-in-Err
 returns c =
     let told = c.before.before in
     let r = told.args.readings in
-    absurd (not_refused r buffer buffer_length c.in-Refused.field-0 (ap written (sym c.in-Refused.is) ∙ told.write.ensures.0))
+    absurd (not_refused r buffer buffer_length c.in-Err.field-0 (ap outcome (sym c.in-Err.is) ∙ told.write.ensures.0))
 
-returns_2 : tie.Need-returns-in-Length
+returns_2 : tie.Need-returns-in-Ok
 returns_2 c =
     let line = c.before.before in
     same_more (ap record_line (whole_record line.before.before.before)) line.put_record_line.ensures

@@ -1,6 +1,6 @@
 -- `sheet_text::put_sheet_at` meets its contract. Assumes nothing.
+use Rattle.std.specs.Prelude.{Option}
 use Rattle.arithmetic.proofs.Kit.{ap, ap₂, ◌∙◌, rules, Float}
-use Rattle.record.specs.declared.entries.Entry.{Entry}
 use Rattle.station.specs.declared.figures.StationFigures.{StationFigures}
 use Rattle.station.specs.Figures.{figures_with}
 use Rattle.pages.proofs.Growing.{same_more}
@@ -17,7 +17,7 @@ returns c =
     let a = found.args in
     let pressure =
     chosen.pressure_for-pressure_hpa.ensures
-    ∙ ap₂ (λ (q : Entry) (f : StationFigures). pressure_for q f.figures.pressure_hpa) chosen.entry_of.ensures found.figures_of-found.ensures in
+    ∙ ap₂ (λ (q : (Option Float)) (f : StationFigures). pressure_for q f.figures.pressure_hpa) chosen.entry_of.ensures found.figures_of-found.ensures in
     same_more
     (ap (λ (p : Float). sheet_page a.resolved.altitude_m p a.resolved.humidity_percent a.readings a.resolved.pressure) pressure)
     put.put_sheet_page.ensures

@@ -1,5 +1,5 @@
 -- `writer::fields_length` meets its contract. The loop's invariant: the bytes counted and those of the fields that are left are those of the form. Assumes nothing.
-use Rattle.writer.proofs.Kit.{◌≡◌, sym, ap, ◌∙◌, ◌++◌, ℕ, ◌+◌, ◌-◌, ◌≤◌, arith, rules, length, length-append, Stored, meanings, meaning_of, stored_of, stored_field, fields_from}
+use Rattle.writer.proofs.Kit.{◌≡◌, sym, ap, ◌∙◌, ◌++◌, ℕ, ◌+◌, ◌-◌, ◌≤◌, arith, rules, length, length-append, Option, meanings, meaning_of, stored_of, stored_field, fields_from}
 use Rattle.writer.proofs.Fields.{rest, all-fields, next_field, no_field, few}
 use Rattle.writer.proofs.fields_length.Statement.{statement}
 use Rattle.writer.proofs.fields_length.Tie as tie
@@ -23,7 +23,7 @@ counted c =
     let same : e ≡ stored_of r (meaning_of tag) = c.stored_of.ensures ∙ ap (stored_of r) c.meaning_of.ensures in
     ap (λ (n : ℕ). n + length (rest end (tag + 1) r)) c.stored_size-size.ensures
     ∙ sym (length-append (stored_field tag e) (rest end (tag + 1) r))
-    ∙ ap (λ (e : Stored). length (stored_field tag e ++ rest end (tag + 1) r)) same
+    ∙ ap (λ (e : (Option Value)). length (stored_field tag e ++ rest end (tag + 1) r)) same
     ∙ ap length (sym (next_field end tag r c.loop-tag-test.true))
 
 returns : tie.Need-returns invariant_loop decreases_loop

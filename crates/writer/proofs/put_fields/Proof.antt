@@ -1,6 +1,6 @@
 -- `writer::put_fields` meets its contract. The loop's invariant: the fields that are left, stored from the position on, make the buffer what all fields of the form
 -- make it. Assumes nothing.
-use Rattle.writer.proofs.Kit.{◌≡◌, refl, sym, ap, ◌∙◌, List, ◌++◌, ℕ, ◌+◌, ◌-◌, ◌≤◌, arith, rules, length, length-append, sets, Stored, meanings, stored_of, stored_field, fields_from}
+use Rattle.writer.proofs.Kit.{◌≡◌, refl, sym, ap, ◌∙◌, List, ◌++◌, ℕ, ◌+◌, ◌-◌, ◌≤◌, arith, rules, length, length-append, sets, Option, meanings, stored_of, stored_field, fields_from}
 use Rattle.writer.proofs.Bytes.{sets_append}
 use Rattle.writer.proofs.Fields.{rest, all-fields, next_field, no_field}
 use Rattle.writer.proofs.put_fields.Statement.{statement}
@@ -31,7 +31,7 @@ split c =
     let end = a.first + meanings in
     let tag = turn.loop-tag.tag in
     next_field end tag r c.loop-tag-test.true
-    ∙ ap (λ (e : Stored). stored_field tag e ++ rest end (tag + 1) r) (sym (c.stored_of.ensures ∙ ap (stored_of r) c.meaning_of.ensures))
+    ∙ ap (λ (e : (Option Value)). stored_field tag e ++ rest end (tag + 1) r) (sym (c.stored_of.ensures ∙ ap (stored_of r) c.meaning_of.ensures))
 
 room : (c : tie.After-stored_of invariant_loop decreases_loop) → let turn = c.before.before.before.before in let a = turn.args in let tag = turn.loop-tag.tag in
     turn.loop-tag.at + length (stored_field tag c.stored_of.result) + length (rest (a.first + meanings) (tag + 1) a.readings) ≡ a.start + length (fields_from meanings a.first a.readings)

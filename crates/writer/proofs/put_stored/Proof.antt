@@ -13,7 +13,7 @@ put_field_requires c κs =
     let has = c.before.before in
     let start = has.before.before.before in
     let a = start.args in
-    let field = by_form a.tag has.in-Present.is (sym has.has_form.ensures ∙ c.if-has_form.true) in
+    let field = by_form a.tag has.in-Some.is (sym has.has_form.ensures ∙ c.if-has_form.true) in
     subst (λ (f : List ℕ). a.at + length f ≤ length a.out.now) field start.requires
 
 returns_2 : tie.Need-returns-then-has_form
@@ -21,7 +21,7 @@ returns_2 c =
     let put = c.before.before in
     let has = put.before.before.before in
     let a = has.args in
-    let field = by_form a.tag has.in-Present.is (sym has.has_form.ensures ∙ put.if-has_form.true) in (
+    let field = by_form a.tag has.in-Some.is (sym has.has_form.ensures ∙ put.if-has_form.true) in (
       put.put_field.ensures.0 ∙ ap (λ (f : List ℕ). a.at + length f) (sym field),
       put.put_field.ensures.1 ∙ ap (sets a.out.now a.at) (sym field),
     )
@@ -30,7 +30,7 @@ returns_3 : tie.Need-returns
 returns_3 c =
     let has = c.before in
     let a = has.args in
-    nothing a.out.now a.at (by_form a.tag has.in-Present.is (sym has.has_form.ensures ∙ c.if-has_form.false))
+    nothing a.out.now a.at (by_form a.tag has.in-Some.is (sym has.has_form.ensures ∙ c.if-has_form.false))
 
 pub put_stored_spec : {M : Type 1} → statement M
 put_stored_spec =

@@ -9,13 +9,13 @@ returns_2 c =
     let has = c.before.before in
     let tag = has.args.tag in
     ap (λ (n : ℕ). 3 + n) c.data_size.ensures
-    ∙ sym (ap length (by_form tag has.in-Present.is (sym has.has_form.ensures ∙ c.if-has_form.true)) ∙ length-field tag _)
+    ∙ sym (ap length (by_form tag has.in-Some.is (sym has.has_form.ensures ∙ c.if-has_form.true)) ∙ length-field tag _)
 
 returns_3 : tie.Need-returns
 returns_3 c =
     let has = c.before in
     let tag = has.args.tag in
-    sym (ap length (by_form tag has.in-Present.is (sym has.has_form.ensures ∙ c.if-has_form.false)))
+    sym (ap length (by_form tag has.in-Some.is (sym has.has_form.ensures ∙ c.if-has_form.false)))
 
 pub stored_size_spec : {M : Type 1} → statement M
 stored_size_spec =

@@ -10,4 +10,4 @@ put_length_spec =
     (λ c κs. search rules)
     (λ c κs. search rules)
     (λ c. search rules)
-    (λ c. rw c.in-Refused.is (c.wide.ensures ∙ c.number.ensures, refl)))
+    (λ c. rw c.in-Err.is (c.wide.ensures ∙ c.number.ensures, refl)))

@@ -1,7 +1,8 @@
 -- `exports::reads::put_readings` meets its contract. The loop's invariant: the meanings below the next one are written. Assumes nothing.
+use Rattle.std.specs.Prelude.{Option}
+use Rattle.fields.specs.declared.fields.Value.{Value}
 use Rattle.arithmetic.proofs.Kit.{◌≡◌, refl, ap, ◌∙◌, ℕ, ◌+◌, ◌-◌, ◌≤◌, ◌<◌, arith, rules, List, length, set, length-set}
 use Rattle.fields.specs.Fields.{meanings}
-use Rattle.record.specs.declared.entries.Stored.{Stored}
 use Rattle.record.specs.declared.entries.Readings.{Readings}
 use Rattle.record.specs.Entries.{stored_of, value_or_zero}
 use Rattle.exports.specs.Lent.{handed_out}
@@ -11,7 +12,7 @@ use Rattle.exports.proofs.reads.put_readings.Statement.{statement}
 use Rattle.exports.proofs.reads.put_readings.Tie as tie
 
 -- an array as it was lent, and with the numbers of the first n meanings
-record Written {A : Type 0} (of : Stored → A) (r : Readings) (lent : List A) (n : ℕ) (now : List A) : Type 0 where
+record Written {A : Type 0} (of : (Option Value) → A) (r : Readings) (lent : List A) (n : ℕ) (now : List A) : Type 0 where
   long : length now ≡ length lent
   same : now ≡ handed_out (each of n r) lent
 
@@ -23,18 +24,18 @@ invariant_loop forms₀ values₀ counts₀ readings meaning₀ forms values cou
 abbrev decreases_loop : tie.decreases-loop-meaning
 decreases_loop forms₀ values₀ counts₀ readings meaning₀ forms values counts meaning = meanings - meaning
 
-none_yet : {A : Type 0} (of : Stored → A) (r : Readings) (lent : List A) → Written of r lent 0 lent
+none_yet : {A : Type 0} (of : (Option Value) → A) (r : Readings) (lent : List A) → Written of r lent 0 lent
 unfolding each
 none_yet of r lent = record { long = refl; same = refl }
 
-next : {A : Type 0} (of : Stored → A) (r : Readings) (lent : List A) (m : ℕ) (now : List A) (v : A) → m < length lent → v ≡ of (stored_of r m)
+next : {A : Type 0} (of : (Option Value) → A) (r : Readings) (lent : List A) (m : ℕ) (now : List A) (v : A) → m < length lent → v ≡ of (stored_of r m)
     → Written of r lent m now → Written of r lent (m + 1) (set now m v)
 next {A} of r lent m now v room is so_far = record {
   long = length-set now m v ∙ so_far.long;
   same = ap (λ (l : List A). set l m v) so_far.same ∙ ap (λ (w : A). set (handed_out (each of m r) lent) m w) is ∙ one_more of r m lent room;
 }
 
-all_of : {A : Type 0} (of : Stored → A) (r : Readings) (lent now : List A) {m : ℕ} → m ≡ meanings → Written of r lent m now
+all_of : {A : Type 0} (of : (Option Value) → A) (r : Readings) (lent now : List A) {m : ℕ} → m ≡ meanings → Written of r lent m now
     → now ≡ handed_out (each of meanings r) lent
 all_of of r lent now all so_far = so_far.same ∙ ap (λ (n : ℕ). handed_out (each of n r) lent) all
 

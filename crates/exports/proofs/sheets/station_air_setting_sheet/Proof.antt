@@ -1,6 +1,7 @@
 -- `exports::sheets::station_air_setting_sheet` meets its contract: the place is tested, and then the sheet answers. Assumes nothing.
 use Rattle.arithmetic.proofs.Kit.{refl, sym, ap, ◌∙◌, List, rules, length, take, Float}
-use Rattle.sheet.specs.Sheet.{setting_sheet, sheet_outcome}
+use Rattle.sheet.specs.Sheet.{setting_sheet}
+use Rattle.refusal.specs.Outcomes.{outcome}
 use Rattle.sheet.specs.Over.{over_or_left}
 use Rattle.sheet.proofs.Outcomes.{bare-accepted, bare-refused}
 use Rattle.exports.specs.Lent.{handed_out}
@@ -15,10 +16,10 @@ returns_2 c =
     let tested = answered.before.before in
     let x = tested.args in
     let text = bare-accepted (setting_sheet x.altitude_m x.pressure_hpa x.humidity_percent (length x.page.now))
-    (sym answered.setting_sheet.ensures.0 ∙ ap sheet_outcome c.in-Written.is) in
+    (sym answered.setting_sheet.ensures.0 ∙ ap outcome c.in-Written.is) in
     rw (roomy 1 x.lent.now tested.if-lent-lt1.false, text.1) (refl, (answered.setting_sheet.ensures.1 ∙ ap (over_or_left x.page.now 0) text.1, refl))
 
-returns_3 : tie.Need-returns-in-Refused
+returns_3 : tie.Need-returns-in-Err
 returns_3 c =
     let put = c.before.before.before.before in
     let known = put.before.before.before in
@@ -26,7 +27,7 @@ returns_3 c =
     let tested = answered.before.before in
     let x = tested.args in
     let why = bare-refused (setting_sheet x.altitude_m x.pressure_hpa x.humidity_percent (length x.page.now))
-    (sym answered.setting_sheet.ensures.0 ∙ ap sheet_outcome known.in-Refused.is) in
+    (sym answered.setting_sheet.ensures.0 ∙ ap outcome known.in-Err.is) in
     let one = first-is-all x.altitude_m x.pressure_hpa x.humidity_percent (length x.page.now) why in
     rw (roomy 1 x.lent.now tested.if-lent-lt1.false, why) (
       c.wide.ensures ∙ c.number.ensures,

@@ -12,12 +12,12 @@ returns_2 c =
     rw (roomy 3 _ read.if-lent-lt3.false, ← read.reading.ensures, ← called.station_for_density_altitude.ensures, told.in-Station.is)
     (refl, c.put_station.ensures)
 
-returns_3 : tie.Need-returns-in-Refused
+returns_3 : tie.Need-returns-in-Err
 returns_3 c =
     let told = c.before.before.before.before in
     let called = told.before in
     let read = called.before in
-    rw (roomy 3 _ read.if-lent-lt3.false, ← read.reading.ensures, ← called.station_for_density_altitude.ensures, told.in-Refused.is)
+    rw (roomy 3 _ read.if-lent-lt3.false, ← read.reading.ensures, ← called.station_for_density_altitude.ensures, told.in-Err.is)
     c.put_refusal.ensures
 
 pub station_air_for_density_altitude_spec : {M : Type 1} → statement M

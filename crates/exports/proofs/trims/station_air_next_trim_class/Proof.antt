@@ -25,12 +25,12 @@ returns_4 c =
     rw (roomy 2 _ found.if-lent-lt2.false, roomy 4 _ found.if-answer-lt4.false, ← found.next_trim_class.ensures.0, told.in-NoChange.is)
     (refl, (refl, (put.put_four.ensures ∙ numbers, refl)))
 
-returns_5 : tie.Need-returns-in-Refused
+returns_5 : tie.Need-returns-in-Err
 returns_5 c =
     let told = c.before.before.before.before in
     let found = told.before in
     let put = c.put_refusal.ensures in
-    rw (roomy 2 _ found.if-lent-lt2.false, roomy 4 _ found.if-answer-lt4.false, ← found.next_trim_class.ensures.0, told.in-Refused.is)
+    rw (roomy 2 _ found.if-lent-lt2.false, roomy 4 _ found.if-answer-lt4.false, ← found.next_trim_class.ensures.0, told.in-Err.is)
     (put.0, (put.1, (refl, refl)))
 
 pub station_air_next_trim_class_spec : {M : Type 1} → statement M

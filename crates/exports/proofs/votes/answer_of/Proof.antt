@@ -8,6 +8,6 @@ answer_of_spec =
     tie.close (tie.spec (λ c. search rules)
     (λ c. search rules)
     (λ c. search rules)
-    (λ c. rw c.in-Figures.is refl)
+    (λ c. rw c.in-Ok.is refl)
     (λ c. rw c.in-Mast.is refl)
-    (λ c. rw c.in-Refused.is refl))
+    (λ c. rw c.in-Err.is refl))

@@ -1,8 +1,7 @@
 -- `lines::asked::put_function_answer` meets its contract. Assumes nothing.
 use Rattle.arithmetic.proofs.Kit.{◌≡◌, refl, sym, ap, ap₂, ◌∙◌, true, false, List, [], ℕ, ◌≤◌, ◌<◌, lt-ltb, le-ltb, get_or, rules}
 use Rattle.pages.proofs.Growing.{same_more}
-use Rattle.questions.specs.Words.{place_in}
-use Rattle.questions.specs.Words.{line_parts}
+use Rattle.questions.specs.Words.{place_in, line_parts}
 use Rattle.questions.specs.Forms.{fits, wrong_line}
 use Rattle.lines.specs.Asked.{name_text, shape_text, function_names, function_shapes, unknown_line, function_numbered, numbered_function, function_answer}
 use Rattle.lines.proofs.asked.put_function_answer.Statement.{statement}

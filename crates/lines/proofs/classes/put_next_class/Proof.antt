@@ -14,8 +14,8 @@ returns_2 : tie.Need-returns-in-NoChange
 returns_2 c =
     (same_more (ap class_text (ap trim_outcome (sym c.in-NoChange.is) ∙ c.next_trim_class.ensures.0)) (and_then c.put_class-classed-in-NoChange.ensures c.put.ensures.0), refl)
 
-returns_3 : tie.Need-returns-in-Refused
-returns_3 c = (same_more (ap class_text (ap trim_outcome (sym c.in-Refused.is) ∙ c.next_trim_class.ensures.0)) c.put_refusal.ensures, refl)
+returns_3 : tie.Need-returns-in-Err
+returns_3 c = (same_more (ap class_text (ap trim_outcome (sym c.in-Err.is) ∙ c.next_trim_class.ensures.0)) c.put_refusal.ensures, refl)
 
 pub put_next_class_spec : {M : Type 1} → statement M
 put_next_class_spec =

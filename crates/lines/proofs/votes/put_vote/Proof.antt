@@ -6,17 +6,17 @@ use Rattle.lines.specs.Votes.{mast_text, vote_text}
 use Rattle.lines.proofs.votes.put_vote.Statement.{statement}
 use Rattle.lines.proofs.votes.put_vote.Tie as tie
 
-returns : tie.Need-returns-in-Figures
+returns : tie.Need-returns-in-Ok
 unfolding vote_text mast_text
-returns c = (same_more (ap vote_text (ap vote_outcome (sym c.in-Figures.is) ∙ c.vote.ensures.0)) c.put_figures.ensures, (refl, (refl, refl)))
+returns c = (same_more (ap vote_text (ap vote_outcome (sym c.in-Ok.is) ∙ c.vote.ensures.0)) c.put_figures.ensures, (refl, (refl, refl)))
 
 returns_2 : tie.Need-returns-in-Mast
 unfolding vote_text
 returns_2 c = (same_more (ap vote_text (ap vote_outcome (sym c.in-Mast.is) ∙ c.vote.ensures.0)) c.put_mast.ensures, (refl, (refl, refl)))
 
-returns_3 : tie.Need-returns-in-Refused
+returns_3 : tie.Need-returns-in-Err
 unfolding vote_text mast_text
-returns_3 c = (same_more (ap vote_text (ap vote_outcome (sym c.in-Refused.is) ∙ c.vote.ensures.0)) c.put_refusal.ensures, (refl, (refl, refl)))
+returns_3 c = (same_more (ap vote_text (ap vote_outcome (sym c.in-Err.is) ∙ c.vote.ensures.0)) c.put_refusal.ensures, (refl, (refl, refl)))
 
 pub put_vote_spec : {M : Type 1} → statement M
 put_vote_spec =

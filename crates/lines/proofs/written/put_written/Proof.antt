@@ -1,7 +1,8 @@
 -- `lines::written::put_written` meets its contract. Assumes nothing.
+use Rattle.std.specs.Prelude.{Result}
+use Rattle.refusal.specs.declared.Refusal.{Refusal}
 use Rattle.arithmetic.proofs.Kit.{sym, ap, subst, ◌≤◌, arith, rules, length-take}
-use Rattle.writer.specs.declared.Written.{Written}
-use Rattle.writer.specs.Written.{written}
+use Rattle.refusal.specs.Outcomes.{outcome}
 use Rattle.load_text.specs.Text.{length_taken}
 use Rattle.pages.proofs.Growing.{same_more}
 use Rattle.lines.specs.Written.{length_text, text_in}
@@ -9,20 +10,20 @@ use Rattle.lines.proofs.written.put_written.Statement.{statement}
 use Rattle.lines.proofs.written.put_written.Tie as tie
 
 -- the buffer has so many bytes
-few : (c : tie.In-Length) → c.in-Length.n ≤ 154
-few c = subst (λ (w : Written). length_taken (written w) ≤ 154) c.in-Length.is c.requires.1
+few : (c : tie.In-Ok) → c.in-Ok.n ≤ 154
+few c = subst (λ (w : (Result ℕ Refusal)). length_taken (outcome w) ≤ 154) c.in-Ok.is c.requires.1
 
-returns : tie.Need-returns-in-Length
+returns : tie.Need-returns-in-Ok
 returns c =
     let told = c in
     let out = told.args.out.now in
-    same_more (sym (ap (λ (w : Written). text_in length_text (written w) out) told.in-Length.is)) c.put_length.ensures
+    same_more (sym (ap (λ (w : (Result ℕ Refusal)). text_in length_text (outcome w) out) told.in-Ok.is)) c.put_length.ensures
 
-returns_2 : tie.Need-returns-in-Refused
+returns_2 : tie.Need-returns-in-Err
 returns_2 c =
     let told = c in
     let out = told.args.out.now in
-    same_more (sym (ap (λ (w : Written). text_in length_text (written w) out) told.in-Refused.is)) c.put_refusal.ensures
+    same_more (sym (ap (λ (w : (Result ℕ Refusal)). text_in length_text (outcome w) out) told.in-Err.is)) c.put_refusal.ensures
 
 pub put_written_spec : {M : Type 1} → statement M
 put_written_spec =

@@ -1,11 +1,11 @@
 -- `mast::checks::check_values` meets its contract: its checks are the rows, in their order. Assumes nothing.
-use Rattle.mast.proofs.Kit.{◌≡◌, ap, ◌∙◌, List, ◌++◌, Float, rules, Entry, Outcome, Row, passed, first-passed, temperature_rows, altitude, temperature, station_pressure, qnh, humidity, measured_pressure, entry_of, finite_rows, pressure_rows, humidity_rows, present}
+use Rattle.mast.proofs.Kit.{◌≡◌, ap, ◌∙◌, List, ◌++◌, Float, rules, Option, Outcome, Row, passed, first-passed, temperature_rows, altitude, temperature, station_pressure, qnh, humidity, measured_pressure, entry_of, finite_rows, pressure_rows, humidity_rows, present}
 use Rattle.mast.proofs.checks.check_values.Statement.{statement}
 use Rattle.mast.proofs.checks.check_values.Tie as tie
 
 -- a check of an entry that was looked up
-of : (rows : Float → List Row) {e e' : Entry} {o : Outcome (Unit {0})} → o ≡ passed (present rows e) → e ≡ e' → o ≡ passed (present rows e')
-of rows p q = p ∙ ap (λ (e : Entry). passed (present rows e)) q
+of : (rows : Float → List Row) {e e' : (Option Float)} {o : Outcome (Unit {0})} → o ≡ passed (present rows e) → e ≡ e' → o ≡ passed (present rows e')
+of rows p q = p ∙ ap (λ (e : (Option Float)). passed (present rows e)) q
 
 returns : tie.Need-returns
 returns c =

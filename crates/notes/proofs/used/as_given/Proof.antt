@@ -1,8 +1,8 @@
 -- `notes::used::as_given` meets its contract. Assumes nothing.
+use Rattle.std.specs.Prelude.{Float, Option}
 use Rattle.arithmetic.proofs.Kit.{ap, ap₂, ◌∙◌, rules}
 use Rattle.atmosphere.specs.declared.given.Reading.{Reading}
 use Rattle.fields.specs.Fields.{temperature, station_pressure}
-use Rattle.record.specs.declared.entries.Entry.{Entry}
 use Rattle.record.specs.Entries.{entry_of}
 use Rattle.station.specs.declared.resolved.Resolved.{Resolved}
 use Rattle.station.specs.Resolved.{given_temperature}
@@ -19,7 +19,7 @@ returns c =
     let station = c in
     let r = station.args.readings in
     ap₂ (with station.ordinary-station.result) (warm.given_temperature.ensures ∙ ap given_temperature warm.entry_of.ensures)
-    (c.pressure_as_given.ensures ∙ ap (λ (e : Entry). pressure_as_given e station.ordinary-station.result.pressure) c.entry_of-2.ensures)
+    (c.pressure_as_given.ensures ∙ ap (λ (e : (Option Float)). pressure_as_given e station.ordinary-station.result.pressure) c.entry_of-2.ensures)
     ∙ ap (λ (s : Resolved). with s (given_temperature (entry_of r temperature)) (pressure_as_given (entry_of r station_pressure) s.pressure)) station.ordinary-station.ensures
 
 pub as_given_spec : {M : Type 1} → statement M

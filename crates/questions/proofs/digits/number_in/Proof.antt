@@ -24,7 +24,7 @@ unfolding number_in
 some_digit [] h = absurd (omega arith)
 some_digit (b ∷ s) h = refl
 
-returns_2 : tie.Need-returns-in-Nothing invariant_loop decreases_loop
+returns_2 : tie.Need-returns-in-None invariant_loop decreases_loop
 returns_2 c =
     let s = c.args.text.now in
     let i : ℕ = c.loop-i.i in
@@ -33,7 +33,7 @@ returns_2 c =
           (some_digit s (omega arith)
           ∙ c.loop-i.invariant.1
           ∙ number_passed s i (omega arith) c.loop-i.value
-          ∙ ap (λ (n : Number). n ⟫ rest) (sym c.with_digit.ensures ∙ c.in-Nothing.is)),
+          ∙ ap (λ (n : Number). n ⟫ rest) (sym c.with_digit.ensures ∙ c.in-None.is)),
       refl,
     )
 

@@ -10,4 +10,4 @@ is_number_spec =
     (λ c. search rules)
     (λ c. search rules)
     (λ c. sym (ap is_found (sym c.number_in.ensures.0 ∙ c.in-Of.is)))
-    (λ c. sym (ap is_found (sym c.number_in.ensures.0 ∙ c.in-Nothing.is))))
+    (λ c. sym (ap is_found (sym c.number_in.ensures.0 ∙ c.in-None.is))))

@@ -1,8 +1,7 @@
 -- `questions::words::place` meets its contract. The loop's invariant: none of the names passed is the word. Assumes nothing.
 use Rattle.arithmetic.proofs.Kit.{◌≡◌, refl, sym, ap, ◌∙◌, List, [], ℕ, suc, ◌+◌, ◌-◌, ◌≤◌, arith, length, drop, rules}
-use Rattle.questions.specs.Words.{place_in}
+use Rattle.questions.specs.Words.{place_in, line_parts}
 use Rattle.questions.proofs.Names.{first, later}
-use Rattle.questions.specs.Words.{line_parts}
 use Rattle.questions.proofs.Split.{next_at_lem, last-at, some_at}
 use Rattle.questions.proofs.words.place.Statement.{statement}
 use Rattle.questions.proofs.words.place.Tie as tie

@@ -1,5 +1,5 @@
 -- `record::entries::stored_of` meets its contract. Assumes nothing.
-use Rattle.record.proofs.Kit.{◌≡◌, sym, ap, ◌≤◌, arith, rules, length, List·getD-eq-default, Slot, Absent, meanings, slot_of}
+use Rattle.record.proofs.Kit.{◌≡◌, sym, ap, ◌≤◌, arith, rules, length, List·getD-eq-default, Option, None, meanings}
 use Rattle.record.proofs.entries.stored_of.Statement.{statement}
 use Rattle.record.proofs.entries.stored_of.Tie as tie
 
@@ -8,7 +8,7 @@ returns c =
     let a = c.args in
     let all : length a.readings.slots ≡ meanings = c.well_formed.0.1.1.0.1.0.1 in
     let past : length a.readings.slots ≤ a.meaning = omega arith in
-    sym (ap (λ (s : Slot). s.stored) (List·getD-eq-default a.readings.slots (slot_of Absent) past))
+    sym ((List·getD-eq-default a.readings.slots None past))
 
 pub stored_of_spec : {M : Type 1} → statement M
 stored_of_spec = tie.close (tie.spec returns

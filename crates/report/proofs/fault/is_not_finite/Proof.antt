@@ -11,4 +11,4 @@ is_not_finite_spec =
     (λ c. search rules)
     (λ c κs. search rules)
     (λ c. ap not_finite (sym c.in-Absent.is ∙ c.entry_of.ensures))
-    (λ c. ap not c.is_finite.ensures ∙ ap not_finite (sym c.in-Present.is ∙ c.entry_of.ensures)))
+    (λ c. ap not c.is_finite.ensures ∙ ap not_finite (sym c.in-Some.is ∙ c.entry_of.ensures)))

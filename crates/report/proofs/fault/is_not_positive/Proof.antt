@@ -10,4 +10,4 @@ is_not_positive_spec =
     (λ c. search rules)
     (λ c. search rules)
     (λ c. ap not_positive (sym c.in-Absent.is ∙ c.entry_of.ensures))
-    (λ c. ap not_positive (sym c.in-Present.is ∙ c.entry_of.ensures)))
+    (λ c. ap not_positive (sym c.in-Some.is ∙ c.entry_of.ensures)))

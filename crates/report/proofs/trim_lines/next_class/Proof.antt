@@ -26,12 +26,12 @@ returns_2 c =
     let a = c.args in
     kept a.readings a.figures c.in-NoChange.is c.next_trim_class_of_readings-next.ensures refl
 
-returns_3 : tie.Need-returns-in-Refused
+returns_3 : tie.Need-returns-in-Err
 returns_3 c =
     let told = c in
     let a = told.args in
     c.next_trim_class_of_readings.ensures ∙ ap next_of c.shown_station.ensures
-    ∙ by_answer a.readings a.figures told.in-Refused.is told.next_trim_class_of_readings-next.ensures
+    ∙ by_answer a.readings a.figures told.in-Err.is told.next_trim_class_of_readings-next.ensures
 
 pub next_class_spec : {M : Type 1} → statement M
 next_class_spec =

@@ -13,10 +13,10 @@ returns c = same_more (ap (λ (t : Trim). next_class_line (trim_outcome t)) (sym
 returns_2 : tie.Need-returns-in-NoChange
 returns_2 c = same_more (ap (λ (t : Trim). next_class_line (trim_outcome t)) (sym c.in-NoChange.is)) c.put.ensures.0
 
-returns_3 : tie.Need-returns-in-Refused
+returns_3 : tie.Need-returns-in-Err
 returns_3 c =
     let a = c.args in
-    same_more (ap (λ (t : Trim). next_class_line (trim_outcome t)) (sym c.in-Refused.is)) (no_more a.page.now a.at)
+    same_more (ap (λ (t : Trim). next_class_line (trim_outcome t)) (sym c.in-Err.is)) (no_more a.page.now a.at)
 
 pub put_next_spec : {M : Type 1} → statement M
 put_next_spec =

@@ -1,5 +1,5 @@
 -- `sheet::page::write_rows` meets its contract. The loop's invariant: the page begins with the rows of the turns passed. Assumes nothing.
-use Rattle.sheet.proofs.Kit.{◌≡◌, refl, sym, ap, ap₂, ◌∙◌, List, ℕ, suc, ◌+◌, ◌-◌, ◌*◌, ◌≤◌, ◌<◌, add-one, arith, rules, Float, length, take, take_all, Outcome, accepted, checked, over, over_or_left, row_outcome, celsius_of_row, rows, bare}
+use Rattle.sheet.proofs.Kit.{◌≡◌, refl, sym, ap, ap₂, ◌∙◌, List, ℕ, suc, ◌+◌, ◌-◌, ◌*◌, ◌≤◌, ◌<◌, add-one, arith, rules, Float, length, take, take_all, Outcome, accepted, outcome, over, over_or_left, row_outcome, celsius_of_row, rows, bare}
 use Rattle.sheet.proofs.OnAPage.{over-length, over_front}
 use Rattle.sheet.proofs.Outcomes.{bare-accepted, bare-refused, line-length, next_row, stays}
 use Rattle.sheet.proofs.page.write_rows.Statement.{statement}
@@ -19,7 +19,7 @@ turn w = w.before.before.before.before
 abbrev outcome_of : tie.After-write_row invariant_loop decreases_loop → Outcome (List ℕ)
 outcome_of w = let a = (turn w).before.before.args in row_outcome a.altitude_m a.pressure_hpa a.humidity_percent (celsius_of_row (turn w).loop-n.n)
 
-row_is : (w : tie.After-write_row invariant_loop decreases_loop) → checked w.write_row.result ≡ bare (outcome_of w)
+row_is : (w : tie.After-write_row invariant_loop decreases_loop) → outcome w.write_row.result ≡ bare (outcome_of w)
 row_is w =
     let a = (turn w).before.before.args in
     w.write_row.ensures.0
@@ -32,7 +32,7 @@ page_is w =
     ∙ ap (λ (t : Float). over_or_left (turn w).loop-n.page (30 * (turn w).loop-n.n) (row_outcome a.altitude_m a.pressure_hpa a.humidity_percent t))
     w.celsius.ensures
 
-returns : tie.Need-returns-in-Refused invariant_loop decreases_loop
+returns : tie.Need-returns-in-Err invariant_loop decreases_loop
 returns c =
     let told = c in
     let w = told.before.before.before in
@@ -41,7 +41,7 @@ returns c =
     let rest : 51 ≡ suc n + (51 - suc n) = omega (arith, w.loop-n-test.true) in
     let here =
     next_row a.altitude_m a.pressure_hpa a.humidity_percent n _ (turn w).loop-n.invariant.2
-    (bare-refused (outcome_of w) (sym (row_is w) ∙ ap checked told.in-Refused.is)) in
+    (bare-refused (outcome_of w) (sym (row_is w) ∙ ap outcome told.in-Err.is)) in
     ap (rows a.altitude_m a.pressure_hpa a.humidity_percent) rest
     ∙ stays a.altitude_m a.pressure_hpa a.humidity_percent (suc n) (51 - suc n) here
 
@@ -51,7 +51,7 @@ loop_again c =
     let a = (turn w).before.before.args in
     let n = (turn w).loop-n.n in
     let page = (turn w).loop-n.page in
-    let good = bare-accepted (outcome_of w) (sym (row_is w) ∙ ap checked c.in-Passed.is) in
+    let good = bare-accepted (outcome_of w) (sym (row_is w) ∙ ap outcome c.in-Ok.is) in
     let long = line-length a.altitude_m a.pressure_hpa a.humidity_percent (celsius_of_row n) good.0 good.1 in
     let below : n < 51 = w.loop-n-test.true in
     let room : 30 * n + length good.0 ≤ length page = omega (arith, (turn w).loop-n.invariant.1) in

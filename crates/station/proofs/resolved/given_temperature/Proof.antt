@@ -7,5 +7,5 @@ use Rattle.station.proofs.resolved.given_temperature.Tie as tie
 pub given_temperature_spec : {M : Type 1} → statement M
 given_temperature_spec = tie.close (tie.spec (λ c. search rules)
     (λ c. search rules)
-    (λ c. ap given_temperature (sym c.in-Present.is))
+    (λ c. ap given_temperature (sym c.in-Some.is))
     (λ c. search rules))

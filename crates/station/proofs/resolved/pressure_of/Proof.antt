@@ -1,6 +1,6 @@
 -- `station::resolved::pressure_of` meets its contract. Assumes nothing.
+use Rattle.std.specs.Prelude.{Float, Option}
 use Rattle.arithmetic.proofs.Kit.{◌≡◌, sym, ap, ap₂, ◌∙◌, rules}
-use Rattle.record.specs.declared.entries.Entry.{Entry}
 use Rattle.record.specs.declared.entries.Readings.{Readings}
 use Rattle.fields.specs.Fields.{measured_pressure, station_pressure, qnh}
 use Rattle.record.specs.Entries.{entry_of}
@@ -12,8 +12,8 @@ use Rattle.station.proofs.resolved.pressure_of.Tie as tie
 abbrev other : Readings → Pressure
 other r = unmeasured_pressure (entry_of r station_pressure) (entry_of r qnh)
 
-measured : (r : Readings) {e e' : Entry} → e ≡ entry_of r measured_pressure → e ≡ e' → measured_or e' (other r) ≡ pressure_of r
-measured r looked told = ap (λ (e : Entry). measured_or e (other r)) (sym told ∙ looked)
+measured : (r : Readings) {e e' : (Option Float)} → e ≡ entry_of r measured_pressure → e ≡ e' → measured_or e' (other r) ≡ pressure_of r
+measured r looked told = ap (λ (e : (Option Float)). measured_or e (other r)) (sym told ∙ looked)
 
 returns_2 : tie.Need-returns-in-Absent
 returns_2 c =
@@ -29,5 +29,5 @@ pressure_of_spec =
     (λ c κs. search rules)
     (λ c κs. search rules)
     (λ c κs. search rules)
-    (λ c. let looked = c.before in measured looked.args.readings looked.entry_of.ensures c.in-Present.is)
+    (λ c. let looked = c.before in measured looked.args.readings looked.entry_of.ensures c.in-Some.is)
     returns_2)

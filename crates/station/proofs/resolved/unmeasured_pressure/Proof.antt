@@ -1,6 +1,6 @@
 -- `station::resolved::unmeasured_pressure` meets its contract. Assumes nothing.
+use Rattle.std.specs.Prelude.{Float, Option}
 use Rattle.arithmetic.proofs.Kit.{sym, ap, ap₂, rules}
-use Rattle.record.specs.declared.entries.Entry.{Entry}
 use Rattle.station.specs.Resolved.{unmeasured_pressure}
 use Rattle.station.proofs.resolved.unmeasured_pressure.Statement.{statement}
 use Rattle.station.proofs.resolved.unmeasured_pressure.Tie as tie
@@ -11,6 +11,6 @@ unmeasured_pressure_spec =
     (λ c. search rules)
     (λ c. search rules)
     (λ c. search rules)
-    (λ c. let a = c.args in ap (λ (e : Entry). unmeasured_pressure e a.qnh_hpa) (sym c.in-Present.is))
-    (λ c. ap₂ unmeasured_pressure (sym c.in-Absent.is) (sym c.in-Present-qnh_hpa.is))
+    (λ c. let a = c.args in ap (λ (e : (Option Float)). unmeasured_pressure e a.qnh_hpa) (sym c.in-Some.is))
+    (λ c. ap₂ unmeasured_pressure (sym c.in-Absent.is) (sym c.in-Some-qnh_hpa.is))
     (λ c. search rules))

@@ -8,4 +8,4 @@ is_not_in_all_spec =
     tie.close (tie.spec (λ c κs. search rules)
     (λ c κs. search rules)
     (λ c κs. search rules)
-    (λ c. rw (c.is_present-first.ensures, c.is_present-second.ensures, c.is_present-third.ensures)))
+    (λ c. rw (c.is_some-first.ensures, c.is_some-second.ensures, c.is_some-third.ensures)))

@@ -1,32 +1,33 @@
 -- `vote::masts::accepted_readings` meets its contract: a refusal of the reading, or else of the judge, is the last word. Assumes nothing.
-use Rattle.vote.proofs.Kit.{◌≡◌, refl, sym, ap, ◌∙◌, false, List, ℕ, rules, Outcome, accepted, ◌⟫◌, checked, Readings, read_record, parts, read_parts, Figures, judged, accepted_readings}
-use Rattle.refusal.specs.declared.Check.{Check}
+use Rattle.std.specs.Prelude.{Result}
+use Rattle.refusal.specs.declared.judge.Figures.{Figures}
+use Rattle.refusal.specs.declared.Refusal.{Refusal}
+use Rattle.vote.proofs.Kit.{◌≡◌, refl, sym, ap, ◌∙◌, false, List, ℕ, rules, Outcome, accepted, ◌⟫◌, outcome, Readings, read_record, parts, read_parts, Figures, judged, accepted_readings}
 use Rattle.record.specs.declared.readings.Read.{Read}
 use Rattle.record.proofs.Parts.{outcome-of-parts}
-use Rattle.refusal.specs.declared.judge.Answer.{Answer}
-use Rattle.refusal.specs.Judged.{outcome}
+use Rattle.refusal.specs.Outcomes.{outcome}
 use Rattle.vote.proofs.masts.accepted_readings.Statement.{statement}
 use Rattle.vote.proofs.masts.accepted_readings.Tie as tie
 
 abbrev where_accepted : Readings → Outcome Readings
 where_accepted r = judged r ⟫ (λ _. accepted r)
 
-by_read : (s : List ℕ) (r : Read) {k : Check} → r.check ≡ k → parts r ≡ read_parts (read_record false s) → ((checked k ⟫ (λ _. accepted r.readings)) ⟫ where_accepted) ≡ accepted_readings s
+by_read : (s : List ℕ) (r : Read) {k : (Result (Unit {0}) Refusal)} → r.check ≡ k → parts r ≡ read_parts (read_record false s) → ((outcome k ⟫ (λ _. accepted r.readings)) ⟫ where_accepted) ≡ accepted_readings s
 unfolding accepted_readings
-by_read s r told e = ap (λ (o : Outcome Readings). o ⟫ where_accepted) (ap (λ (k : Check). checked k ⟫ (λ _. accepted r.readings)) (sym told) ∙ outcome-of-parts r (read_record false s) e)
+by_read s r told e = ap (λ (o : Outcome Readings). o ⟫ where_accepted) (ap (λ (k : (Result (Unit {0}) Refusal)). outcome k ⟫ (λ _. accepted r.readings)) (sym told) ∙ outcome-of-parts r (read_record false s) e)
 
-by_answer : (r : Readings) {a a' : Answer} → a ≡ a' → outcome a ≡ judged r → (outcome a' ⟫ (λ _. accepted r)) ≡ where_accepted r
+by_answer : (r : Readings) {a a' : (Result Figures Refusal)} → a ≡ a' → outcome a ≡ judged r → (outcome a' ⟫ (λ _. accepted r)) ≡ where_accepted r
 by_answer r told e = ap (λ (o : Outcome Figures). o ⟫ (λ _. accepted r)) (ap outcome (sym told) ∙ e)
 
-returns : tie.Need-returns-in-Refused
+returns : tie.Need-returns-in-Err
 returns c =
     let read = c.before in
-    let told = c.in-Refused.is in
+    let told = c.in-Err.is in
     let s = read.args.bytes.now in
-    (ap (λ (k : Check). checked k ⟫ (λ _. accepted read.read_record-read.result.readings)) told ∙ by_read s read.read_record-read.result told read.read_record-read.ensures.0, refl)
+    (ap (λ (k : (Result (Unit {0}) Refusal)). outcome k ⟫ (λ _. accepted read.read_record-read.result.readings)) told ∙ by_read s read.read_record-read.result told read.read_record-read.ensures.0, refl)
 
 -- past the reading
-passed : (c : tie.After-judge_readings) {a : Answer} → c.judge_readings.result ≡ a → let read = c.before.before.before in
+passed : (c : tie.After-judge_readings) {a : (Result Figures Refusal)} → c.judge_readings.result ≡ a → let read = c.before.before.before in
     (outcome a ⟫ (λ _. accepted read.read_record-read.result.readings)) ≡ accepted_readings read.args.bytes.now
 passed c told =
     let read = c.before.before.before in
@@ -42,5 +43,5 @@ accepted_readings_spec =
     (λ c κs. search rules)
     (λ c. search rules)
     (λ c. search rules)
-    (λ c. (passed c.before c.in-Refused-judge_readings.is, refl))
-    (λ c. (passed c.before c.in-Figures.is, refl)))
+    (λ c. (passed c.before c.in-Err-judge_readings.is, refl))
+    (λ c. (passed c.before c.in-Ok.is, refl)))

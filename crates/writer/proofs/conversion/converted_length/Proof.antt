@@ -1,6 +1,6 @@
 -- `writer::conversion::converted_length` meets its contract. The loop's invariant: the bytes counted and those of the fields that are left are the record's, and no field so far
 -- is refused. Assumes nothing.
-use Rattle.writer.proofs.Kit.{◌≡◌, refl, sym, ap, ap₂, ◌∙◌, Bool, cond, List, [], ℕ, ◌+◌, ◌-◌, ◌≤◌, arith, rules, length, drop, length-append, drop_of_length-le, Outcome, accepted, refused, ◌then◌, heads_from, stepped, size_as, turned_of, has_no_count, field_in, fields_of, fields_in, record_in, count_rows}
+use Rattle.writer.proofs.Kit.{◌≡◌, refl, sym, ap, ap₂, ◌∙◌, Bool, cond, List, [], ℕ, ◌+◌, ◌-◌, ◌≤◌, arith, rules, length, drop, length-append, drop_of_length-le, Outcome, accepted, refused, ◌then◌, heads_from, outcome, size_as, turned_of, has_no_count, field_in, fields_of, fields_in, record_in, count_rows}
 use Rattle.writer.proofs.Split.{Whole, is-all-whole, length_as, few_bytes}
 use Rattle.writer.proofs.Place.{Place, never-refused, Here, here, on, whole-after, length-here, turned-here, split-here}
 use Rattle.writer.proofs.conversion.converted_length.Statement.{statement}
@@ -37,7 +37,7 @@ abbrev step : tie.In-Field invariant_loop decreases_loop → tie.After-step_from
 step c = c.before
 
 abbrev field_at : (c : tie.In-Field invariant_loop decreases_loop) → Here (s (step c)) (at (step c))
-field_at c = record { place = place (step c); read = c.in-Field.field; next = c.in-Field.next; found = sym (step c).step_from.ensures.0 ∙ ap stepped c.in-Field.is }
+field_at c = record { place = place (step c); read = c.in-Field.field; next = c.in-Field.next; found = sym (step c).step_from.ensures.0 ∙ ap outcome c.in-Field.is }
 
 turned_so : (c : tie.After-turn-turned invariant_loop decreases_loop) → c.turn-turned.result ≡ turned_of (counts (step c.before)) (here (field_at c.before))
 turned_so c = c.turn-turned.ensures ∙ turned-here (field_at c.before) (counts (step c.before))
@@ -95,7 +95,7 @@ converted_length_spec =
     (λ c κs. search rules)
     (λ c. search rules)
     (λ c. search rules)
-    (λ c. absurd (never-refused (place c.before) (sym c.step_from.ensures.0 ∙ ap stepped c.in_default.is)))
+    (λ c. absurd (never-refused (place c.before) (sym c.step_from.ensures.0 ∙ ap outcome c.in_default.is)))
     (λ c κs. search rules)
     (λ c κs. search rules)
     (λ c. sym (by_field c.before c.if-has_no_count.true))

@@ -1,6 +1,6 @@
 -- `writer::conversion::put_converted` meets its contract. The loop's invariant: the fields that are left, stored from the place on, make the buffer what the whole record makes
 -- it. Assumes nothing.
-use Rattle.writer.proofs.Kit.{◌≡◌, refl, sym, ap, ◌∙◌, Bool, List, ◌++◌, ℕ, ◌+◌, ◌-◌, ◌≤◌, arith, rules, length, drop, length-append, drop_of_length-le, sets, Turned, heads_from, stepped, field_as, fields_in, record_in}
+use Rattle.writer.proofs.Kit.{◌≡◌, refl, sym, ap, ◌∙◌, Bool, List, ◌++◌, ℕ, ◌+◌, ◌-◌, ◌≤◌, arith, rules, length, drop, length-append, drop_of_length-le, sets, Turned, heads_from, outcome, field_as, fields_in, record_in}
 use Rattle.writer.proofs.Bytes.{sets_append}
 use Rattle.writer.proofs.Split.{Whole, is-all-whole}
 use Rattle.writer.proofs.Place.{Place, never-refused, Here, here, on, whole-after, turned-here, split-here}
@@ -35,7 +35,7 @@ abbrev step : tie.In-Field invariant_loop decreases_loop → tie.After-step_from
 step c = c.before
 
 abbrev field_at : (c : tie.In-Field invariant_loop decreases_loop) → Here (s (step c)) (at (step c))
-field_at c = record { place = place (step c); read = c.in-Field.field; next = c.in-Field.next; found = sym (step c).step_from.ensures.0 ∙ ap stepped c.in-Field.is }
+field_at c = record { place = place (step c); read = c.in-Field.field; next = c.in-Field.next; found = sym (step c).step_from.ensures.0 ∙ ap outcome c.in-Field.is }
 
 -- the field there as it is put, and those after it
 module _ (c : tie.After-turn-turned invariant_loop decreases_loop) where
@@ -96,7 +96,7 @@ put_converted_spec =
     (λ c. search rules)
     (λ c. search rules)
     (λ c. c.loop-at.invariant.1.1.0)
-    (λ c. absurd (never-refused (place c.before) (sym c.step_from.ensures.0 ∙ ap stepped c.in_default.is)))
+    (λ c. absurd (never-refused (place c.before) (sym c.step_from.ensures.0 ∙ ap outcome c.in_default.is)))
     (λ c κs. search rules)
     (λ c. omega (arith, on (field_at c.before)))
     (λ c. omega (arith, on (field_at c.before)))
