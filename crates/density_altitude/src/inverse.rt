@@ -73,17 +73,16 @@ fn is_finite_above(x: f64, bound: f64) -> bool
 fn has_air(station: Station) -> bool
     ensures { result ≡ has_air station }
 {
-    if !is_finite(station.altitude_m) {
-        return false;
-    }
-    if !is_finite_above(station.pressure_hpa, 0.0) {
-        return false;
-    }
-    is_finite_above(station.temperature_c, ABSOLUTE_ZERO_C)
+    is_finite(station.altitude_m)
+        && is_finite_above(station.pressure_hpa, 0.0)
+        && is_finite_above(station.temperature_c, ABSOLUTE_ZERO_C)
 }
 
 // The resolved station, or that there is no air.
-fn checked_station(density_altitude_m: f64, explicit_temperature_c: Reading) -> Result<Station, Refusal>
+fn checked_station(
+    density_altitude_m: f64,
+    explicit_temperature_c: Reading,
+) -> Result<Station, Refusal>
     ensures { outcome result ≡ (resolved_rows density_altitude_m (resolve places density_altitude_m explicit_temperature_c)
         then accepted (resolve places density_altitude_m explicit_temperature_c)) }
 {
@@ -133,8 +132,6 @@ pub fn station_for_density_altitude(
         !is_finite(density_altitude_m),
         Refusal::DensityAltitudeNotFinite(density_altitude_m),
     );
-    match first_of(altitude, check_given(explicit_temperature_c)) {
-        Err(refusal) => Err(refusal),
-        Ok(()) => checked_station(density_altitude_m, explicit_temperature_c),
-    }
+    first_of(altitude, check_given(explicit_temperature_c))?;
+    checked_station(density_altitude_m, explicit_temperature_c)
 }
