@@ -1,7 +1,6 @@
 -- A field of the mast record, document 01: one-byte tag, two-byte length, data; big-endian. It stands at the head of the bytes s. Definitions only.
-use Rattle.refusal.specs.declared.Refusal.{Refusal}
-use Rattle.std.specs.Prelude.{ℕ, zero, suc, ◌+◌, ◌-◌, Bool, true, false, not, ◌&&◌, ◌||◌, cond, List, [], ◌∷◌, ltb, leb, eqb, length, get_or, drop, Float, Result}
-use Rattle.refusal.specs.Outcomes.{Outcome, accepted, refusal, ◌⟫◌, Row, row, ◌then◌}
+use Rattle.std.specs.Prelude.{ℕ, zero, suc, ◌+◌, ◌-◌, Bool, true, false, not, ◌&&◌, ◌||◌, cond, List, [], ◌∷◌, ltb, leb, eqb, length, get_or, drop, Float}
+use Rattle.refusal.specs.Outcomes.{Outcome, accepted, ◌⟫◌, Row, row, ◌then◌}
 use Rattle.thousandths.specs.Thousandths.{count_of, thousandths}
 use Rattle.fields.specs.declared.fields.Field.{Field}
 use Rattle.fields.specs.declared.fields.Value.{Value}

@@ -2,7 +2,7 @@
 -- strict reader takes only rising ones. Definitions only.
 use Rattle.std.specs.Prelude.{ℕ, Bool, ◌&&◌, ltb, is_some}
 use mathlib.Core.List.{List, [], ◌∷◌, ◌++◌, map, foldl}
-use Rattle.refusal.specs.Outcomes.{Outcome, accepted, refused, ◌⟫◌, Row, row, ◌then◌, outcome}
+use Rattle.refusal.specs.Outcomes.{Outcome, accepted, Row, row, ◌then◌}
 use Rattle.fields.specs.declared.fields.Field.{Field}
 use Rattle.record.specs.declared.entries.Readings.{Readings}
 use Rattle.fields.specs.Fields.{tag_of, field, head_rows, heads}

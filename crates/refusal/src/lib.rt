@@ -123,11 +123,7 @@ pub fn handed_out(refusal: Refusal) -> Values
 pub fn refuse_if(cause: bool, refusal: Refusal) -> Result<(), Refusal>
     ensures { outcome result ≡ passed (row cause (number_of refusal) (values_of refusal) ∷ []) }
 {
-    if cause {
-        Err(refusal)
-    } else {
-        Ok(())
-    }
+    if cause { Err(refusal) } else { Ok(()) }
 }
 
 // The first refusal of two checks, if there is one.

@@ -1,4 +1,4 @@
-use Rattle.fields.proofs.Kit.{◌≡◌, ◌+◌, refl, ℕ, ◌≤◌, ◌<◌, ◌^◌, pow-suc, pow-le-pow_right, arith, add-one, rules, digits_lt, lit<}
+use Rattle.fields.proofs.Kit.{◌+◌, refl, ℕ, ◌≤◌, ◌<◌, ◌^◌, pow-suc, pow-le-pow_right, arith, add-one, digits_lt, lit<}
 use Rattle.fields.specs.Bytes.{number_at}
 use Rattle.fields.proofs.bits.word_at.Goals as goal
 

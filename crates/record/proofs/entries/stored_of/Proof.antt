@@ -1,5 +1,5 @@
 -- `record::entries::stored_of` meets its contract. Assumes nothing.
-use Rattle.record.proofs.Kit.{◌≡◌, sym, ap, ◌≤◌, arith, rules, length, List·getD-eq-default, Option, None, meanings}
+use Rattle.record.proofs.Kit.{◌≡◌, sym, ◌≤◌, arith, rules, length, List·getD-eq-default, None, meanings}
 use Rattle.record.proofs.entries.stored_of.Statement.{statement}
 use Rattle.record.proofs.entries.stored_of.Tie as tie
 

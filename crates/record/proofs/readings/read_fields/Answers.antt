@@ -1,5 +1,5 @@
 -- What a field at a position, and the check of its order, tell of the rest of the record.
-use Rattle.record.proofs.Kit.{◌≡◌, refl, sym, ap, ◌∙◌, ℕ, ◌≤◌, ◌<◌, arith, rules, length, drop, drop_of_length-le, Outcome, accepted, outcome, Value, field_of, next_at, meanings, step-found, step-refused, further}
+use Rattle.record.proofs.Kit.{◌≡◌, sym, ap, ◌∙◌, ◌≤◌, ◌<◌, arith, rules, length, drop, drop_of_length-le, accepted, outcome, field_of, next_at, meanings, step-found, step-refused, further}
 use Rattle.refusal.specs.Outcomes.{refusal}
 use Rattle.record.proofs.Walk.{no_bytes, read}
 use Rattle.record.proofs.Turn.{field-refuses, whole, in_place, order-refuses, moves_on}
