@@ -18,7 +18,7 @@ pub use Rattle.fields.specs.declared.fields.Value.TheVariants.{Count, Double}
 pub use Rattle.record.proofs.EntryLaws.{head-whole, in_order, in_range_lem, is-new, is_whole}
 pub use Rattle.record.proofs.Walk.{any_last, field_rows, no_bytes, read, read_step}
 pub use Rattle.record.specs.Entries.{entry_for, entry_of, no_readings, stored_of, with_value}
-pub use Rattle.record.specs.Readings.{noted, order_rows, read_outcome, read_record, read_rows, readings, rows_of}
+pub use Rattle.record.specs.Readings.{noted, order_rows, outcome, read_record, read_rows, readings, rows_of}
 pub use Rattle.record.specs.declared.entries.Readings.{Readings}
 unfoldable pub use Rattle.writer.specs.Conversion.{converted}
 pub use Rattle.writer.specs.Conversion.{AllIn, count_rows, counted_field, field_as, field_in, fields_in, fields_of, has_no_count, length_converted, record_in, size_as, turned, turned_of, written_in}

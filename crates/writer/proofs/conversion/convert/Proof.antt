@@ -1,14 +1,14 @@
 -- `writer::conversion::convert` meets its contract, check by check. Assumes nothing.
 use Rattle.std.specs.Prelude.{Result}
 use Rattle.refusal.specs.declared.Refusal.{Refusal}
-use Rattle.writer.proofs.Kit.{◌≡◌, sym, ap, ◌∙◌, false, arith, rules, length, accepted, ◌⟫◌, outcome, NoneHolds, then-accepted, read_rows, read_record, read_outcome, record_in, converted}
+use Rattle.writer.proofs.Kit.{◌≡◌, sym, ap, ◌∙◌, false, arith, rules, length, accepted, ◌⟫◌, outcome, NoneHolds, then-accepted, read_rows, read_record, outcome, record_in, converted}
 use Rattle.record.proofs.Parts.{outcome-of-parts}
 use Rattle.writer.proofs.Outcome.{reader-refuses, no_count, counted, refuses, has-no_room, has_room}
 use Rattle.writer.proofs.conversion.convert.Statement.{statement}
 use Rattle.writer.proofs.conversion.convert.Tie as tie
 
 -- the outcome of the record, by what was read
-outcome : (c : tie.After-read_record-read) → read_outcome c.read_record-read.result ≡ read_record false c.args.bytes.now
+outcome : (c : tie.After-read_record-read) → outcome c.read_record-read.result ≡ read_record false c.args.bytes.now
 outcome c = outcome-of-parts c.read_record-read.result (read_record false c.args.bytes.now) c.read_record-read.ensures.0
 
 returns : tie.Need-returns-in-Err
