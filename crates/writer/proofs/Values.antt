@@ -1,7 +1,6 @@
 -- A value in the other form: it means the same double, and comes back. By the laws of counts, their words and their doubles. Assumes nothing.
 use Rattle.writer.proofs.Kit.{◌≡◌, refl, sym, ap, subst, ◌∙◌, Bool, true, false, not, ℕ, arith, ℤ, T, Float, nan, inf, fin, is_nan, finite, Value, Double, Count, is_count, double_of, IsHeld, Kept, Other, counted_field, turned}
-use Rattle.thousandths.specs.declared.Counted.{Counted}
-use Rattle.thousandths.specs.declared.Counted.TheVariants as found
+use Rattle.std.specs.Prelude.{Option, Some, None}
 use Rattle.thousandths.specs.Thousandths.{count_of, twos_complement, thousandths, count_for}
 use Rattle.thousandths.proofs.Words.{twos_complement_lem}
 use Rattle.thousandths.proofs.Laws.{thousandths-fits, count_of-double, double_of-count}
@@ -22,7 +21,7 @@ is_number (inf s) h = absurd h
 is_number (fin s m e) h = refl
 
 -- a double whose count is n, and a count's word
-to-count : (m : ℕ) (x : Float) {n : ℤ} → IsHeld (Double x) → count_for x ≡ found.Count n → TurnedTo true m (Double x) m (Count (twos_complement n))
+to-count : (m : ℕ) (x : Float) {n : ℤ} → IsHeld (Double x) → count_for x ≡ Some n → TurnedTo true m (Double x) m (Count (twos_complement n))
 to-count m x {n} held e =
     let gives = count_of-double.gives_the_double x n held e in
     let again = ap thousandths (twos_complement_lem.count_of_word n gives.0) ∙ gives.1 in
@@ -48,12 +47,12 @@ to-double m word held = record {
 pub turned-to : (counts : Bool) (m : ℕ) (v : Value) {n : ℕ} {w : Value} → IsHeld v → turned counts m v ≡ Other n w → TurnedTo counts m v n w
 turned-to true m (Double x) {n} {w} held e = go (count_for x) refl e
   where
-    go : (c : Counted) → count_for x ≡ c → counted_field m c ≡ Other n w → TurnedTo true m (Double x) n w
-    go (found.Count k) is e =
+    go : (c : Option ℤ) → count_for x ≡ c → counted_field m c ≡ Other n w → TurnedTo true m (Double x) n w
+    go (Some k) is e =
         let t : m ≡ n = cc in
         let u : Count (twos_complement k) ≡ w = cc in
         rw (sym t, sym u) (to-count m x held is)
-    go found.Missing is e = let z : ◌≡◌ {A = ℕ} 0 1 = cc in absurd (omega arith)
+    go None is e = let z : ◌≡◌ {A = ℕ} 0 1 = cc in absurd (omega arith)
 turned-to true m (Count word) held e = let z : ◌≡◌ {A = ℕ} 0 1 = cc in absurd (omega arith)
 turned-to false m (Double x) held e = let z : ◌≡◌ {A = ℕ} 0 1 = cc in absurd (omega arith)
 turned-to false m (Count word) {n} {w} held e =
@@ -65,9 +64,9 @@ turned-to false m (Count word) {n} {w} held e =
 pub kept-form : (counts : Bool) (m : ℕ) (v : Value) → turned counts m v ≡ Kept → is_count v ≡ counts
 kept-form true m (Double x) e = go (count_for x) e
   where
-    go : (c : Counted) → counted_field m c ≡ Kept → false ≡ true
-    go (found.Count n) e = let z : ◌≡◌ {A = ℕ} 0 1 = cc in absurd (omega arith)
-    go found.Missing e = let z : ◌≡◌ {A = ℕ} 0 1 = cc in absurd (omega arith)
+    go : (c : Option ℤ) → counted_field m c ≡ Kept → false ≡ true
+    go (Some n) e = let z : ◌≡◌ {A = ℕ} 0 1 = cc in absurd (omega arith)
+    go None e = let z : ◌≡◌ {A = ℕ} 0 1 = cc in absurd (omega arith)
 kept-form true m (Count word) e = refl
 kept-form false m (Double x) e = refl
 kept-form false m (Count word) e = let z : ◌≡◌ {A = ℕ} 0 1 = cc in absurd (omega arith)

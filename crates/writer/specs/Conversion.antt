@@ -1,9 +1,7 @@
 -- A stored record in counts of thousandths or in doubles, document 02: "convert a stored record to the new form and back, fields in their old order".
 -- Definitions only.
-use Rattle.std.specs.Prelude.{ℕ, ◌≡◌, Bool, true, false, List, [], ◌∷◌, ◌++◌, map, length, take}
+use Rattle.std.specs.Prelude.{ℕ, ℤ, ◌≡◌, Bool, true, false, List, [], ◌∷◌, ◌++◌, map, length, take, Option, Some, None}
 use Rattle.refusal.specs.Outcomes.{Outcome, accepted, refused, ◌⟫◌, Row, row, ◌then◌}
-use Rattle.thousandths.specs.declared.Counted.{Counted}
-use Rattle.thousandths.specs.declared.Counted.TheVariants as found
 use Rattle.thousandths.specs.Thousandths.{count_of, twos_complement, thousandths, count_for}
 use Rattle.fields.specs.declared.fields.Value.{Value}
 use Rattle.fields.specs.declared.fields.Value.TheVariants.{Double, Count}
@@ -15,9 +13,9 @@ use Rattle.writer.specs.declared.conversion.Turned.{Turned}
 use Rattle.writer.specs.declared.conversion.Turned.TheVariants.{Kept, Other, NoCount}
 
 -- ---- a value of a meaning, in counts or in doubles: kept where it is so already
-abbrev pub counted_field : ℕ → Counted → Turned
-counted_field m (found.Count n) = Other m (Count (twos_complement n))
-counted_field m found.Missing = NoCount
+abbrev pub counted_field : ℕ → Option ℤ → Turned
+counted_field m (Some n) = Other m (Count (twos_complement n))
+counted_field m None = NoCount
 
 abbrev pub turned : Bool → ℕ → Value → Turned
 turned true m (Double x) = counted_field m (count_for x)

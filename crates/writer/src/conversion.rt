@@ -12,7 +12,7 @@ use fields::fields::Value;
 use fields::reader::step_from;
 use record::readings::read_record;
 use refusal::Refusal;
-use thousandths::{Counted, count_of, double_of_word, word_from};
+use thousandths::{count_of, double_of_word, word_from};
 
 // A field in a form: as it is, with the other value of its meaning, or none, where a double has no count.
 #[derive(Clone, Copy)]
@@ -22,12 +22,12 @@ enum Turned {
     NoCount,
 }
 
-fn counted(meaning: usize, count: Counted) -> Turned
+fn counted(meaning: usize, count: Option<i32>) -> Turned
     ensures { result ≡ counted_field meaning count }
 {
     match count {
-        Counted::Count(n) => Turned::Other(meaning, Value::Count(word_from(n))),
-        Counted::Missing => Turned::NoCount,
+        Some(n) => Turned::Other(meaning, Value::Count(word_from(n))),
+        None => Turned::NoCount,
     }
 }
 
