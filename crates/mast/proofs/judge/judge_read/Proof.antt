@@ -1,6 +1,6 @@
 -- `mast::judge::judge_read` meets its contract: a refusal of the reading is the last word. Assumes nothing.
 use Rattle.refusal.specs.declared.Refusal.{Refusal}
-use Rattle.mast.proofs.Kit.{◌≡◌, sym, ap, ◌∙◌, rules, Result, accepted, ◌⟫◌, outcome, outcome, judged}
+use Rattle.mast.proofs.Kit.{◌≡◌, sym, ap, ◌∙◌, rules, Result, accepted, ◌⟫◌, outcome, judged}
 use Rattle.record.specs.declared.readings.Read.{Read}
 use Rattle.mast.proofs.judge.judge_read.Statement.{statement}
 use Rattle.mast.proofs.judge.judge_read.Tie as tie

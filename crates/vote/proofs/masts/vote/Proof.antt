@@ -2,7 +2,7 @@
 use Rattle.std.specs.Prelude.{Result}
 use Rattle.refusal.specs.declared.judge.Figures.{Figures}
 use Rattle.refusal.specs.declared.Refusal.{Refusal}
-use Rattle.vote.proofs.Kit.{◌≡◌, refl, sym, ap, ◌∙◌, List, ℕ, rules, Outcome, accepted, ◌⟫◌, outcome, Readings, outcome, VoteOutcome, by_no_mast, accepted_readings, after_mast, vote, voted_outcome}
+use Rattle.vote.proofs.Kit.{◌≡◌, refl, sym, ap, ◌∙◌, List, ℕ, rules, Outcome, accepted, ◌⟫◌, outcome, Readings, VoteOutcome, by_no_mast, accepted_readings, after_mast, vote, voted_outcome}
 use Rattle.record.specs.declared.readings.Read.{Read}
 use Rattle.refusal.specs.Outcomes.{outcome}
 use Rattle.vote.proofs.masts.vote.Statement.{statement}

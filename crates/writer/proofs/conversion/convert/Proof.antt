@@ -1,7 +1,7 @@
 -- `writer::conversion::convert` meets its contract, check by check. Assumes nothing.
 use Rattle.std.specs.Prelude.{Result}
 use Rattle.refusal.specs.declared.Refusal.{Refusal}
-use Rattle.writer.proofs.Kit.{◌≡◌, sym, ap, ◌∙◌, false, arith, rules, length, accepted, ◌⟫◌, outcome, NoneHolds, then-accepted, read_rows, read_record, outcome, record_in, converted}
+use Rattle.writer.proofs.Kit.{◌≡◌, sym, ap, ◌∙◌, false, arith, rules, length, accepted, ◌⟫◌, outcome, NoneHolds, then-accepted, read_rows, read_record, record_in, converted}
 use Rattle.record.proofs.Parts.{outcome-of-parts}
 use Rattle.writer.proofs.Outcome.{reader-refuses, no_count, counted, refuses, has-no_room, has_room}
 use Rattle.writer.proofs.conversion.convert.Statement.{statement}
