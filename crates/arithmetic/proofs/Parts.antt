@@ -1,5 +1,5 @@
 -- A double by the fields of its bit pattern: which `Parts` it is taken apart into; and how many units of 2 ^ -1074 a finite one is. Assumes nothing.
-use Rattle.arithmetic.proofs.Kit.{◌≡◌, refl, sym, ap, ap₂, ◌∙◌, subst, inl, inr, ⊎_elim, Bool, false, not, cond, true≢false, ℕ, zero, suc, ◌+◌, ◌-◌, ◌*◌, ◌/◌, ◌%◌, ◌^◌, ◌≤◌, ◌<◌, le_of_lt, le_of_eq, le_trans, lt_of_lt_of_le, mul-le-mul_right, mul-lt-mul_of_pos_right, mul-div_cancel, mul-pos, zero-mul, arith, ℤ, pos, pow_pos, pow_mono, pow-add, shl_lt, T, leb, eqb, eqb→eq, eqb·suc-zero, Float, nan, inf, fin, binary64, up, down, odd, fits, is_nan, ne, of_fields, of_bits, to_bits, size, down_pos, of_bits-to_bits, size-le, HasValue}
+use Rattle.arithmetic.proofs.Kit.{◌≡◌, refl, sym, ap, ap₂, ◌∙◌, subst, inl, inr, ⊎_elim, Bool, true, false, not, cond, true≢false, ℕ, zero, suc, ◌+◌, ◌-◌, ◌*◌, ◌/◌, ◌%◌, ◌^◌, ◌≤◌, ◌<◌, le_of_lt, le_of_eq, le_trans, lt_of_lt_of_le, mul-le-mul_right, mul-lt-mul_of_pos_right, mul-div_cancel, mul-pos, zero-mul, arith, ℤ, pos, pow_pos, pow_mono, pow-add, shl_lt, T, leb, eqb, eqb→eq, eqb·suc-zero, Float, nan, inf, fin, binary64, up, down, odd, fits, is_nan, ne, of_fields, of_bits, to_bits, size, down_pos, of_bits-to_bits, size-le, HasValue}
 use Rattle.std.proofs.Common.{ne_of_lt}
 use lib.Dec.{not_T}
 use lib.Ieee.Fits.{odd-fits}
@@ -17,6 +17,16 @@ unfolding ne is_nan
 not_nan nan same = absurd (true≢false same)
 not_nan (inf s) same = tt
 not_nan (fin s m e) same = tt
+
+-- the same by Rust's own test
+pub is_a_number : (x : Float) → is_nan x ≡ false → T (not (is_nan x))
+is_a_number x e = subst (λ (t : Bool). T (not t)) (sym e) tt
+
+pub is_not_a_number : (x : Float) → is_nan x ≡ true → TakenApart x NotANumber
+unfolding is_nan
+is_not_a_number nan h = record { same = refl; within = tt }
+is_not_a_number (inf s) h = absurd (true≢false (sym h))
+is_not_a_number (fin s m e) h = absurd (true≢false (sym h))
 
 -- ---- the three fields of a double's pattern
 abbrev pub negative : Float → Bool

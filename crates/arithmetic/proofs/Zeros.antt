@@ -1,8 +1,8 @@
--- The sign of a zero, by its reciprocal: an infinity of that sign. Assumes nothing.
-use Rattle.arithmetic.proofs.Kit.{◌≡◌, refl, ap, Bool, true, false, ◌&&◌, ◌||◌, ℕ, zero, suc, ◌*◌, zero-mul, zero-lt-suc, mul-pos, arith, ne_eqb, ℤ, eqb, Float, nan, inf, fin, up, down, div, lt, eq, of_bits, up_pos}
+-- A zero by its sign. Assumes nothing.
+use Rattle.arithmetic.proofs.Kit.{◌≡◌, refl, ap, Bool, true, false, not, ◌&&◌, ◌||◌, ℕ, zero, suc, ◌*◌, zero-mul, zero-lt-suc, mul-pos, arith, ne_eqb, ℤ, eqb, Float, nan, inf, fin, up, down, eq, of_bits, up_pos}
 use mathlib.Core.Bool.{beq}
-use Rattle.arithmetic.specs.Decimals.{nought, one}
-use Rattle.arithmetic.specs.Operators.{◌⊘◌}
+use Rattle.std.specs.Float.{is_sign_negative}
+use Rattle.arithmetic.specs.Decimals.{nought}
 use Rattle.arithmetic.specs.Middle.{is_minus_zero, is_plus_zero}
 
 equals_zero : (s : Bool) (e : ℤ) → eq (fin s 0 e) nought ≡ true
@@ -17,18 +17,16 @@ differs_from_zero s m e =
     let b = 0 * down e in
     ap (λ (t : Bool). t && (beq s false || eqb a 0)) (ne_eqb a b (λ h. omega (arith, zero-mul (down e), mul-pos (zero-lt-suc m) (up_pos e))))
 
-pub minus-zero : (x : Float) → (eq x nought && lt (one ⊘ x) nought) ≡ is_minus_zero x
-unfolding div lt eq of_bits is_minus_zero
+pub minus-zero : (x : Float) → (eq x nought && is_sign_negative x) ≡ is_minus_zero x
+unfolding eq of_bits is_sign_negative is_minus_zero
 minus-zero nan = refl
 minus-zero (inf s) = refl
-minus-zero (fin true zero e) = ap (λ (t : Bool). t && true) (equals_zero true e)
-minus-zero (fin false zero e) = ap (λ (t : Bool). t && false) (equals_zero false e)
-minus-zero (fin s (suc m) e) = ap (λ (t : Bool). t && lt (one ⊘ fin s (suc m) e) nought) (differs_from_zero s m e)
+minus-zero (fin s zero e) = ap (λ (t : Bool). t && s) (equals_zero s e)
+minus-zero (fin s (suc m) e) = ap (λ (t : Bool). t && s) (differs_from_zero s m e)
 
-pub plus-zero : (x : Float) → (eq x nought && lt nought (one ⊘ x)) ≡ is_plus_zero x
-unfolding div lt eq of_bits is_plus_zero
+pub plus-zero : (x : Float) → (eq x nought && not (is_sign_negative x)) ≡ is_plus_zero x
+unfolding eq of_bits is_sign_negative is_plus_zero
 plus-zero nan = refl
 plus-zero (inf s) = refl
-plus-zero (fin true zero e) = ap (λ (t : Bool). t && false) (equals_zero true e)
-plus-zero (fin false zero e) = ap (λ (t : Bool). t && true) (equals_zero false e)
-plus-zero (fin s (suc m) e) = ap (λ (t : Bool). t && lt nought (one ⊘ fin s (suc m) e)) (differs_from_zero s m e)
+plus-zero (fin s zero e) = ap (λ (t : Bool). t && not s) (equals_zero s e)
+plus-zero (fin s (suc m) e) = ap (λ (t : Bool). t && not s) (differs_from_zero s m e)

@@ -1,3 +1,2 @@
--- What the proofs of `words` use: lemmas on plain numbers.
-mod Carries
+-- What the proofs of `wide` use: lemmas on plain numbers.
 pub mod Shifts

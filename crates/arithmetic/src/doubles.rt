@@ -6,19 +6,15 @@ ghost use Rattle.arithmetic.specs.Doubles.{clamp_double, max_double, abs_double,
 pub fn clamp(x: f64, low: f64, high: f64) -> f64
     ensures { result ≡ clamp_double x low high }
 {
-    if x < low {
-        if low > high { high } else { low }
-    } else {
-        if x > high { high } else { x }
-    }
+    let raised = if x < low { low } else { x };
+    if raised > high { high } else { raised }
 }
 
 // The greater one, or the other one where one is NaN.
 pub fn max(x: f64, y: f64) -> f64
     ensures { result ≡ max_double x y }
 {
-    // only a NaN differs from itself
-    if x != x {
+    if x.is_nan() {
         return y;
     }
     if x < y { y } else { x }
@@ -28,17 +24,12 @@ pub fn max(x: f64, y: f64) -> f64
 pub fn abs(x: f64) -> f64
     ensures { result ≡ abs_double x }
 {
-    if x < 0.0 {
-        return -x;
-    }
-    // -0 is not below 0
-    if x == 0.0 { 0.0 } else { x }
+    x.abs()
 }
 
 // Whether x is neither NaN nor an infinity.
 pub fn is_finite(x: f64) -> bool
     ensures { result ≡ is_finite x }
 {
-    let infinity = 1.0 / 0.0;
-    -infinity < x && x < infinity
+    x.is_finite()
 }

@@ -5,20 +5,20 @@ ghost use Rattle.arithmetic.specs.Middle.{is_minus_zero, is_plus_zero, precedes,
 fn is_minus_zero(x: f64) -> bool
     ensures { result ≡ is_minus_zero x }
 {
-    // the reciprocal of a zero is an infinity of its sign
-    x == 0.0 && 1.0 / x < 0.0
+    x == 0.0 && x.is_sign_negative()
 }
 
 fn is_plus_zero(x: f64) -> bool
     ensures { result ≡ is_plus_zero x }
 {
-    x == 0.0 && 1.0 / x > 0.0
+    x == 0.0 && x.is_sign_positive()
 }
 
+#[tactic(auto, unfolding(crate::specs::Middle::precedes))]
 fn precedes(x: f64, y: f64) -> bool
     ensures { result ≡ precedes x y }
 {
-    (x < y) | (is_minus_zero(x) & is_plus_zero(y))
+    x < y || (is_minus_zero(x) && is_plus_zero(y))
 }
 
 fn earlier(x: f64, y: f64) -> f64

@@ -12,7 +12,7 @@ ghost use Rattle.arithmetic.specs.Parts.{parts_of, TakenApart};
 ghost use Rattle.arithmetic.specs.Places.{places};
 
 use crate::double::Parts;
-use crate::wide::{Wide, product, shifted_right, sum};
+use crate::wide::{Wide, shifted_right};
 use crate::word::{PLACES, WHOLE};
 
 const DIGITS: u64 = PLACES as u64;
@@ -23,10 +23,10 @@ pub fn take_apart(x: f64) -> Parts
     ensures value { result ≡ parts_of x }
     ensures apart { TakenApart x result }
 {
-    if x != x {
+    if x.is_nan() {
         return Parts::NotANumber;
     }
-    let b = f64::to_bits(x);
+    let b = x.to_bits();
     let negative = b >= 0x8000_0000_0000_0000;
     let field = b % 0x8000_0000_0000_0000 / 0x10_0000_0000_0000;
     let fraction = b % 0x10_0000_0000_0000;
@@ -86,7 +86,7 @@ fn normalise(m: u64) -> Normalised
     requires { 0 < m }
     ensures { IsNormalised m result }
 {
-    let z = u64::leading_zeros(m) as u64;
+    let z = m.leading_zeros() as u64;
     Normalised {
         digits: m << z,
         places: 1085 - z,
@@ -138,12 +138,11 @@ fn nearest_wide_quotient(n: Wide, k: u64) -> f64
     requires { (n.hi < 2 ^ 52) × (k ≤ 1085) }
     ensures { result ≡ nearest_ratio (pos (value n)) (2 ^ k) }
 {
-    let hi = n.hi;
-    let lo = n.lo;
+    let Wide { hi, lo } = n;
     if hi == 0 {
         return nearest_quotient(lo, k);
     }
-    let dropped = 75 - u64::leading_zeros(hi);
+    let dropped = 75 - hi.leading_zeros();
     let unit = 1u64 << dropped;
     let kept = nearer(shifted_right(n, dropped).lo, lo % unit, unit);
     f64::from_bits((1074 + dropped as u64 - k) * 0x10_0000_0000_0000 + kept)
@@ -153,8 +152,8 @@ fn nearest_wide_quotient(n: Wide, k: u64) -> f64
 pub fn nearest_to_digits(whole: u32, part: u64) -> f64
     ensures { result ≡ nearest_ratio (pos (whole * 2 ^ places + part)) (2 ^ places) }
 {
-    let digits = sum(product(whole as u64, WHOLE), Wide { hi: 0, lo: part });
-    nearest_wide_quotient(digits.word, DIGITS)
+    let digits = u128::from(whole) * u128::from(WHOLE) + u128::from(part);
+    nearest_wide_quotient(Wide::from(digits), DIGITS)
 }
 
 // The double nearest to m * 2^e.

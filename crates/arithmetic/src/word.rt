@@ -9,7 +9,7 @@ pub const WHOLE: u64 = 1 << PLACES;
 pub const ONES: u64 = WHOLE - 1;
 
 // a = `whole` * 2^60 + `part` stands for a, and where `negative` for -(a + 1).
-#[derive(Clone, Copy)]
+#[derive(Clone, Copy, Debug, PartialEq, Eq)]
 pub struct Word {
     pub negative: bool,
     pub whole: u32,

@@ -3,11 +3,11 @@ ghost use Rattle.std.specs.Prelude.{◌≡◌, ◌-◌, ◌≤◌, min, length};
 ghost use Rattle.decimals.specs.Typed.{is_digit, digits_in, number_from, scaled_to, in_counts, with_decimals, after_sign, typed};
 
 use crate::count::power_of_ten;
-use thousandths::{Counted, signed_count};
+use thousandths::signed_count;
 
-#[derive(Clone, Copy)]
-pub enum Typed {
-    Count(i32),
+// Why a text has no count.
+#[derive(Clone, Copy, Debug, PartialEq, Eq)]
+pub enum NotACount {
     NotANumber,
     TooManyDecimals,
     OutOfRange,
@@ -63,17 +63,19 @@ fn number_from(number: u64, digits: &[u8]) -> u64
     value
 }
 
-fn in_counts(negative: bool, size: u64) -> Typed
+fn in_counts(negative: bool, size: u64) -> Result<i32, NotACount>
     ensures { result ≡ in_counts negative size }
 {
-    match signed_count(negative, size) {
-        Counted::Count(n) => Typed::Count(n),
-        Counted::Missing => Typed::OutOfRange,
-    }
+    signed_count(negative, size).ok_or(NotACount::OutOfRange)
 }
 
 // A count of units of the last of `places` decimals.
-fn from_digits(negative: bool, whole: &[u8], decimals: &[u8], places: usize) -> Typed
+fn from_digits(
+    negative: bool,
+    whole: &[u8],
+    decimals: &[u8],
+    places: usize,
+) -> Result<i32, NotACount>
     requires { (length decimals.now ≤ places) × (places ≤ 4) }
     ensures { result ≡ in_counts negative (scaled_to places whole.now decimals.now) }
 {
@@ -85,49 +87,54 @@ fn from_digits(negative: bool, whole: &[u8], decimals: &[u8], places: usize) -> 
 }
 
 // The digits before the point, and what follows it.
-fn with_decimals(negative: bool, whole: &[u8], decimals: &[u8], places: usize) -> Typed
+fn with_decimals(
+    negative: bool,
+    whole: &[u8],
+    decimals: &[u8],
+    places: usize,
+) -> Result<i32, NotACount>
     requires { places ≤ 4 }
     ensures { result ≡ with_decimals places negative whole.now decimals.now }
 {
     let n = decimals.len();
     if n == 0 {
-        return Typed::NotANumber;
+        return Err(NotACount::NotANumber);
     }
     if digits_in(decimals) != n {
-        return Typed::NotANumber;
+        return Err(NotACount::NotANumber);
     }
     if n > places {
-        return Typed::TooManyDecimals;
+        return Err(NotACount::TooManyDecimals);
     }
     from_digits(negative, whole, decimals, places)
 }
 
 // What follows the sign.
-fn after_sign(negative: bool, text: &[u8], places: usize) -> Typed
+fn after_sign(negative: bool, text: &[u8], places: usize) -> Result<i32, NotACount>
     requires { places ≤ 4 }
     ensures { result ≡ after_sign places negative text.now }
 {
     let n = digits_in(text);
     if n == 0 {
-        return Typed::NotANumber;
+        return Err(NotACount::NotANumber);
     }
     if n >= text.len() {
         return from_digits(negative, text, &text[n..], places);
     }
     if text[n] != b'.' {
-        return Typed::NotANumber;
+        return Err(NotACount::NotANumber);
     }
     let after = n + 1;
     with_decimals(negative, &text[..n], &text[after..], places)
 }
 
 // A sign or none, and what follows it.
-fn with_sign(text: &[u8], places: usize) -> Typed
+fn with_sign(text: &[u8], places: usize) -> Result<i32, NotACount>
     requires { places ≤ 4 }
     ensures { result ≡ typed places text.now }
 {
     if text.len() == 0 {
-        return Typed::NotANumber;
+        return Err(NotACount::NotANumber);
     }
     if text[0] == b'-' {
         return after_sign(true, &text[1..], places);
@@ -146,7 +153,7 @@ fn at_most_four(places: usize) -> usize
 
 // The count of a decimal in units of the last of `places` decimals, four at most, or why there is none:
 // the text is no decimal, has more decimals than these, or its count is out of the signed 32-bit range.
-pub fn read_decimal(text: &[u8], places: usize) -> Typed
+pub fn read_decimal(text: &[u8], places: usize) -> Result<i32, NotACount>
     ensures value { result ≡ typed (min places 4) text.now }
     ensures kept { text.now ≡ text.now }
 {

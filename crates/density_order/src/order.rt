@@ -6,10 +6,10 @@ ghost use Rattle.refusal.specs.Outcomes.{outcome};
 ghost use Rattle.density_order.specs.Order.{Accepted, Demand₃, TwoInOrder};
 ghost use Rattle.arithmetic.specs.Places.{places};
 
-use refusal::inverse::Station;
-use refusal::Refusal;
 use atmosphere::given::Reading;
 use density_altitude::inverse::station_for_density_altitude;
+use refusal::Refusal;
+use refusal::inverse::Station;
 
 #[derive(Clone, Copy)]
 pub struct Stations {
@@ -28,8 +28,8 @@ pub fn stations_for_density_altitudes(
     ensures { (outcome result.low ≡ station places low_m explicit_temperature_c)
         × ((outcome result.middle ≡ station places middle_m explicit_temperature_c)
         × ((outcome result.high ≡ station places high_m explicit_temperature_c)
-        × (T (le low_m middle_m) → T (le middle_m high_m) → Accepted (inverse_outcome result.low) → Accepted (inverse_outcome result.high)
-        → Demand₃ explicit_temperature_c low_m high_m (inverse_outcome result.low) (inverse_outcome result.middle) (inverse_outcome result.high)))) }
+        × (T (le low_m middle_m) → T (le middle_m high_m) → Accepted (outcome result.low) → Accepted (outcome result.high)
+        → Demand₃ explicit_temperature_c low_m high_m (outcome result.low) (outcome result.middle) (outcome result.high)))) }
 {
     Stations {
         low: station_for_density_altitude(low_m, explicit_temperature_c),
@@ -52,7 +52,7 @@ pub fn two_stations_for_density_altitudes(
 ) -> Pair
     ensures { (outcome result.low ≡ station places low_m explicit_temperature_c)
         × ((outcome result.high ≡ station places high_m explicit_temperature_c)
-        × TwoInOrder explicit_temperature_c low_m high_m (inverse_outcome result.low) (inverse_outcome result.high)) }
+        × TwoInOrder explicit_temperature_c low_m high_m (outcome result.low) (outcome result.high)) }
 {
     let stations = stations_for_density_altitudes(low_m, low_m, high_m, explicit_temperature_c);
     let low = stations.low;

@@ -7,11 +7,11 @@ ghost use Rattle.refusal.specs.Outcomes.{outcome};
 ghost use Rattle.density_order.specs.Warmer.{WarmerMeansLower, FaaNeverFalls};
 ghost use Rattle.arithmetic.specs.Places.{places};
 
-use refusal::inverse::Station;
-use refusal::Refusal;
 use atmosphere::altitudes::faa_rule_density_altitude_ft;
 use atmosphere::given::Reading;
 use density_altitude::inverse::station_for_density_altitude;
+use refusal::Refusal;
+use refusal::inverse::Station;
 
 #[derive(Clone, Copy)]
 pub struct ByWarmth {
@@ -30,7 +30,7 @@ pub fn stations_for_temperatures(
     ensures { (outcome result.cold ≡ station places density_altitude_m (Given cold_c))
         × ((outcome result.middle ≡ station places density_altitude_m (Given middle_c))
         × ((outcome result.warm ≡ station places density_altitude_m (Given warm_c))
-        × WarmerMeansLower cold_c middle_c warm_c (inverse_outcome result.cold) (inverse_outcome result.middle) (inverse_outcome result.warm))) }
+        × WarmerMeansLower cold_c middle_c warm_c (outcome result.cold) (outcome result.middle) (outcome result.warm))) }
 {
     ByWarmth {
         cold: station_for_density_altitude(density_altitude_m, Reading::Given(cold_c)),

@@ -1,7 +1,7 @@
 // Records read: their readings as arrays with a place for each meaning, as `records` takes them.
 ghost use Rattle.std.specs.Prelude.{◌≡◌, true, false, ◌≤◌, length};
 ghost use Rattle.fields.specs.Fields.{meanings};
-ghost use Rattle.record.specs.Readings.{read_outcome};
+ghost use Rattle.record.specs.Readings.{outcome};
 ghost use Rattle.exports.specs.Lent.{handed_out, status_of};
 ghost use Rattle.exports.specs.Reads.{form_of, double_for, count_for, each, read_in, array_after};
 
@@ -56,10 +56,10 @@ fn put_read(forms: &mut [u8], values: &mut [f64], counts: &mut [u32], read: Read
     requires meanings_in_bounds { meanings ≤ length forms.old }
     requires meanings_in_bounds_2 { meanings ≤ length values.old }
     requires meanings_in_bounds_3 { meanings ≤ length counts.old }
-    ensures value { result ≡ status_of (read_outcome read) }
-    ensures forms_after { forms.new ≡ array_after form_of forms.old (read_outcome read) }
-    ensures values_after { values.new ≡ array_after double_for values.old (read_outcome read) }
-    ensures counts_after { counts.new ≡ array_after count_for counts.old (read_outcome read) }
+    ensures value { result ≡ status_of (outcome read) }
+    ensures forms_after { forms.new ≡ array_after form_of forms.old (outcome read) }
+    ensures values_after { values.new ≡ array_after double_for values.old (outcome read) }
+    ensures counts_after { counts.new ≡ array_after count_for counts.old (outcome read) }
 {
     let check = read.check;
     match check {

@@ -2,7 +2,7 @@
 ghost use Rattle.std.specs.Prelude.{◌≡◌};
 ghost use Rattle.load_text.specs.Asked.{whole_in, asked_in, load_asked_by};
 
-use decimals::typed::{Typed, read_decimal};
+use decimals::typed::{NotACount, read_decimal};
 use thousandths::word_from;
 
 // As many as the acceptance bench takes.
@@ -27,14 +27,12 @@ fn whole_in(count: i32) -> Asked
     Asked::Unknown
 }
 
-fn asked_in(typed: Typed) -> Asked
+fn asked_in(typed: Result<i32, NotACount>) -> Asked
     ensures { result ≡ asked_in typed }
 {
     match typed {
-        Typed::Count(count) => whole_in(count),
-        Typed::NotANumber => Asked::Unknown,
-        Typed::TooManyDecimals => Asked::Unknown,
-        Typed::OutOfRange => Asked::Unknown,
+        Ok(count) => whole_in(count),
+        Err(_) => Asked::Unknown,
     }
 }
 

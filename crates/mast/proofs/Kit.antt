@@ -12,7 +12,7 @@ unfoldable pub use Rattle.density_altitude.specs.Inverse.{station}
 pub use Rattle.density_altitude.specs.Inverse.{resolve, station_rows, temperature_rows}
 pub use Rattle.fields.specs.Fields.{altitude, density_altitude, humidity, meanings, measured_pressure, qnh, size_of, station_pressure, temperature}
 pub use Rattle.record.specs.Entries.{entry_of, value_or_zero}
-pub use Rattle.record.specs.Readings.{read_outcome, read_record, read_rows, readings}
+pub use Rattle.record.specs.Readings.{outcome, read_record, read_rows, readings}
 pub use Rattle.record.specs.declared.entries.Readings.{Readings}
 unfoldable pub use Rattle.station.specs.Figures.{figures_with}
 pub use Rattle.station.specs.Figures.{figures_of, is_air, shown_celsius, shown_hectopascals, shown_pressure, shown_temperature, station_figures}

@@ -3,7 +3,7 @@ ghost use Rattle.std.specs.Prelude.{None, Some, ◌≡◌};
 ghost use Rattle.fields.specs.Fields.{humidity};
 ghost use Rattle.refusal.specs.Outcomes.{◌⟫◌, ◌then◌, outcome};
 ghost use Rattle.record.specs.Entries.{entry_of};
-ghost use Rattle.record.specs.Readings.{read_outcome};
+ghost use Rattle.record.specs.Readings.{outcome};
 ghost use Rattle.mast.specs.Judge.{air_outcome, way_rows, resolved_by, judged, judge, judge_strictly};
 ghost use Rattle.mast.specs.Checks.{humidity_rows, present};
 ghost use Rattle.station.specs.Resolved.{at_station};
@@ -81,7 +81,7 @@ pub fn judge_readings(readings: Readings) -> Result<Figures, Refusal>
 
 // What was read of a record, judged: the reading's refusal, or what its readings give.
 fn judge_read(read: Read) -> Result<Figures, Refusal>
-    ensures { outcome result ≡ (read_outcome read ⟫ judged) }
+    ensures { outcome result ≡ (outcome read ⟫ judged) }
 {
     let check = read.check;
     match check {

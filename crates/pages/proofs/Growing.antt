@@ -1,5 +1,5 @@
 -- A text that grows on a page: one piece after another, nothing more, a page that is full, and a text that has room. Assumes nothing.
-use Rattle.arithmetic.proofs.Kit.{◌≡◌, refl, sym, ap, ap₂, subst, ◌∙◌, Bool, true, false, List, [], ◌∷◌, ◌++◌, append-nil, append_assoc, ℕ, suc, ◌+◌, ◌-◌, ◌≤◌, min, add-zero, arith, leb-true, leb-false, leb, length, take, drop, set, take-append-drop, drop_of_length-le, length-append, length-take, length-drop, sets, length-take-le, take-length, take_at, drop-drop}
+use Rattle.arithmetic.proofs.Kit.{◌≡◌, refl, sym, ap, ap₂, subst, ◌∙◌, Bool, true, false, List, [], ◌∷◌, ◌++◌, append_assoc, ℕ, suc, ◌+◌, ◌-◌, ◌≤◌, min, add-zero, arith, leb-true, leb-false, leb, length, take, drop, set, take-append-drop, drop_of_length-le, length-append, length-take, sets, length-take-le, take_at, drop-drop}
 use borrow.Rule.Slice.PartMut.{put_mid}
 use lib.Seq.{length-sets, sets-eq, set_out}
 use Rattle.pages.specs.Pages.{placed, after, Appended, Holds}
@@ -77,19 +77,17 @@ module _ (page : List ℕ) (at : ℕ) (more : List ℕ) (h : at ≤ length page)
           let long = leb-false (length more) room e in
           sets_out (sets page at part) (at + length part) (drop room more) (omega (arith, length-sets page at part, length-take room more))
 
-  -- the page's rest after the copy begins with the part
-  pub put_part : {source rest last : List ℕ} → source ≡ take (length page - at) more → rest ≡ drop at page
-      → last ≡ take (length source) source ++ drop (length source) rest
-      → Appended page at more (put_mid at (length page - at) page last) (at + length source)
+  -- the part written over as many bytes
+  pub put_part : {source last : List ℕ} → source ≡ take (length page - at) more → last ≡ source
+      → Appended page at more (put_mid at (at + length source - at) page last) (at + length source)
   unfolding placed after room part
-  put_part {source} {rest} {last} e f l =
+  put_part {source} {last} e l =
       let short : length part ≤ room = omega (arith, length-take room more) in
-      let begins : last ≡ part ++ drop (at + length part) page =
-      l ∙ ap₂ (λ (s d : List ℕ). take (length s) s ++ drop (length s) d) e f ∙ ap₂ (λ (s d : List ℕ). s ++ d) (take-length part) (drop-drop (length part) at page) in
-      let none : drop room (drop at page) ≡ [] = drop_of_length-le (drop at page) {i = room} (omega (arith, length-drop at page)) in
+      let taken : at + length part - at ≡ length part = omega arith in
       record {
-        all = ap₂ (λ (s d : List ℕ). take at page ++ (s ++ d)) begins none
-            ∙ ap (λ (s : List ℕ). take at page ++ s) (append-nil (part ++ drop (at + length part) page))
+        all = ap₂ (λ (s t : List ℕ). put_mid at (at + length s - at) page t) e (l ∙ e)
+            ∙ ap (λ (k : ℕ). take at page ++ (part ++ drop k (drop at page))) taken
+            ∙ ap (λ (s : List ℕ). take at page ++ (part ++ s)) (drop-drop (length part) at page)
             ∙ sym (append_assoc (take at page) part (drop (at + length part) page))
             ∙ sym (cut ∙ sets-eq part page at (omega arith));
         end = omega (arith, ap length e, length-take room more);

@@ -1,5 +1,6 @@
 -- Words are the same byte by byte. Assumes nothing.
 use Rattle.arithmetic.proofs.Kit.{◌≡◌, refl, sym, ap, ap₂, ◌∙◌, Bool, true, false, ◌&&◌, true≢false, List, [], ◌∷◌, ℕ, eqb-true, eq-eqb, eqb}
+use lib.Pointwise.{pointwise}
 use Rattle.pages.specs.Characters.{same}
 
 pub both : (a b : Bool) → (a && b) ≡ true → (a ≡ true) × (b ≡ true)
@@ -27,3 +28,10 @@ compared w n false h = go (same w n) refl
     go : (b : Bool) → same w n ≡ b → b ≡ false
     go true e = sym (h.1 (is_same w n e))
     go false e = refl
+
+-- what the library's comparison of w and n answers
+pub same_is : (w n : List ℕ) → same w n ≡ pointwise eqb w n
+same_is [] [] = refl
+same_is [] (b ∷ n) = refl
+same_is (a ∷ w) [] = refl
+same_is (a ∷ w) (b ∷ n) = ap (λ (t : Bool). eqb a b && t) (same_is w n)

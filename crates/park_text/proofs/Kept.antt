@@ -2,13 +2,12 @@
 use Rattle.arithmetic.proofs.Kit.{◌≡◌, refl, sym, ap, subst, ◌∙◌, Bool, true, false, cond, List, [], ◌∷◌, ℕ, suc, arith, leb, eqb, length, take, drop, T, ℤ, pos, negsuc, Float, binary64, fits, round-fits}
 use Rattle.arithmetic.specs.Nearest.{nearest_ratio}
 use Rattle.arithmetic.specs.Whole.{signed}
-use Rattle.thousandths.specs.declared.Counted.{Counted}
-use Rattle.thousandths.specs.declared.Counted.TheVariants.{Count, Missing}
+use Rattle.std.specs.Prelude.{Option, Some, None, Result, Ok, Err}
 use Rattle.thousandths.specs.Thousandths.{in_range, twos_complement, thousandths, counted, count_for}
 use Rattle.thousandths.proofs.Words.{twos_complement_lem}
 use Rattle.thousandths.proofs.Laws.{count_of-double, double_of-count}
-use Rattle.decimals.specs.declared.typed.Typed.{Typed}
-use Rattle.decimals.specs.declared.typed.Typed.TheVariants as typed-as
+use Rattle.decimals.specs.declared.typed.NotACount.{NotACount}
+use Rattle.decimals.specs.declared.typed.NotACount.TheVariants.{NotANumber, TooManyDecimals}
 use Rattle.decimals.specs.Typed.{digits_in, scaled_to, answer, in_counts, with_decimals, after_whole, after_sign, typed}
 use Rattle.fields.specs.declared.fields.Value.TheVariants as value
 use Rattle.fields.specs.Fields.{double_of}
@@ -30,24 +29,24 @@ pub kept : (x : Float) → T (fits binary64 x) → (double_of (value_of x) ≡ x
 unfolding value_of
 kept x held = go (count_for x) refl
   where
-    go : (o : Counted) → count_for x ≡ o → (double_of (kept_as x o) ≡ x) × IsHeld (kept_as x o)
-    go (Count n) e =
+    go : (o : Option ℤ) → count_for x ≡ o → (double_of (kept_as x o) ≡ x) × IsHeld (kept_as x o)
+    go (Some n) e =
         let is = count_of-double.gives_the_double x n held e in
         (ap thousandths (twos_complement_lem.count_of_word n is.0) ∙ is.1, twos_complement_lem.word_in_range n is.0)
-    go Missing e = (refl, held)
+    go None e = (refl, held)
 
 -- ---- a count that was typed is in range, whatever was tested before it
 module _ (n : ℤ) where
-  abbrev Ranged : Typed → Type 0
-  Ranged o = o ≡ typed-as.Count n → T (in_range n)
+  abbrev Ranged : Result ℤ NotACount → Type 0
+  Ranged o = o ≡ Ok n → T (in_range n)
 
-  no_number : Ranged typed-as.NotANumber
+  no_number : Ranged (Err NotANumber)
   no_number h = let z : ◌≡◌ {A = ℕ} 0 1 = cc in absurd (omega arith)
 
-  too_many : Ranged typed-as.TooManyDecimals
+  too_many : Ranged (Err TooManyDecimals)
   too_many h = let z : ◌≡◌ {A = ℕ} 0 1 = cc in absurd (omega arith)
 
-  by-test : (b : Bool) {x y : Typed} → Ranged x → Ranged y → Ranged (cond b x y)
+  by-test : (b : Bool) {x y : Result ℤ NotACount} → Ranged x → Ranged y → Ranged (cond b x y)
   by-test true a b h = a h
   by-test false a b h = b h
 
@@ -55,7 +54,7 @@ module _ (n : ℤ) where
   unfolding in_counts counted
   in_counts_lem negative m h = go (in_range (signed negative m)) refl h
     where
-      go : (b : Bool) → in_range (signed negative m) ≡ b → answer (cond b (Count (signed negative m)) Missing) ≡ typed-as.Count n → T (in_range n)
+      go : (b : Bool) → in_range (signed negative m) ≡ b → answer (cond b (Some (signed negative m)) None) ≡ Ok n → T (in_range n)
       go true e h = let same : signed negative m ≡ n = cc in subst T (sym e ∙ ap in_range same) tt
       go false e h = let z : ◌≡◌ {A = ℕ} 0 1 = cc in absurd (omega arith)
 
@@ -79,6 +78,6 @@ module _ (n : ℤ) where
   in_range_lem k [] = no_number
   in_range_lem k (b ∷ s) = by-test (eqb b 45) (after_sign_lem k true s) (by-test (eqb b 43) (after_sign_lem k false s) (after_sign_lem k false (b ∷ s)))
 
-pub count_kept : (d : List ℕ) (n : ℤ) → typed 3 d ≡ typed-as.Count n → value_of (reading_in Plain n) ≡ value.Count (twos_complement n)
+pub count_kept : (d : List ℕ) (n : ℤ) → typed 3 d ≡ Ok n → value_of (reading_in Plain n) ≡ value.Count (twos_complement n)
 unfolding value_of reading_in thousandths
 count_kept d n read = ap (kept_as (thousandths n)) (double_of-count.finds_its_count n (in_range_lem n 3 d read))

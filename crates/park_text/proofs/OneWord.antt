@@ -6,8 +6,9 @@ use Rattle.arithmetic.specs.Ascii.{ascii}
 use Rattle.pages.specs.Scan.{index_of, index_after}
 use Rattle.pages.specs.Characters.{same}
 use Rattle.pages.proofs.Same.{is_same}
-use Rattle.decimals.specs.declared.typed.Typed.{Typed}
-use Rattle.decimals.specs.declared.typed.Typed.TheVariants as typed-as
+use Rattle.std.specs.Prelude.{Result, Ok, Err}
+use Rattle.decimals.specs.declared.typed.NotACount.{NotACount}
+use Rattle.decimals.specs.declared.typed.NotACount.TheVariants as not_a_count
 use Rattle.decimals.specs.Typed.{typed}
 use Rattle.fields.specs.Fields.{meanings}
 use Rattle.questions.specs.Words.{place_in}
@@ -110,7 +111,7 @@ pub record Spoken (w : List ℕ) (m : ℕ) (x : Float) : Type 0 where
   pub decimal : List ℕ
   pub says : Says w m unit decimal
   pub count : ℤ
-  pub read : typed (places_of unit) decimal ≡ typed-as.Count count
+  pub read : typed (places_of unit) decimal ≡ Ok count
   pub reading : x ≡ reading_in unit count
 
 -- the reading of a number d with w behind it
@@ -118,23 +119,23 @@ record Valued (m k : ℕ) (d w : List ℕ) (x : Float) : Type 0 where
   unit : Unit
   named_by : unit_named m w ≡ Known unit
   count : ℤ
-  read : typed (places_of unit) d ≡ typed-as.Count count
+  read : typed (places_of unit) d ≡ Ok count
   meant : m ≡ k
   reading : x ≡ reading_in unit count
 
 module _ (m : ℕ) (d w : List ℕ) {k : ℕ} {x : Float} {written point : Bool} where
-  in_unit_lem : (u : Unit) (o : Typed) → unit_named m w ≡ Known u → typed (places_of u) d ≡ o
+  in_unit_lem : (u : Unit) (o : Result ℤ NotACount) → unit_named m w ≡ Known u → typed (places_of u) d ≡ o
       → value_for m u (ltb 0 (length w)) (three_decimals d) o ≡ Reading k x written point → Valued m k d w x
-  in_unit_lem u (typed-as.Count n) is e h = record { unit = u; named_by = is; count = n; read = e; meant = cc; reading = cc }
-  in_unit_lem u typed-as.NotANumber is e h = let z : ◌≡◌ {A = ℕ} 0 1 = cc in absurd (omega arith)
-  in_unit_lem u typed-as.TooManyDecimals is e h = let z : ◌≡◌ {A = ℕ} 0 1 = cc in absurd (omega arith)
-  in_unit_lem u typed-as.OutOfRange is e h = let z : ◌≡◌ {A = ℕ} 0 1 = cc in absurd (omega arith)
+  in_unit_lem u (Ok n) is e h = record { unit = u; named_by = is; count = n; read = e; meant = cc; reading = cc }
+  in_unit_lem u (Err not_a_count.NotANumber) is e h = let z : ◌≡◌ {A = ℕ} 0 1 = cc in absurd (omega arith)
+  in_unit_lem u (Err not_a_count.TooManyDecimals) is e h = let z : ◌≡◌ {A = ℕ} 0 1 = cc in absurd (omega arith)
+  in_unit_lem u (Err not_a_count.OutOfRange) is e h = let z : ◌≡◌ {A = ℕ} 0 1 = cc in absurd (omega arith)
 
-  no_unit_lem : (o : Typed) → no_unit m o ≡ Reading k x written point → Valued m k d w x
-  no_unit_lem (typed-as.Count n) h = let z : ◌≡◌ {A = ℕ} 0 1 = cc in absurd (omega arith)
-  no_unit_lem typed-as.NotANumber h = let z : ◌≡◌ {A = ℕ} 0 1 = cc in absurd (omega arith)
-  no_unit_lem typed-as.TooManyDecimals h = let z : ◌≡◌ {A = ℕ} 0 1 = cc in absurd (omega arith)
-  no_unit_lem typed-as.OutOfRange h = let z : ◌≡◌ {A = ℕ} 0 1 = cc in absurd (omega arith)
+  no_unit_lem : (o : Result ℤ NotACount) → no_unit m o ≡ Reading k x written point → Valued m k d w x
+  no_unit_lem (Ok n) h = let z : ◌≡◌ {A = ℕ} 0 1 = cc in absurd (omega arith)
+  no_unit_lem (Err not_a_count.NotANumber) h = let z : ◌≡◌ {A = ℕ} 0 1 = cc in absurd (omega arith)
+  no_unit_lem (Err not_a_count.TooManyDecimals) h = let z : ◌≡◌ {A = ℕ} 0 1 = cc in absurd (omega arith)
+  no_unit_lem (Err not_a_count.OutOfRange) h = let z : ◌≡◌ {A = ℕ} 0 1 = cc in absurd (omega arith)
 
   valued : read_number m d w ≡ Reading k x written point → Valued m k d w x
   unfolding read_number

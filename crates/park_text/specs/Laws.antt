@@ -1,8 +1,7 @@
 -- What is typed and what is judged are tied: each word's number is a reading, each reading a word's number, and the record that a new mast would send of
 -- them is judged as they are. Definitions only.
-use Rattle.std.specs.Prelude.{ℕ, ◌≡◌, ℤ, Some}
+use Rattle.std.specs.Prelude.{ℕ, ◌≡◌, ℤ, Ok, Some}
 use mathlib.Core.List.{List, Memᴰ}
-use Rattle.decimals.specs.declared.typed.Typed.TheVariants.{Count}
 use Rattle.decimals.specs.Typed.{typed}
 use Rattle.record.specs.declared.entries.Readings.{Readings}
 use Rattle.record.specs.Entries.{entry_of}
@@ -14,7 +13,7 @@ use Rattle.park_text.specs.Word.{Says}
 -- nearest to that many
 pub record Nearest (r : Readings) (m : ℕ) (u : Unit) (d : List ℕ) : Type 0 where
   pub count : ℤ
-  pub read : typed (places_of u) d ≡ Count count
+  pub read : typed (places_of u) d ≡ Ok count
   pub entry : entry_of r m ≡ Some (reading_in u count)
 
 -- one of the words says something of m

@@ -1,7 +1,5 @@
 -- The readings that words give, one word after the other, or the first problem with the number of its word, counted from 0. Definitions only.
-use Rattle.std.specs.Prelude.{ℕ, ◌+◌, cond, List, [], ◌∷◌, Float, is_some}
-use Rattle.thousandths.specs.declared.Counted.{Counted}
-use Rattle.thousandths.specs.declared.Counted.TheVariants as counted
+use Rattle.std.specs.Prelude.{ℕ, ℤ, ◌+◌, cond, List, [], ◌∷◌, Float, Option, Some, None, is_some}
 use Rattle.thousandths.specs.Thousandths.{twos_complement, count_for}
 use Rattle.fields.specs.declared.fields.Value.{Value}
 use Rattle.fields.specs.declared.fields.Value.TheVariants.{Double, Count}
@@ -26,9 +24,9 @@ given r ⟫ next = next r
 problem p i ⟫ next = problem p i
 
 -- a reading as it is kept: the count of thousandths whose double it is, where there is one
-abbrev pub kept_as : Float → Counted → Value
-kept_as x (counted.Count n) = Count (twos_complement n)
-kept_as x counted.Missing = Double x
+abbrev pub kept_as : Float → Option ℤ → Value
+kept_as x (Some n) = Count (twos_complement n)
+kept_as x None = Double x
 
 unfoldable pub value_of : Float → Value
 value_of x = kept_as x (count_for x)

@@ -1,10 +1,10 @@
 -- What one word of a command line says, as `altitude=1586` or `altitude=5203ft`. A word is the list of its bytes. Definitions only.
-use Rattle.std.specs.Prelude.{ℕ, suc, ◌+◌, ◌<◌, ◌≡◌, Bool, ◌&&◌, ◌||◌, cond, List, [], ◌∷◌, ◌++◌, eqb, leb, ltb, ℤ, nat_abs, length, get_or, take, drop}
+use Rattle.std.specs.Prelude.{ℕ, suc, ◌+◌, ◌<◌, ◌≡◌, Bool, ◌&&◌, ◌||◌, cond, List, [], ◌∷◌, ◌++◌, eqb, leb, ltb, ℤ, nat_abs, length, get_or, take, drop, Result, Ok, Err}
 use Rattle.pages.specs.Scan.{index_of}
 use Rattle.arithmetic.specs.Ascii.{ascii}
 use Rattle.pages.specs.Characters.{same}
-use Rattle.decimals.specs.declared.typed.Typed.{Typed}
-use Rattle.decimals.specs.declared.typed.Typed.TheVariants as decimal
+use Rattle.decimals.specs.declared.typed.NotACount.{NotACount}
+use Rattle.decimals.specs.declared.typed.NotACount.TheVariants as decimal
 use Rattle.decimals.specs.Typed.{typed}
 use Rattle.fields.specs.Fields.{meanings, altitude}
 use Rattle.questions.specs.Words.{place_in}
@@ -50,17 +50,17 @@ abbrev pub is_point : ℕ → Bool → ℤ → Bool
 is_point m three n = eqb m altitude && three && is_small n
 
 -- a number in the unit u, which is written or not
-abbrev pub value_for : ℕ → Unit → Bool → Bool → Typed → Word
-value_for m u written three (decimal.Count n) = Reading m (reading_in u n) written (is_point m three n)
-value_for m u written three decimal.NotANumber = Wrong NotANumber
-value_for m u written three decimal.TooManyDecimals = Wrong (TooManyDecimals (places_of u))
-value_for m u written three decimal.OutOfRange = Wrong (OutOfRange (places_of u))
+abbrev pub value_for : ℕ → Unit → Bool → Bool → Result ℤ NotACount → Word
+value_for m u written three (Ok n) = Reading m (reading_in u n) written (is_point m three n)
+value_for m u written three (Err decimal.NotANumber) = Wrong NotANumber
+value_for m u written three (Err decimal.TooManyDecimals) = Wrong (TooManyDecimals (places_of u))
+value_for m u written three (Err decimal.OutOfRange) = Wrong (OutOfRange (places_of u))
 
-abbrev pub no_unit : ℕ → Typed → Word
-no_unit m (decimal.Count n) = Wrong (UnknownUnit m)
-no_unit m decimal.NotANumber = Wrong NotANumber
-no_unit m decimal.TooManyDecimals = Wrong (UnknownUnit m)
-no_unit m decimal.OutOfRange = Wrong (UnknownUnit m)
+abbrev pub no_unit : ℕ → Result ℤ NotACount → Word
+no_unit m (Ok n) = Wrong (UnknownUnit m)
+no_unit m (Err decimal.NotANumber) = Wrong NotANumber
+no_unit m (Err decimal.TooManyDecimals) = Wrong (UnknownUnit m)
+no_unit m (Err decimal.OutOfRange) = Wrong (UnknownUnit m)
 
 -- the number d with what stands behind it, w
 abbrev pub in_unit : ℕ → List ℕ → List ℕ → Named → Word

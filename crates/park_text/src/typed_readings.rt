@@ -9,7 +9,7 @@ use crate::typed_word::{Problem, Word, read_word};
 use fields::fields::Value;
 use pages::scan::find;
 use record::entries::{Readings, entry_of, no_readings, with_value};
-use thousandths::{Counted, count_of, word_from};
+use thousandths::{count_of, word_from};
 
 // Whether all words were understood, or what is wrong with the first that was not, and its number,
 // counted from 0.
@@ -41,8 +41,8 @@ fn value_of(x: f64) -> Value
     ensures { result ≡ value_of x }
 {
     match count_of(x) {
-        Counted::Count(n) => Value::Count(word_from(n)),
-        Counted::Missing => Value::Double(x),
+        Some(n) => Value::Count(word_from(n)),
+        None => Value::Double(x),
     }
 }
 

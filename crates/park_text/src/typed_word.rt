@@ -5,7 +5,7 @@ ghost use Rattle.park_text.specs.Word.{meaning_named, is_number_byte, number_len
 
 use crate::park_lines::first_bytes;
 use crate::units::{Named, Unit, places, reading_in, unit_named};
-use decimals::typed::{Typed, read_decimal};
+use decimals::typed::{NotACount, read_decimal};
 use fields::fields::{
     ALTITUDE, DENSITY_ALTITUDE, HUMIDITY, MEANINGS, MEASURED_PRESSURE, QNH, STATION_PRESSURE,
     TEMPERATURE,
@@ -118,11 +118,17 @@ fn is_point(meaning: usize, three: bool, count: i32) -> bool
     (meaning == ALTITUDE) & three & is_small(count)
 }
 
-fn value_for(meaning: usize, unit: Unit, written: bool, three: bool, decimal: Typed) -> Word
+fn value_for(
+    meaning: usize,
+    unit: Unit,
+    written: bool,
+    three: bool,
+    decimal: Result<i32, NotACount>,
+) -> Word
     ensures { result ≡ value_for meaning unit written three decimal }
 {
     match decimal {
-        Typed::Count(n) => {
+        Ok(n) => {
             Word::Reading(
                 meaning,
                 reading_in(unit, n),
@@ -130,21 +136,21 @@ fn value_for(meaning: usize, unit: Unit, written: bool, three: bool, decimal: Ty
                 is_point(meaning, three, n),
             )
         }
-        Typed::NotANumber => Word::Wrong(Problem::NotANumber),
-        Typed::TooManyDecimals => Word::Wrong(Problem::TooManyDecimals(places(unit))),
-        Typed::OutOfRange => Word::Wrong(Problem::OutOfRange(places(unit))),
+        Err(NotACount::NotANumber) => Word::Wrong(Problem::NotANumber),
+        Err(NotACount::TooManyDecimals) => Word::Wrong(Problem::TooManyDecimals(places(unit))),
+        Err(NotACount::OutOfRange) => Word::Wrong(Problem::OutOfRange(places(unit))),
     }
 }
 
 // What is wrong with a number behind which an unknown unit stands.
-fn no_unit(meaning: usize, decimal: Typed) -> Word
+fn no_unit(meaning: usize, decimal: Result<i32, NotACount>) -> Word
     ensures { result ≡ no_unit meaning decimal }
 {
     match decimal {
-        Typed::Count(_) => Word::Wrong(Problem::UnknownUnit(meaning)),
-        Typed::NotANumber => Word::Wrong(Problem::NotANumber),
-        Typed::TooManyDecimals => Word::Wrong(Problem::UnknownUnit(meaning)),
-        Typed::OutOfRange => Word::Wrong(Problem::UnknownUnit(meaning)),
+        Ok(_) => Word::Wrong(Problem::UnknownUnit(meaning)),
+        Err(NotACount::NotANumber) => Word::Wrong(Problem::NotANumber),
+        Err(NotACount::TooManyDecimals) => Word::Wrong(Problem::UnknownUnit(meaning)),
+        Err(NotACount::OutOfRange) => Word::Wrong(Problem::UnknownUnit(meaning)),
     }
 }
 

@@ -3,10 +3,10 @@ use Rattle.arithmetic.proofs.Kit.{◌≡◌, refl, Bool, ℕ, ◌*◌, ◌^◌, 
 use Rattle.arithmetic.specs.Decimals.{decimal}
 use Rattle.elementary.specs.Exponents.{exponents, exponent_at}
 use Rattle.arithmetic.proofs.Every.{at}
-use Rattle.thousandths.specs.declared.Counted.TheVariants as counted-as
 use Rattle.thousandths.specs.Thousandths.{count_of, thousandths, nearest_thousandth, counted, if_exact, count_for}
 use Rattle.arithmetic.specs.Ascii.{ascii}
-use Rattle.decimals.specs.declared.typed.Typed.TheVariants as typed-as
+use Rattle.std.specs.Prelude.{None, Ok, Err}
+use Rattle.decimals.specs.declared.typed.NotACount.TheVariants as not_a_count
 use Rattle.decimals.specs.Typed.{digits_in, number_from, in_counts, with_decimals, after_whole, after_sign, typed}
 
 -- ---- document 01
@@ -26,19 +26,19 @@ pub least-count : (count_of 0x80000000 ≡ negsuc 2147483647) × (thousandths (n
 unfolding count_of thousandths round of_bits
 least-count = (refl, refl)
 
-pub minus-zero : count_for (decimal "-0") ≡ counted-as.Missing
+pub minus-zero : count_for (decimal "-0") ≡ None
 unfolding count_for if_exact counted nearest_thousandth thousandths round of_bits to_bits
 minus-zero = refl
 
 -- ---- typed decimals
-pub typed-decimals : (typed 3 (ascii "1586") ≡ typed-as.Count (pos 1586000)) × (typed 3 (ascii "-15.25") ≡ typed-as.Count (negsuc 15249)) × (typed 3 (ascii "-0") ≡ typed-as.Count (pos 0))
+pub typed-decimals : (typed 3 (ascii "1586") ≡ Ok (pos 1586000)) × (typed 3 (ascii "-15.25") ≡ Ok (negsuc 15249)) × (typed 3 (ascii "-0") ≡ Ok (pos 0))
 unfolding typed after_sign after_whole with_decimals in_counts number_from digits_in counted
 typed-decimals = (refl, refl, refl)
 
-pub typed-ends : (typed 3 (ascii "2147483.647") ≡ typed-as.Count (pos 2147483647)) × (typed 3 (ascii "2147483.648") ≡ typed-as.OutOfRange) × (typed 3 (ascii "1.2345") ≡ typed-as.TooManyDecimals)
+pub typed-ends : (typed 3 (ascii "2147483.647") ≡ Ok (pos 2147483647)) × (typed 3 (ascii "2147483.648") ≡ Err not_a_count.OutOfRange) × (typed 3 (ascii "1.2345") ≡ Err not_a_count.TooManyDecimals)
 unfolding typed after_sign after_whole with_decimals in_counts number_from digits_in counted
 typed-ends = (refl, refl, refl)
 
-pub typed_badly : (typed 3 (ascii "") ≡ typed-as.NotANumber) × (typed 3 (ascii ".5") ≡ typed-as.NotANumber) × (typed 3 (ascii "5.") ≡ typed-as.NotANumber) × (typed 3 (ascii "1e3") ≡ typed-as.NotANumber)
+pub typed_badly : (typed 3 (ascii "") ≡ Err not_a_count.NotANumber) × (typed 3 (ascii ".5") ≡ Err not_a_count.NotANumber) × (typed 3 (ascii "5.") ≡ Err not_a_count.NotANumber) × (typed 3 (ascii "1e3") ≡ Err not_a_count.NotANumber)
 unfolding typed after_sign after_whole with_decimals in_counts number_from digits_in counted
 typed_badly = (refl, refl, refl, refl)

@@ -6,7 +6,7 @@
 -- number and the values that it hands out. `judge s` is the answer to a record's bytes s, `judged r` that to its readings r, `entry_of r m` the reading of a meaning,
 -- `station places d t` the answer to a density altitude d with a temperature t, `decimal "15.1"` the double nearest to 15.1. Every other name is defined in the
 -- specs/ of the crate that its `use` line names.
-use Rattle.std.specs.Prelude.{ℕ, ◌+◌, ◌-◌, ◌*◌, ◌/◌, ◌^◌, ◌≤◌, ◌<◌, ◌≡◌, ◌≢◌, ◌⊎◌, Bool, true, false, not, ◌||◌, cond, ℤ, pos, negsuc, ◌+ℤ◌, ◌*ℤ◌, ◌≤ℤ◌, T, ltb, Float, length, take, drop, get_or, replicate, None, Some}
+use Rattle.std.specs.Prelude.{ℕ, ◌+◌, ◌-◌, ◌*◌, ◌/◌, ◌^◌, ◌≤◌, ◌<◌, ◌≡◌, ◌≢◌, ◌⊎◌, Bool, true, false, not, ◌||◌, cond, ℤ, pos, negsuc, ◌+ℤ◌, ◌*ℤ◌, ◌≤ℤ◌, T, ltb, Float, length, take, drop, get_or, replicate, Some, None, Ok, Err}
 use mathlib.Core.List.{List, [], ◌++◌, Memᴰ, ◌∷◌, flat_map, map}
 use Rattle.std.specs.Float.{nan, fin, binary64}
 use Rattle.std.specs.Float.Ieee.{fits, is_nan, lt, le, round}
@@ -23,7 +23,6 @@ use Rattle.antilog.specs.Antilog.{antilog_root, antilog}
 use Rattle.arithmetic.specs.Fractions.{Fraction, ◌is_at_most◌, ◌is_below◌, ◌to_the◌, two_to_the, exact_value}
 use Rattle.elementary.specs.Exp.{exp}
 use Rattle.thousandths.specs.Thousandths.{in_range, count_of, twos_complement, thousandths, count_for}
-use Rattle.thousandths.specs.declared.Counted.TheVariants as counted
 use Rattle.atmosphere.specs.declared.given.Reading.{Reading}
 use Rattle.atmosphere.specs.declared.given.Reading.TheVariants.{Given, FromLayer}
 use Rattle.atmosphere.specs.Layers.{layer_at, OnlyRange, highest_up_to, standard_air}
@@ -87,7 +86,7 @@ use Rattle.notes.specs.Notes.{notes, note_lines}
 use Rattle.notes.specs.Laws as noted
 use Rattle.report.specs.Report.{report_text}
 use Rattle.decimals.specs.Typed.{typed}
-use Rattle.decimals.specs.declared.typed.Typed.TheVariants as typed-as
+use Rattle.decimals.specs.declared.typed.NotACount.TheVariants as not_a_count
 use Rattle.arithmetic.specs.Decimals.{decimal, nought, hundred, fraction}
 use Rattle.park_text.specs.Understood.{given, understand, value_of}
 use Rattle.park_text.specs.Units.{reading_in}
@@ -264,13 +263,13 @@ pub record K4 : Type 0 where
 -- ---- K5, thousandths for the new masts
 pub record K5 : Type 0 where
   -- "no count in the signed 32-bit range gives exactly this double": the count of a double is found wherever there is one
-  pub count_gives : (x : Float) (n : ℤ) → IsDouble x → count_for x ≡ counted.Count n → T (in_range n) × (thousandths n ≡ x)
-  pub count_found : (x : Float) (n : ℤ) → T (in_range n) → thousandths n ≡ x → count_for x ≡ counted.Count n
+  pub count_gives : (x : Float) (n : ℤ) → IsDouble x → count_for x ≡ Some n → T (in_range n) × (thousandths n ≡ x)
+  pub count_found : (x : Float) (n : ℤ) → T (in_range n) → thousandths n ≡ x → count_for x ≡ Some n
   -- "a signed count of thousandths in four bytes, two's complement", from one end of the range to the other, and "minus zero has none"
   pub word_of_count : (n : ℤ) → T (in_range n) → twos_complement n < 2 ^ 32 × (count_of (twos_complement n) ≡ n)
   pub greatest_count : (count_of 0x7FFFFFFF ≡ pos 2147483647) × (thousandths (pos 2147483647) ≡ decimal "2147483.647")
   pub least_count : (count_of 0x80000000 ≡ negsuc 2147483647) × (thousandths (negsuc 2147483647) ≡ decimal "-2147483.648")
-  pub minus_zero : count_for (decimal "-0") ≡ counted.Missing
+  pub minus_zero : count_for (decimal "-0") ≡ None
   -- "a record wholly in doubles that converts comes back with the same bytes", "and so does one wholly in counts"
   pub doubles_come_back : (s t : List ℕ) → AreBytes s → AllIn false (fields_of s) → converted true s ≡ accepted t → converted false t ≡ accepted s
   pub counts_come_back : (s t : List ℕ) → AreBytes s → AllIn true (fields_of s) → converted false s ≡ accepted t → converted true t ≡ accepted s
@@ -520,9 +519,9 @@ pub record AltitudesNear : Type 0 where
 -- ---- typed at the park
 pub record AtThePark : Type 0 where
   -- decimals as they are typed, and whole reports
-  pub typed_decimals : (typed 3 (ascii "1586") ≡ typed-as.Count (pos 1586000)) × (typed 3 (ascii "-15.25") ≡ typed-as.Count (negsuc 15249)) × (typed 3 (ascii "-0") ≡ typed-as.Count (pos 0))
-  pub typed_ends : (typed 3 (ascii "2147483.647") ≡ typed-as.Count (pos 2147483647)) × (typed 3 (ascii "2147483.648") ≡ typed-as.OutOfRange) × (typed 3 (ascii "1.2345") ≡ typed-as.TooManyDecimals)
-  pub typed_badly : (typed 3 (ascii "") ≡ typed-as.NotANumber) × (typed 3 (ascii ".5") ≡ typed-as.NotANumber) × (typed 3 (ascii "5.") ≡ typed-as.NotANumber) × (typed 3 (ascii "1e3") ≡ typed-as.NotANumber)
+  pub typed_decimals : (typed 3 (ascii "1586") ≡ Ok (pos 1586000)) × (typed 3 (ascii "-15.25") ≡ Ok (negsuc 15249)) × (typed 3 (ascii "-0") ≡ Ok (pos 0))
+  pub typed_ends : (typed 3 (ascii "2147483.647") ≡ Ok (pos 2147483647)) × (typed 3 (ascii "2147483.648") ≡ Err not_a_count.OutOfRange) × (typed 3 (ascii "1.2345") ≡ Err not_a_count.TooManyDecimals)
+  pub typed_badly : (typed 3 (ascii "") ≡ Err not_a_count.NotANumber) × (typed 3 (ascii ".5") ≡ Err not_a_count.NotANumber) × (typed 3 (ascii "5.") ≡ Err not_a_count.NotANumber) × (typed 3 (ascii "1e3") ≡ Err not_a_count.NotANumber)
   pub report_at_sea_level : report_text Record (with_entry (with_entry no_readings meaning.altitude nought) meaning.temperature (decimal "21.1"))
       ≡ ascii "altitude                             0.0 m\ntemperature                        21.10 C\nstation pressure                1013.250 hPa\ndensity                           1.2000 kg/m3, the reference for the trim table\nspeed of sound                     343.9 m/s\npressure altitude                    0.0 m\ndensity-matched altitude           218.3 m\nvapour mole fraction            0.000000 mol/mol\ntrim class 5\nnext class 4 at 0.1 C warmer\nin the range for which CIPM-2007 states its formula\nnote: no pressure is given: the standard atmosphere's 1013.250 hPa is used\nnote: no humidity is given: dry air is used\nnote: the next class is searched from the temperature and the station pressure above\nrecord 0100080000000000000000020008403519999999999A\n"
   -- each reading is the double nearest to the exact value of its typed number in its unit, and there is no other; the record that a new mast would send is judged as the readings are
@@ -530,7 +529,7 @@ pub record AtThePark : Type 0 where
   pub no_other : (ws : List (List ℕ)) (r : Readings) → understand ws ≡ given r → (m : ℕ) (x : Float) → entry_of r m ≡ Some x → Typed ws m
   pub record_judged : (ws : List (List ℕ)) (r : Readings) → understand ws ≡ given r → judge (record_of r) ≡ judged r
   -- a number in a reading's own unit is kept as its count, so that the record has the digits that were typed
-  pub typed_count_kept : (d : List ℕ) (n : ℤ) → typed 3 d ≡ typed-as.Count n → value_of (reading_in Plain n) ≡ value_as.Count (twos_complement n)
+  pub typed_count_kept : (d : List ℕ) (n : ℤ) → typed 3 d ≡ Ok n → value_of (reading_in Plain n) ≡ value_as.Count (twos_complement n)
   -- what a report notes is the lines of the rows that hold: a line is printed exactly if a row with it holds
   pub notes_are_lines : (point : Bool) (r : Readings) (f : Figures) → note_lines point r f ≡ noted.joined (noted.lines (notes point r f))
   pub note_has_its_row : (point : Bool) (r : Readings) (f : Figures) (l : List ℕ) → Memᴰ l (noted.lines (notes point r f)) → noted.Holds (notes point r f) l

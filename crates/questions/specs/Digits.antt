@@ -1,8 +1,6 @@
 -- Digits: hex digits of either case, the bytes and the words that they spell, and decimal numbers. Definitions only.
-use Rattle.std.specs.Prelude.{ℕ, ◌+◌, ◌-◌, ◌*◌, ◌/◌, ◌%◌, ◌^◌, min, Bool, true, ◌&&◌, cond, List, [], ◌∷◌, leb, ltb, length, get_or}
+use Rattle.std.specs.Prelude.{ℕ, ◌+◌, ◌-◌, ◌*◌, ◌/◌, ◌%◌, ◌^◌, min, Bool, true, ◌&&◌, cond, List, [], ◌∷◌, leb, ltb, length, get_or, Option, Some, None}
 use Rattle.pages.specs.Pages.{up_to}
-use Rattle.questions.specs.declared.digits.Number.{Number}
-use Rattle.questions.specs.declared.digits.Number.TheVariants.{Of, Nothing}
 
 -- ---- hex digits
 -- the value of a digit, and 16 for any other byte: `0` to `9` are 48 to 57, `A` to `F` 65 to 70, `a` to `f` 97 to 102
@@ -37,18 +35,18 @@ bytes_in room s = up_to (byte_at s) (min (length s / 2) room)
 
 -- ---- decimal numbers below 2 ^ 64
 infixr 20 ◌⟫◌
-abbrev pub ◌⟫◌ : Number → (ℕ → Number) → Number
-Of v ⟫ next = next v
-Nothing ⟫ next = Nothing
+abbrev pub ◌⟫◌ : Option ℕ → (ℕ → Option ℕ) → Option ℕ
+Some v ⟫ next = next v
+None ⟫ next = None
 
-abbrev pub with_digit : ℕ → ℕ → Number
-with_digit v b = cond (leb 48 b && leb b 57 && ltb (v * 10 + (b - 48)) (2 ^ 64)) (Of (v * 10 + (b - 48))) Nothing
+abbrev pub with_digit : ℕ → ℕ → Option ℕ
+with_digit v b = cond (leb 48 b && leb b 57 && ltb (v * 10 + (b - 48)) (2 ^ 64)) (Some (v * 10 + (b - 48))) None
 
-unfoldable pub decimal_from : ℕ → List ℕ → Number
-decimal_from v [] = Of v
+unfoldable pub decimal_from : ℕ → List ℕ → Option ℕ
+decimal_from v [] = Some v
 decimal_from v (b ∷ s) = with_digit v b ⟫ (λ w. decimal_from w s)
 
 -- one digit at least
-unfoldable pub number_in : List ℕ → Number
-number_in [] = Nothing
+unfoldable pub number_in : List ℕ → Option ℕ
+number_in [] = None
 number_in (b ∷ s) = decimal_from 0 (b ∷ s)

@@ -1,12 +1,8 @@
 -- The forms of arguments, a letter for each: r a record, x a double, w a word, both by their sixteen hex digits, o a double that may be absent, n a number. A
 -- shape is a question's letters, and fits a line whose first word is the question. Definitions only.
-use Rattle.std.specs.Prelude.{ℕ, ◌+◌, ◌%◌, Bool, true, false, ◌&&◌, ◌||◌, cond, List, [], ◌∷◌, ◌++◌, eqb, ltb, length, get_or}
+use Rattle.std.specs.Prelude.{ℕ, ◌+◌, ◌%◌, Bool, true, false, ◌&&◌, ◌||◌, cond, List, [], ◌∷◌, ◌++◌, eqb, ltb, length, get_or, Option, Some, None}
 use Rattle.arithmetic.specs.Ascii.{ascii}
 use Rattle.pages.specs.Characters.{same}
-use Rattle.questions.specs.declared.digits.Number.{Number}
-use Rattle.questions.specs.declared.digits.Number.TheVariants as number
-use Rattle.questions.specs.declared.forms.Given.{Given}
-use Rattle.questions.specs.declared.forms.Given.TheVariants.{Word, Absent}
 use Rattle.questions.specs.Digits.{are_hex, hex_number, number_in}
 
 -- ---- one argument
@@ -17,16 +13,16 @@ is_word w = eqb (length w) 16 && are_hex w
 abbrev pub is_none : List ℕ → Bool
 is_none w = same w (ascii "none") || is_word w
 
-unfoldable pub given_in : List ℕ → Given
-given_in w = cond (same w (ascii "none")) Absent (Word (hex_number w))
+unfoldable pub given_in : List ℕ → Option ℕ
+given_in w = cond (same w (ascii "none")) None (Some (hex_number w))
 
 -- bytes of two hex digits each, one at least, or `-` for the empty record
 abbrev pub is_record : List ℕ → Bool
 is_record w = same w (ascii "-") || (ltb 0 (length w) && (eqb (length w % 2) 0 && are_hex w))
 
-abbrev pub is_found : Number → Bool
-is_found (number.Of n) = true
-is_found number.Nothing = false
+abbrev pub is_found : Option ℕ → Bool
+is_found (Some n) = true
+is_found None = false
 
 abbrev pub is_number : List ℕ → Bool
 is_number w = is_found (number_in w)

@@ -1,9 +1,8 @@
 -- Input as lines. A line ends with a newline, 10; a carriage return, 13, before it belongs to the line's end; the last line may lack its newline. Definitions
 -- only.
-use Rattle.std.specs.Prelude.{ℕ, ◌+◌, ◌-◌, min, Bool, ◌&&◌, ◌||◌, cond, List, ltb, eqb, length, get_or, take}
+use Rattle.std.specs.Prelude.{ℕ, ◌+◌, ◌-◌, min, Bool, ◌&&◌, ◌||◌, cond, List, ltb, eqb, length, get_or, take, Option, Some, None}
 use Rattle.pages.specs.Scan.{index_of}
-use Rattle.questions.specs.declared.line_ends.Found.{Found}
-use Rattle.questions.specs.declared.line_ends.Found.TheVariants.{Line, Nothing}
+use Rattle.questions.specs.declared.line_ends.Line.{Line}
 
 -- the end of a line whose newline, or the input's end, is at e
 abbrev pub before_return : List ℕ → ℕ → ℕ
@@ -24,5 +23,5 @@ next_line s = min (index_of 10 s + 1) (length s)
 abbrev pub has_line : Bool → List ℕ → Bool
 has_line ended s = ltb (index_of 10 s) (length s) || (ended && ltb 0 (length s))
 
-unfoldable pub found_line : Bool → List ℕ → Found
-found_line ended s = cond (has_line ended s) (Line (line_end s) (next_line s)) Nothing
+unfoldable pub found_line : Bool → List ℕ → Option Line
+found_line ended s = cond (has_line ended s) (Some (record { end = line_end s; next = next_line s })) None

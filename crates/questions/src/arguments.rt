@@ -5,7 +5,7 @@ ghost use Rattle.questions.specs.Digits.{hex_number, bytes_in};
 ghost use Rattle.pages.specs.Pages.{Holds};
 ghost use Rattle.questions.specs.Arguments.{double_in, number_or};
 
-use crate::digits::{Number, number_in, read_bytes, word_in};
+use crate::digits::{number_in, read_bytes, word_in};
 use crate::words::nth_word;
 use fields::bits::double;
 
@@ -30,10 +30,7 @@ pub fn number_at(line: &[u8], i: usize) -> u64
     ensures answered { result ≡ number_or (get_or (line_parts line.now) i []) }
     ensures kept { line.now ≡ line.now }
 {
-    match number_in(nth_word(line, i)) {
-        Number::Of(n) => n,
-        Number::Nothing => 0,
-    }
+    number_in(nth_word(line, i)).unwrap_or(0)
 }
 
 // The bytes of the record, as many as the buffer has room for, at its start; how many these are. The line

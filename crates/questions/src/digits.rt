@@ -86,45 +86,39 @@ pub fn read_bytes(text: &[u8], out: &mut [u8]) -> usize
     count
 }
 
-#[derive(Clone, Copy)]
-pub enum Number {
-    Of(u64),
-    Nothing,
-}
-
 // A number with one decimal digit more behind it.
-fn with_digit(value: u64, b: u8) -> Number
+fn with_digit(value: u64, b: u8) -> Option<u64>
     ensures { result ≡ with_digit value b }
 {
     if b < b'0' {
-        return Number::Nothing;
+        return None;
     }
     if b > b'9' {
-        return Number::Nothing;
+        return None;
     }
     let last = wide(b - 48);
     if value > (0xffff_ffff_ffff_ffff - last) / 10 {
-        return Number::Nothing;
+        return None;
     }
-    Number::Of(value * 10 + last)
+    Some(value * 10 + last)
 }
 
 // The decimal number that a text spells, if it is one below 2^64. The text is left as it was.
-pub fn number_in(text: &[u8]) -> Number
+pub fn number_in(text: &[u8]) -> Option<u64>
     ensures answered { result ≡ number_in text.now }
     ensures kept { text.now ≡ text.now }
 {
     if text.len() == 0 {
-        return Number::Nothing;
+        return None;
     }
     let mut value = 0;
     let mut i = 0;
     while i < text.len() {
         match with_digit(value, text[i]) {
-            Number::Of(longer) => value = longer,
-            Number::Nothing => return Number::Nothing,
+            Some(longer) => value = longer,
+            None => return None,
         }
         i += 1;
     }
-    Number::Of(value)
+    Some(value)
 }

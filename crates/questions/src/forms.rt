@@ -5,27 +5,20 @@ ghost use Rattle.pages.specs.Pages.{Appended};
 ghost use Rattle.questions.specs.Words.{line_parts};
 ghost use Rattle.questions.specs.Forms.{is_word, is_none, given_in, is_record, is_number, is_of, are_of, fits, kind_text, kind_texts, wrong_line};
 
-use crate::digits::{Number, are_hex, number_in, word_in};
+use crate::digits::{are_hex, number_in, word_in};
 use crate::words::{nth_word, word_count};
 use pages::put;
 use pages::scan::same;
 
-// A word, or none where it may be absent.
-#[derive(Clone, Copy)]
-pub enum Given {
-    Word(u64),
-    Absent,
-}
-
 // The word that sixteen hex digits spell, or `none`. The text is left as it was.
-pub fn given_in(text: &[u8]) -> Given
+pub fn given_in(text: &[u8]) -> Option<u64>
     ensures answered { result ≡ given_in text.now }
     ensures kept { text.now ≡ text.now }
 {
     if same(text, b"none") {
-        return Given::Absent;
+        return None;
     }
-    Given::Word(word_in(text))
+    Some(word_in(text))
 }
 
 fn is_word(text: &[u8]) -> bool
@@ -65,10 +58,7 @@ fn is_record(text: &[u8]) -> bool
 fn is_number(text: &[u8]) -> bool
     ensures { result ≡ is_number text.now }
 {
-    match number_in(text) {
-        Number::Of(_) => true,
-        Number::Nothing => false,
-    }
+    number_in(text).is_some()
 }
 
 fn is_of(letter: u8, text: &[u8]) -> bool

@@ -6,9 +6,9 @@ use pages::scan::find;
 
 // Where the line at the head of some input ends, its end not counted, and where the next begins.
 #[derive(Clone, Copy)]
-pub enum Found {
-    Line(usize, usize),
-    Nothing,
+pub struct Line {
+    pub end: usize,
+    pub next: usize,
 }
 
 // The end of a line whose newline, or the input's end, is at `newline`.
@@ -27,18 +27,24 @@ fn before_return(input: &[u8], newline: usize) -> usize
 
 // The line at the head of the input, where a newline ends it or where the input has ended and it is the
 // last. The input is left as it was.
-pub fn first_line(input: &[u8], ended: bool) -> Found
+pub fn first_line(input: &[u8], ended: bool) -> Option<Line>
     ensures answered { result ≡ found_line ended input.now }
     ensures kept { input.now ≡ input.now }
 {
     let newline = find(input, 0, input.len(), b'\n');
     if newline < input.len() {
-        return Found::Line(before_return(input, newline), newline + 1);
+        return Some(Line {
+            end: before_return(input, newline),
+            next: newline + 1,
+        });
     }
     if ended {
         if 0 < newline {
-            return Found::Line(before_return(input, newline), newline);
+            return Some(Line {
+                end: before_return(input, newline),
+                next: newline,
+            });
         }
     }
-    Found::Nothing
+    None
 }

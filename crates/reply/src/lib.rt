@@ -7,6 +7,7 @@ ghost use Rattle.reply.specs.Counts.{IsPrefixLen};
 ghost use Rattle.pages.specs.Pages.{Holds};
 ghost use Rattle.text.specs.Asked.{asked_text};
 
+use pages::Page;
 use std::env::{Env, FillError};
 use std::io::Read;
 use text::{Asked, asked_for, put_asked};
@@ -63,7 +64,9 @@ fn put_text(page: &mut [u8], how: Asked, record: &[u8]) -> usize
     requires { length page.old ≡ 150 }
     ensures { Holds (asked_text how «record».now) page.new result }
 {
-    put_asked(page, 0, how, record)
+    let mut page = Page::new(page);
+    put_asked(&mut page, how, record);
+    page.position()
 }
 
 // Reads one mast record from standard input, judged by its first 256 bytes, and writes its figures or

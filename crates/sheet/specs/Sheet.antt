@@ -27,9 +27,9 @@ unfolding rows
 setting_sheet h p u room = (row (ltb room 1530) 16 [] ∷ sheet_input_rows h p u) then rows h p u 51
 
 -- what each case of the code's answer stands for
-abbrev pub sheet_outcome : (Result (Unit {0}) Refusal) → Outcome (Unit {0})
-sheet_outcome (Ok tt) = accepted tt
-sheet_outcome (Err c) = refusal c
+abbrev pub outcome : (Result (Unit {0}) Refusal) → Outcome (Unit {0})
+outcome (Ok tt) = accepted tt
+outcome (Err c) = refusal c
 
 -- an outcome without its text
 abbrev pub bare : Outcome (List ℕ) → Outcome (Unit {0})

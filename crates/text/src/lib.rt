@@ -1,16 +1,16 @@
 // The text of an answer: two lines with the eight figures and their mark, or `refused` and the number; and
 // which answer a program is asked for.
-#![tactic(auto)]
+#![tactic(auto, using(pages::proofs::Putting::puts))]
 
 pub mod answer_lines;
 
 ghost use Rattle.std.specs.Prelude.{◌≡◌, take};
-ghost use Rattle.pages.specs.Pages.{Appended};
+ghost use Rattle.pages.specs.Pages.{put};
 ghost use Rattle.text.specs.Asked.{asked_by, asked_text};
 
 use crate::answer_lines::put_answer;
 use mast::judge::{judge, judge_strictly};
-use pages::put;
+use pages::Page;
 
 // What the program is asked for.
 #[derive(Clone, Copy)]
@@ -22,18 +22,15 @@ pub enum Asked {
 
 // What is asked for by the words that the program was started with: how many there are, its own name
 // among them, and the one after its name.
+#[tactic(auto, using(pages::proofs::Same::same_is))]
 pub fn asked_for(count: usize, word: &[u8]) -> Asked
     ensures value { result ≡ asked_by count word.now }
     ensures kept { word.now ≡ word.now }
 {
-    if count <= 1 {
-        return Asked::AnyOrder;
-    }
-    let strict = pages::scan::same(word, b"strict");
-    if (count == 2) & strict {
-        Asked::RisingTags
-    } else {
-        Asked::Unknown
+    match count {
+        0 | 1 => Asked::AnyOrder,
+        2 if word == b"strict".as_slice() => Asked::RisingTags,
+        _ => Asked::Unknown,
     }
 }
 
@@ -41,21 +38,18 @@ pub fn asked_for(count: usize, word: &[u8]) -> Asked
 fn judged_part(record: &[u8]) -> &[u8]
     ensures { result.now ≡ take 256 «record».now }
 {
-    if record.len() <= 256 {
-        return record;
-    }
-    &record[..256]
+    &record[..256_usize.min(record.len())]
 }
 
-// The text of what is asked of a record, on the page from `at` on, as far as the page reaches; the position
-// after it. The record is left as it was.
-pub fn put_asked(page: &mut [u8], at: usize, asked: Asked, record: &[u8]) -> usize
-    ensures appended { Appended page.old at (asked_text asked «record».now) page.new result }
+// The text of what is asked of a record, on the page, as far as the page reaches. The record is left as it
+// was.
+pub fn put_asked(page: &mut Page<'_>, asked: Asked, record: &[u8])
+    ensures put { page.new ≡ put page.old (asked_text asked «record».now) }
     ensures kept { «record».now ≡ «record».now }
 {
     match asked {
-        Asked::AnyOrder => put_answer(page, at, judge(judged_part(record))),
-        Asked::RisingTags => put_answer(page, at, judge_strictly(judged_part(record))),
-        Asked::Unknown => put(page, at, b"usage: station_air [strict] <RECORD\n"),
+        Asked::AnyOrder => put_answer(page, judge(judged_part(record))),
+        Asked::RisingTags => put_answer(page, judge_strictly(judged_part(record))),
+        Asked::Unknown => page.put(b"usage: station_air [strict] <RECORD\n"),
     }
 }

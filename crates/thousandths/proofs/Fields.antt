@@ -5,7 +5,7 @@ use lib.Ieee.Bits.{to_bits-lt}
 use lib.Ieee.Exact.{odd_sign}
 use Rattle.arithmetic.specs.Whole.{signed}
 use Rattle.arithmetic.proofs.Parts.{negative, field, fraction}
-use Rattle.thousandths.specs.declared.Counted.TheVariants.{Missing}
+use Rattle.std.specs.Prelude.{None}
 use Rattle.thousandths.specs.Thousandths.{in_range, thousandths, nearest_whole, nearest_thousandth, counted, if_exact, count_for}
 use Rattle.thousandths.proofs.Sizes.{nearest_whole-same}
 use Rattle.thousandths.proofs.Words.{out_of_range}
@@ -95,14 +95,14 @@ module _ (x : Float) (held : T (fits binary64 x)) where
       → if_exact (to_bits binary64 x) (counted (signed (negative x) (nearest_whole ((2 ^ 52 + fraction x) * 1000) (2 ^ (1075 - field x))))) ≡ count_for x
   digits-count h g = count-is _ (in_between (negative x) (field x) (fraction x) h g)
 
-  pub great-count : 1045 ≤ field x → Missing ≡ count_for x
+  pub great-count : 1045 ≤ field x → None ≡ count_for x
   unfolding if_exact
   great-count h = let top : field x ≤ 2047 = omega (arith, to_bits-lt binary64 x held) in go (eq-or-lt_of_le top)
     where
       not_zero : to_bits binary64 (thousandths (pos 0)) ≡ to_bits binary64 x → ⊥
       not_zero same = omega (arith, same, zero_bits)
 
-      go : (field x ≡ 2047) ⊎ (field x < 2047) → Missing ≡ count_for x
+      go : (field x ≡ 2047) ⊎ (field x < 2047) → None ≡ count_for x
       go (inl e) =
           sym (other-pattern (pos 0) (to_bits binary64 x) not_zero)
           ∙ ap (if_exact (to_bits binary64 x)) (sym (in_range-counted (pos 0) tt))

@@ -4,7 +4,7 @@ use lib.IntN.{pos-ne-negsuc}
 use Rattle.arithmetic.specs.Whole.{signed}
 use Rattle.arithmetic.proofs.Rounding.{round-opposite}
 use Rattle.arithmetic.proofs.Pattern.{one-pattern}
-use Rattle.thousandths.specs.declared.Counted.TheVariants.{Count, Missing}
+use Rattle.std.specs.Prelude.{Some, None}
 use Rattle.thousandths.specs.Thousandths.{in_range, thousandths, nearest_thousandth, counted, if_exact, count_for}
 use Rattle.thousandths.proofs.Sizes.{of_size, InRange}
 
@@ -12,11 +12,11 @@ pub record DoubleOfCount : Type 0 where
   pub is_finite : (n : ℤ) → InRange n → T (finite (thousandths n))
   pub never_minus_zero : (n : ℤ) → InRange n → thousandths n ≡ fin true 0 (pos 0) → ⊥
   pub distinct : (m n : ℤ) → InRange m → InRange n → thousandths m ≡ thousandths n → m ≡ n
-  pub finds_its_count : (n : ℤ) → InRange n → count_for (thousandths n) ≡ Count n
+  pub finds_its_count : (n : ℤ) → InRange n → count_for (thousandths n) ≡ Some n
 
 pub record CountOfDouble : Type 0 where
-  pub gives_the_double : (x : Float) (n : ℤ) → T (fits binary64 x) → count_for x ≡ Count n → InRange n × (thousandths n ≡ x)
-  pub is_found : (x : Float) (n : ℤ) → InRange n → thousandths n ≡ x → count_for x ≡ Count n
+  pub gives_the_double : (x : Float) (n : ℤ) → T (fits binary64 x) → count_for x ≡ Some n → InRange n × (thousandths n ≡ x)
+  pub is_found : (x : Float) (n : ℤ) → InRange n → thousandths n ≡ x → count_for x ≡ Some n
 
 -- ---- a count's double
 pub thousandths-fits : (n : ℤ) → T (fits binary64 (thousandths n))
@@ -59,42 +59,42 @@ distinct : (m n : ℤ) → InRange m → InRange n → thousandths m ≡ thousan
 distinct m n g h same = sym (nearest_count_lem m g) ∙ ap nearest_thousandth same ∙ nearest_count_lem n h
 
 -- ---- what is found
-pub in_range-counted : (n : ℤ) → InRange n → counted n ≡ Count n
+pub in_range-counted : (n : ℤ) → InRange n → counted n ≡ Some n
 unfolding counted
 in_range-counted n h = rw (is_true (in_range n) h)
 
-pub not_counted : (n : ℤ) → in_range n ≡ false → counted n ≡ Missing
+pub not_counted : (n : ℤ) → in_range n ≡ false → counted n ≡ None
 unfolding counted
 not_counted n outside = rw outside
 
-pub same-pattern : (n : ℤ) (b : ℕ) → to_bits binary64 (thousandths n) ≡ b → if_exact b (Count n) ≡ Count n
+pub same-pattern : (n : ℤ) (b : ℕ) → to_bits binary64 (thousandths n) ≡ b → if_exact b (Some n) ≡ Some n
 unfolding if_exact
 same-pattern n b same = rw (eq-eqb (to_bits binary64 (thousandths n)) b same)
 
-pub other-pattern : (n : ℤ) (b : ℕ) → (to_bits binary64 (thousandths n) ≡ b → ⊥) → if_exact b (Count n) ≡ Missing
+pub other-pattern : (n : ℤ) (b : ℕ) → (to_bits binary64 (thousandths n) ≡ b → ⊥) → if_exact b (Some n) ≡ None
 unfolding if_exact
 other-pattern n b other = rw (ne_eqb (to_bits binary64 (thousandths n)) b other)
 
-is-passed : (c n : ℤ) (b : ℕ) → if_exact b (counted c) ≡ Count n → (c ≡ n) × (InRange n × (to_bits binary64 (thousandths n) ≡ b))
+is-passed : (c n : ℤ) (b : ℕ) → if_exact b (counted c) ≡ Some n → (c ≡ n) × (InRange n × (to_bits binary64 (thousandths n) ≡ b))
 unfolding if_exact counted
 is-passed c n b = go (in_range c) (λ t. t)
   where
-    passed : (u : Bool) → InRange c → (T u → to_bits binary64 (thousandths c) ≡ b) → cond u (Count c) Missing ≡ Count n
+    passed : (u : Bool) → InRange c → (T u → to_bits binary64 (thousandths c) ≡ b) → cond u (Some c) None ≡ Some n
         → (c ≡ n) × (InRange n × (to_bits binary64 (thousandths n) ≡ b))
     passed true range same h = let e : c ≡ n = cc in (e, (subst InRange e range, rw e at (same tt)))
     passed false range same h = let z : ◌≡◌ {A = ℕ} 0 1 = cc in absurd (omega arith)
 
-    go : (t : Bool) → (T t → InRange c) → if_exact b (cond t (Count c) Missing) ≡ Count n → (c ≡ n) × (InRange n × (to_bits binary64 (thousandths n) ≡ b))
+    go : (t : Bool) → (T t → InRange c) → if_exact b (cond t (Some c) None) ≡ Some n → (c ≡ n) × (InRange n × (to_bits binary64 (thousandths n) ≡ b))
     go true range h = passed (eqb (to_bits binary64 (thousandths c)) b) (range tt) (eqb→eq (to_bits binary64 (thousandths c)) b) h
     go false range h = let z : ◌≡◌ {A = ℕ} 0 1 = cc in absurd (omega arith)
 
-gives_the_double_lem : (x : Float) (n : ℤ) → T (fits binary64 x) → count_for x ≡ Count n → InRange n × (thousandths n ≡ x)
+gives_the_double_lem : (x : Float) (n : ℤ) → T (fits binary64 x) → count_for x ≡ Some n → InRange n × (thousandths n ≡ x)
 unfolding count_for
 gives_the_double_lem x n f h =
     let p = is-passed (nearest_thousandth x) n (to_bits binary64 x) h in
     (p.1.0, one-pattern (thousandths n) x (thousandths-fits n) f p.1.1)
 
-is_found : (x : Float) (n : ℤ) → InRange n → thousandths n ≡ x → count_for x ≡ Count n
+is_found : (x : Float) (n : ℤ) → InRange n → thousandths n ≡ x → count_for x ≡ Some n
 unfolding count_for
 is_found x n h same =
     let b : ℕ = to_bits binary64 x in

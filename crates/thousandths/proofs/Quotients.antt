@@ -1,5 +1,5 @@
 -- The quotient of two whole numbers that are doubles exactly is rounded once: it is the double nearest to their ratio. Assumes nothing.
-use Rattle.arithmetic.proofs.Kit.{◌≡◌, refl, sym, ap, ◌∙◌, subst, Bool, true, false, ℕ, zero, suc, ◌*◌, ◌^◌, ◌≤◌, ◌<◌, mul_assoc, mul_comm, mul-pos, zero-mul, arith, ℤ, pos, negsuc, Float, nan, inf, fin, binary64, up, down, round, div, of_int, down_pos, HasValue, round_same, mul-one}
+use Rattle.arithmetic.proofs.Kit.{◌≡◌, sym, ap, ◌∙◌, subst, Bool, true, false, ℕ, zero, suc, ◌*◌, ◌^◌, ◌≤◌, ◌<◌, mul_assoc, mul_comm, mul-pos, zero-mul, arith, ℤ, pos, negsuc, Float, nan, inf, fin, binary64, up, down, round, div, of_int, down_pos, HasValue, round_same, mul-one}
 use lib.Ieee.Back.{round_whole}
 use lib.Dec.{eqb-suc-zero}
 use lib.Signed.{mag}

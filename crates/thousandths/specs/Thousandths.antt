@@ -1,13 +1,11 @@
 -- Document 02, "Thousandths for the new masts": "a signed count of thousandths in four bytes, two's complement", and "a count n means the double nearest
 -- n / 1000". Definitions only.
-use Rattle.std.specs.Prelude.{ℕ, suc, ◌+◌, ◌-◌, ◌*◌, ◌/◌, Bool, cond, ℤ, pos, negsuc, leb, eqb, Float}
+use Rattle.std.specs.Prelude.{ℕ, suc, ◌+◌, ◌-◌, ◌*◌, ◌/◌, Bool, cond, ℤ, pos, negsuc, leb, eqb, Float, Option, Some, None}
 use Rattle.std.proofs.Math.IntN.{sub_ℕ}
 use Rattle.std.specs.Float.{nan, inf, fin, binary64}
 use Rattle.std.specs.Float.Ieee.{up, down, to_bits}
 use Rattle.arithmetic.specs.Nearest.{nearest_ratio}
 use Rattle.arithmetic.specs.Whole.{signed}
-use Rattle.thousandths.specs.declared.Counted.{Counted}
-use Rattle.thousandths.specs.declared.Counted.TheVariants.{Count, Missing}
 
 -- ---- "four bytes, two's complement"
 -- the signed 32-bit range, in which a count lies: -2147483648 to 2147483647. `negsuc n` is -(n + 1).
@@ -39,13 +37,13 @@ nearest_thousandth (inf s) = pos 0
 nearest_thousandth (fin s m e) = signed s (nearest_whole (m * up e * 1000) (down e))
 
 -- the count n, if it is in range
-unfoldable pub counted : ℤ → Counted
-counted n = cond (in_range n) (Count n) Missing
+unfoldable pub counted : ℤ → Option ℤ
+counted n = cond (in_range n) (Some n) None
 
 -- and if its double has the bit pattern b
-unfoldable pub if_exact : ℕ → Counted → Counted
-if_exact b (Count n) = cond (eqb (to_bits binary64 (thousandths n)) b) (Count n) Missing
-if_exact b Missing = Missing
+unfoldable pub if_exact : ℕ → Option ℤ → Option ℤ
+if_exact b (Some n) = cond (eqb (to_bits binary64 (thousandths n)) b) (Some n) None
+if_exact b None = None
 
-unfoldable pub count_for : Float → Counted
+unfoldable pub count_for : Float → Option ℤ
 count_for x = if_exact (to_bits binary64 x) (counted (nearest_thousandth x))

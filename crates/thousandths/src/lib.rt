@@ -6,12 +6,6 @@ ghost use Rattle.std.specs.Prelude.{◌≡◌, ◌*◌, ◌^◌, ◌<◌};
 ghost use Rattle.arithmetic.specs.Whole.{signed};
 ghost use Rattle.thousandths.specs.Thousandths.{count_of, twos_complement, thousandths, nearest_whole, counted, if_exact, count_for};
 
-#[derive(Clone, Copy)]
-pub enum Counted {
-    Count(i32),
-    Missing,
-}
-
 // The count that a word stands for by two's complement. `!k` is -(k + 1).
 fn count_from(word: u32) -> i32
     ensures { result ≡ count_of word }
@@ -58,50 +52,50 @@ fn nearest_count(digits: u64, places: u64) -> u64
 }
 
 // The count of a size with a sign, if it is in range.
-pub fn signed_count(negative: bool, size: u64) -> Counted
+pub fn signed_count(negative: bool, size: u64) -> Option<i32>
     ensures { result ≡ counted (signed negative size) }
 {
     if negative {
         if size > 2147483648 {
-            return Counted::Missing;
+            return None;
         }
-        return Counted::Count(count_from(((4294967296 - size) % 4294967296) as u32));
+        return Some(count_from(((4294967296 - size) % 4294967296) as u32));
     }
     if size > 2147483647 {
-        return Counted::Missing;
+        return None;
     }
-    Counted::Count(count_from(size as u32))
+    Some(count_from(size as u32))
 }
 
 // A count, if its double has the pattern.
-fn tried(pattern: u64, count: Counted) -> Counted
+fn tried(pattern: u64, count: Option<i32>) -> Option<i32>
     ensures { result ≡ if_exact pattern count }
 {
     match count {
-        Counted::Count(n) => {
+        Some(n) => {
             if f64::to_bits(double_of(n)) == pattern {
                 count
             } else {
-                Counted::Missing
+                None
             }
         }
-        Counted::Missing => Counted::Missing,
+        None => None,
     }
 }
 
 // The count whose double is x, bit for bit. The exponent's field of x's pattern says how many binary
 // places its digits have: from 1012 to 1044 they are 63 to 31. Below that 1000 * x is less than a half
 // in size, and above it more than any count.
-pub fn count_of(x: f64) -> Counted
+pub fn count_of(x: f64) -> Option<i32>
     ensures { result ≡ count_for x }
 {
     if x != x {
-        return Counted::Missing;
+        return None;
     }
     let pattern = f64::to_bits(x);
     let field = pattern % 0x8000_0000_0000_0000 / 0x10_0000_0000_0000;
     if field >= 1045 {
-        return Counted::Missing;
+        return None;
     }
     let negative = pattern >= 0x8000_0000_0000_0000;
     if field < 1012 {

@@ -24,6 +24,6 @@ unfoldable pub class_of : Readings → Outcome ℕ
 class_of r = judged r ⟫ (λ f. accepted (trim_class f.density_kg_m3))
 
 -- what each case of the code's answer stands for
-abbrev pub classified : (Result ℕ Refusal) → Outcome ℕ
-classified (Ok n) = accepted n
-classified (Err c) = refusal c
+abbrev pub outcome : (Result ℕ Refusal) → Outcome ℕ
+outcome (Ok n) = accepted n
+outcome (Err c) = refusal c

@@ -2,7 +2,7 @@
 // judge.
 ghost use Rattle.std.specs.Prelude.{◌≡◌};
 ghost use Rattle.refusal.specs.Outcomes.{outcome};
-ghost use Rattle.record.specs.Readings.{read_outcome};
+ghost use Rattle.record.specs.Readings.{outcome};
 ghost use Rattle.vote.specs.Vote.{accepted_readings, voted_outcome, vote_outcome, vote};
 
 use refusal::judge::Figures;
@@ -15,7 +15,7 @@ use refusal::Refusal;
 
 // The readings of a record that is accepted by itself, or its refusal.
 fn accepted_readings(bytes: &[u8]) -> Read
-    ensures result_value { read_outcome result ≡ accepted_readings bytes.now }
+    ensures result_value { outcome result ≡ accepted_readings bytes.now }
     ensures kept { bytes.now ≡ bytes.now }
 {
     let read = read_record(bytes);

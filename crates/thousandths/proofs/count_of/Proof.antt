@@ -2,7 +2,7 @@
 use Rattle.arithmetic.proofs.Kit.{◌≡◌, refl, sym, ap, ◌∙◌, subst, ℕ, ◌^◌, T, leb, Float, nan, binary64, fits, round, to_bits, differs_from_itself, rules}
 use Rattle.arithmetic.specs.Whole.{signed}
 use Rattle.arithmetic.proofs.Parts.{not_nan}
-use Rattle.thousandths.specs.declared.Counted.TheVariants.{Missing}
+use Rattle.std.specs.Prelude.{None}
 use Rattle.thousandths.specs.Thousandths.{thousandths, nearest_thousandth, counted, if_exact, count_for}
 use Rattle.thousandths.proofs.Fields.{small_count, digits-count, great-count}
 use Rattle.thousandths.proofs.count_of.Statement.{statement}
@@ -12,7 +12,7 @@ use Rattle.thousandths.proofs.count_of.Tie as tie
 held : (c : tie.Start) → T (fits binary64 c.args.x)
 held c = subst T (sym c.well_formed.0.1) tt
 
-nan_missing : Missing ≡ count_for nan
+nan_missing : None ≡ count_for nan
 unfolding count_for if_exact counted nearest_thousandth thousandths to_bits round
 nan_missing = refl
 

@@ -1,7 +1,7 @@
 -- `thousandths::signed_count` meets its contract, by the word of the count. Assumes nothing.
 use Rattle.arithmetic.proofs.Kit.{◌≡◌, sym, ap, ◌∙◌, subst, true, false, ℕ, ◌-◌, ◌%◌, ◌<◌, arith, ℤ, w32, of_z, to_z, rules}
 use Rattle.arithmetic.specs.Whole.{signed}
-use Rattle.thousandths.specs.declared.Counted.TheVariants.{Count}
+use Rattle.std.specs.Prelude.{Some}
 use Rattle.thousandths.specs.Thousandths.{count_of, counted}
 use Rattle.thousandths.proofs.Words.{count-below, word-of_size, too_high, too_low, in_range_lem, reads-back}
 use Rattle.thousandths.proofs.Laws.{in_range-counted, not_counted}
@@ -10,8 +10,8 @@ use Rattle.thousandths.proofs.signed_count.Tie as tie
 use Rattle.thousandths.proofs.Sizes.{InRange}
 
 -- the count of the word w, read back from its bits
-counted_word : (w : ℕ) (z n : ℤ) → w < 4294967296 → z ≡ count_of w → count_of w ≡ n → Count (to_z w32 (of_z w32 z)) ≡ counted n
-counted_word w z n h e is = ap Count (reads-back w z h e ∙ is) ∙ sym (in_range-counted n (subst InRange is (in_range_lem w h)))
+counted_word : (w : ℕ) (z n : ℤ) → w < 4294967296 → z ≡ count_of w → count_of w ≡ n → Some (to_z w32 (of_z w32 z)) ≡ counted n
+counted_word w z n h e is = ap Some (reads-back w z h e ∙ is) ∙ sym (in_range-counted n (subst InRange is (in_range_lem w h)))
 
 returns : tie.Need-returns-then-size-gt2147483648
 returns c =

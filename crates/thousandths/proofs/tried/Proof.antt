@@ -13,30 +13,30 @@ number (inf s) h = tt
 number (fin s m e) h = tt
 
 -- the count, and its double
-fits : (c : tie.In-Count) → SFits w32 c.in-Count.n
-fits c = record { sfits = c.in-Count.known_told-1-own.given.0.1 }
+fits : (c : tie.In-Some) → SFits w32 c.in-Some.n
+fits c = record { sfits = c.in-Some.known_told-1-own.given.0.1 }
 
-double_is : (c : tie.After-double_of) → c.double_of.result ≡ thousandths c.in-Count.n
-double_is c = c.double_of.ensures ∙ ap thousandths (to_z-of_z w32 c.in-Count.n (fits c.before))
+double_is : (c : tie.After-double_of) → c.double_of.result ≡ thousandths c.in-Some.n
+double_is c = c.double_of.ensures ∙ ap thousandths (to_z-of_z w32 c.in-Some.n (fits c.before))
 
 float_to_bits_if1 : tie.Need-float_to_bits-double_of
 float_to_bits_if1 c =
-    let n : ℤ = c.in-Count.n in
+    let n : ℤ = c.in-Some.n in
     rw (double_is c) (number (thousandths n) (double_of-count.is_finite n (fits-in_range n (fits c.before))))
 
 returns : tie.Need-returns-then-double_of-pattern
 returns c =
     let at = c.before.before in
-    let n : ℤ = at.in-Count.n in
+    let n : ℤ = at.in-Some.n in
     let b : ℕ = at.args.pattern in
-    sym (same-pattern n b (ap (to_bits binary64) (sym (double_is c.before)) ∙ c.if-double_of-pattern.true)) ∙ ap (if_exact b) (sym at.in-Count.is)
+    sym (same-pattern n b (ap (to_bits binary64) (sym (double_is c.before)) ∙ c.if-double_of-pattern.true)) ∙ ap (if_exact b) (sym at.in-Some.is)
 
 returns_2 : tie.Need-returns-else-double_of-pattern
 returns_2 c =
     let at = c.before.before in
-    let n : ℤ = at.in-Count.n in
+    let n : ℤ = at.in-Some.n in
     let b : ℕ = at.args.pattern in
-    sym (other-pattern n b (λ same. c.if-double_of-pattern.false (ap (to_bits binary64) (double_is c.before) ∙ same))) ∙ ap (if_exact b) (sym at.in-Count.is)
+    sym (other-pattern n b (λ same. c.if-double_of-pattern.false (ap (to_bits binary64) (double_is c.before) ∙ same))) ∙ ap (if_exact b) (sym at.in-Some.is)
 
 pub tried_spec : {M : Type 1} → statement M
 tried_spec =
@@ -46,4 +46,4 @@ tried_spec =
     (λ c. search rules)
     returns
     returns_2
-    (λ c. unfold if_exact in ap (if_exact c.args.pattern) (sym c.in-Missing.is)))
+    (λ c. unfold if_exact in ap (if_exact c.args.pattern) (sym c.in-None.is)))

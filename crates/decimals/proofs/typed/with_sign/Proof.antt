@@ -1,6 +1,7 @@
 -- `decimals::typed::with_sign` meets its contract: the first byte says whether there is a sign. Assumes nothing.
 use Rattle.arithmetic.proofs.Kit.{◌≡◌, refl, ap, ◌∙◌, true, false, List, [], ◌∷◌, ℕ, ◌-◌, ◌<◌, arith, rules, eq-eqb, ne_eqb, length, get_or, take, drop, length-drop, take_all}
-use Rattle.decimals.specs.declared.typed.Typed.TheVariants.{NotANumber}
+use Rattle.std.specs.Prelude.{Err}
+use Rattle.decimals.specs.declared.typed.NotACount.TheVariants.{NotANumber}
 use Rattle.decimals.specs.Typed.{typed, after_sign}
 use Rattle.decimals.proofs.typed.with_sign.Statement.{statement}
 use Rattle.decimals.proofs.typed.with_sign.Tie as tie
@@ -9,7 +10,7 @@ use Rattle.decimals.proofs.typed.with_sign.Tie as tie
 rest_of : (s : List ℕ) → take (length s - 1) (drop 1 s) ≡ drop 1 s
 rest_of s = take_all (length s - 1) (drop 1 s) (rw length-drop (omega arith))
 
-empty : (k : ℕ) (s : List ℕ) → length s ≡ 0 → NotANumber ≡ typed k s
+empty : (k : ℕ) (s : List ℕ) → length s ≡ 0 → Err NotANumber ≡ typed k s
 unfolding typed
 empty k [] e = refl
 empty k (b ∷ s) e = absurd (omega arith)

@@ -1,6 +1,7 @@
 -- `park_text::typed_word::read_number` meets its contract. Assumes nothing.
-use Rattle.arithmetic.proofs.Kit.{◌≡◌, refl, sym, ap, ap₂, ◌∙◌, Bool, ℕ, min, ltb, length, rules}
-use Rattle.decimals.specs.declared.typed.Typed.{Typed}
+use Rattle.arithmetic.proofs.Kit.{◌≡◌, refl, sym, ap, ap₂, ◌∙◌, Bool, ℕ, ℤ, min, ltb, length, rules}
+use Rattle.std.specs.Prelude.{Result}
+use Rattle.decimals.specs.declared.typed.NotACount.{NotACount}
 use Rattle.decimals.specs.Typed.{typed}
 use Rattle.park_text.specs.declared.units.Unit.{Unit}
 use Rattle.park_text.specs.declared.units.Unit.TheVariants.{Plain, Foot, Fahrenheit, Kelvin, Kilopascal, InchOfMercury}
@@ -25,7 +26,7 @@ returns c =
     let w = a.name.now in
     let u : Unit = c.in-Known.unit in
     c.value_for.ensures
-    ∙ ap₂ (λ (t : Bool) (o : Typed). value_for a.meaning u (ltb 0 (length w)) t o) c.three_decimals.ensures
+    ∙ ap₂ (λ (t : Bool) (o : Result ℤ NotACount). value_for a.meaning u (ltb 0 (length w)) t o) c.three_decimals.ensures
     (c.read_decimal.ensures.0 ∙ ap (λ (k : ℕ). typed k d) (ap (λ (k : ℕ). min k 4) c.places.ensures ∙ at_most_four u))
     ∙ ap (in_unit a.meaning d w) (sym c.in-Known.is ∙ c.unit_named.ensures)
 

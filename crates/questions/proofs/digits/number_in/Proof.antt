@@ -1,8 +1,7 @@
 -- `questions::digits::number_in` meets its contract. The loop's invariant: the digits from the position on, behind the value so far, spell the number. Assumes
 -- nothing.
 use Rattle.arithmetic.proofs.Kit.{◌≡◌, refl, sym, ap, ◌∙◌, List, [], ◌∷◌, ℕ, ◌+◌, ◌-◌, ◌≤◌, ◌<◌, arith, length, drop, drop_of_length-le, rules}
-use Rattle.questions.specs.declared.digits.Number.{Number}
-use Rattle.questions.specs.declared.digits.Number.TheVariants.{Nothing}
+use Rattle.std.specs.Prelude.{Option, None}
 use Rattle.questions.specs.Digits.{◌⟫◌, decimal_from, number_in}
 use Rattle.questions.proofs.Passed.{number_passed}
 use Rattle.questions.proofs.digits.number_in.Statement.{statement}
@@ -14,7 +13,7 @@ invariant_loop text value₀ i₀ value i = (i ≤ length text) × (decimal_from
 abbrev decreases_loop : tie.decreases-loop-i
 decreases_loop text value₀ i₀ value i = length text - i
 
-no_digit : (s : List ℕ) → length s ≡ 0 → Nothing ≡ number_in s
+no_digit : (s : List ℕ) → length s ≡ 0 → None ≡ number_in s
 unfolding number_in
 no_digit [] h = refl
 no_digit (b ∷ s) h = absurd (omega arith)
@@ -28,12 +27,12 @@ returns_2 : tie.Need-returns-in-None invariant_loop decreases_loop
 returns_2 c =
     let s = c.args.text.now in
     let i : ℕ = c.loop-i.i in
-    let rest : ℕ → Number = λ (w : ℕ). decimal_from w (drop (i + 1) s) in (
+    let rest : ℕ → Option ℕ = λ (w : ℕ). decimal_from w (drop (i + 1) s) in (
       sym
           (some_digit s (omega arith)
           ∙ c.loop-i.invariant.1
           ∙ number_passed s i (omega arith) c.loop-i.value
-          ∙ ap (λ (n : Number). n ⟫ rest) (sym c.with_digit.ensures ∙ c.in-None.is)),
+          ∙ ap (λ (n : Option ℕ). n ⟫ rest) (sym c.with_digit.ensures ∙ c.in-None.is)),
       refl,
     )
 
@@ -41,8 +40,8 @@ loop_again : tie.Need-loop-i-preserved invariant_loop decreases_loop
 loop_again c =
     let s = c.args.text.now in
     let i : ℕ = c.loop-i.i in
-    let rest : ℕ → Number = λ (w : ℕ). decimal_from w (drop (i + 1) s) in
-    (omega arith, c.loop-i.invariant.1 ∙ number_passed s i (omega arith) c.loop-i.value ∙ ap (λ (n : Number). n ⟫ rest) (sym c.with_digit.ensures ∙ c.in-Of.is))
+    let rest : ℕ → Option ℕ = λ (w : ℕ). decimal_from w (drop (i + 1) s) in
+    (omega arith, c.loop-i.invariant.1 ∙ number_passed s i (omega arith) c.loop-i.value ∙ ap (λ (n : Option ℕ). n ⟫ rest) (sym c.with_digit.ensures ∙ c.in-Some.is))
 
 returns_3 : tie.Need-returns invariant_loop decreases_loop
 unfolding decimal_from

@@ -2,13 +2,17 @@
 use Rattle.arithmetic.proofs.Kit.{◌≡◌, refl, ap, ap₂, ◌∙◌, Bool, true, false, List, ℕ, ◌+◌, ◌≤◌, ◌<◌, arith, lt-ltb, le-ltb, length, rules}
 use Rattle.pages.specs.Scan.{index_of, slice}
 use Rattle.questions.proofs.Found.{found}
-use Rattle.questions.specs.declared.line_ends.Found.TheVariants.{Line, Nothing}
+use Rattle.std.specs.Prelude.{Option, Some, None}
+use Rattle.questions.specs.declared.line_ends.Line.{Line}
 use Rattle.questions.specs.Lines.{before_return, line_end, found_line}
 use Rattle.questions.proofs.line_ends.first_line.Statement.{statement}
 use Rattle.questions.proofs.line_ends.first_line.Tie as tie
 
 -- by where the newline is found
 module _ (s : List ℕ) (newline : ℕ) (is : newline ≡ 0 + index_of 10 (slice 0 (length s) s)) where
+  abbrev line_of : ℕ → ℕ → Option Line
+  line_of end next = Some (record { end = end; next = next })
+
   here : newline ≡ index_of 10 s
   here = found 10 s 0 is ∙ omega arith
 
@@ -16,21 +20,21 @@ module _ (s : List ℕ) (newline : ℕ) (is : newline ≡ 0 + index_of 10 (slice
   unfolding line_end
   ends e = e ∙ ap (before_return s) here
 
-  newline_ends : (ended : Bool) {end : ℕ} → end ≡ before_return s newline → newline < length s → Line end (newline + 1) ≡ found_line ended s
+  newline_ends : (ended : Bool) {end : ℕ} → end ≡ before_return s newline → newline < length s → line_of end (newline + 1) ≡ found_line ended s
   unfolding found_line
-  newline_ends ended e h = rw (lt-ltb (index_of 10 s) (length s) (omega (arith, here))) (ap₂ Line (ends e) (omega (arith, here)))
+  newline_ends ended e h = rw (lt-ltb (index_of 10 s) (length s) (omega (arith, here))) (ap₂ line_of (ends e) (omega (arith, here)))
 
-  input_ends : {ended : Bool} {end : ℕ} → ended ≡ true → end ≡ before_return s newline → newline ≤ length s → length s ≤ newline → 0 < newline → Line end newline ≡ found_line ended s
+  input_ends : {ended : Bool} {end : ℕ} → ended ≡ true → end ≡ before_return s newline → newline ≤ length s → length s ≤ newline → 0 < newline → line_of end newline ≡ found_line ended s
   unfolding found_line
   input_ends last e within h some =
-      rw (le-ltb (index_of 10 s) (length s) (omega (arith, here)), last, lt-ltb 0 (length s) (omega arith)) (ap₂ Line (ends e) (omega (arith, here)))
+      rw (le-ltb (index_of 10 s) (length s) (omega (arith, here)), last, lt-ltb 0 (length s) (omega arith)) (ap₂ line_of (ends e) (omega (arith, here)))
 
-  nothing_left : (ended : Bool) → length s ≤ newline → newline ≤ length s → newline ≤ 0 → Nothing ≡ found_line ended s
+  nothing_left : (ended : Bool) → length s ≤ newline → newline ≤ length s → newline ≤ 0 → None ≡ found_line ended s
   unfolding found_line
   nothing_left true h within none = rw (le-ltb (index_of 10 s) (length s) (omega (arith, here)), le-ltb 0 (length s) (omega arith))
   nothing_left false h within none = rw (le-ltb (index_of 10 s) (length s) (omega (arith, here)))
 
-  not_yet : {ended : Bool} → ended ≡ false → length s ≤ newline → Nothing ≡ found_line ended s
+  not_yet : {ended : Bool} → ended ≡ false → length s ≤ newline → None ≡ found_line ended s
   unfolding found_line
   not_yet e h = rw (le-ltb (index_of 10 s) (length s) (omega (arith, here)), e)
 

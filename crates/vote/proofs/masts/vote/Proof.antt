@@ -2,14 +2,14 @@
 use Rattle.std.specs.Prelude.{Result}
 use Rattle.refusal.specs.declared.judge.Figures.{Figures}
 use Rattle.refusal.specs.declared.Refusal.{Refusal}
-use Rattle.vote.proofs.Kit.{◌≡◌, refl, sym, ap, ◌∙◌, List, ℕ, rules, Outcome, accepted, ◌⟫◌, outcome, Readings, read_outcome, VoteOutcome, by_no_mast, accepted_readings, after_mast, vote, voted_outcome}
+use Rattle.vote.proofs.Kit.{◌≡◌, refl, sym, ap, ◌∙◌, List, ℕ, rules, Outcome, accepted, ◌⟫◌, outcome, Readings, VoteOutcome, by_no_mast, accepted_readings, after_mast, vote, voted_outcome}
 use Rattle.record.specs.declared.readings.Read.{Read}
 use Rattle.refusal.specs.Outcomes.{outcome}
 use Rattle.vote.proofs.masts.vote.Statement.{statement}
 use Rattle.vote.proofs.masts.vote.Tie as tie
 
 -- the n-th mast, whose check is found to be k
-mast : (n : ℕ) (s : List ℕ) (r : Read) {k : (Result (Unit {0}) Refusal)} (next : Readings → VoteOutcome) → read_outcome r ≡ accepted_readings s → r.check ≡ k
+mast : (n : ℕ) (s : List ℕ) (r : Read) {k : (Result (Unit {0}) Refusal)} (next : Readings → VoteOutcome) → outcome r ≡ accepted_readings s → r.check ≡ k
     → after_mast n (outcome k ⟫ (λ _. accepted r.readings)) next ≡ after_mast n (accepted_readings s) next
 mast n s r next e told = ap (λ (o : Outcome Readings). after_mast n o next) (ap (λ (k : (Result (Unit {0}) Refusal)). outcome k ⟫ (λ _. accepted r.readings)) (sym told) ∙ e)
 

@@ -1,9 +1,0 @@
-use Rattle.std.proofs.Common.{◌-◌, ◌+◌, ◌≡◌, ◌≤◌}
-use Rattle.pages.specs.Scan.{index_of, slice}
-use Rattle.pages.proofs.scan.find.Given as goal
-
-abbrev pub invariant-loop-at : goal.invariant-loop-at
-invariant-loop-at l = (l.at ≤ l.to) × (l.from + index_of l.byte (slice l.from l.to l.s) ≡ l.at + index_of l.byte (slice l.at l.to l.s))
-
-abbrev pub decreases-loop-at : goal.decreases-loop-at
-decreases-loop-at l = l.to - l.at
