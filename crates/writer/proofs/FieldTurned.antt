@@ -1,5 +1,5 @@
 -- A field in a form: the readers take it, with the same meaning and the same double; and out of the other form it comes back byte for byte. Assumes nothing.
-use Rattle.writer.proofs.Kit.{◌≡◌, refl, sym, ap, ap₂, ◌∙◌, Bool, true, false, not, cond, true≢false, List, ℕ, ◌<◌, arith, binary64, of_bits-fits, length, take_all, NoneHolds, Value, Double, Count, number_at, double_at, meanings, is_count_tag, is_tag, meaning_of, tag_in, is_count, double_of, tag_of, size_of, value_of, head_rows, tag-known, tag-meaning, field_with, field_for, has_form, AreBytes, IsHeld, Ok, Err, Some, None, Turned, turned, field_as, turned_of, field_in, has_no_count}
+use Rattle.writer.proofs.Kit.{◌≡◌, refl, sym, ap, ◌∙◌, Bool, true, false, not, cond, true≢false, List, ℕ, ◌<◌, arith, binary64, of_bits-fits, length, take_all, NoneHolds, Value, Double, Count, number_at, double_at, meanings, is_count_tag, is_tag, meaning_of, tag_in, is_count, double_of, tag_of, size_of, value_of, head_rows, tag-known, tag-meaning, field_with, field_for, has_form, AreBytes, IsHeld, Ok, Err, Some, None, Turned, turned, field_as, turned_of, field_in, has_no_count}
 use Rattle.writer.proofs.Fields.{field-meant}
 use Rattle.writer.proofs.Spelled.{word_lt}
 use Rattle.writer.proofs.FieldRead.{tag_read, size-read, value_read, none-refuses}

@@ -1,5 +1,5 @@
 -- The size of the field of the tag, and those after it.
-use Rattle.writer.proofs.Kit.{◌≡◌, sym, ap, ◌∙◌, Option, Value, List, ◌++◌, ℕ, ◌+◌, arith, length, length-append, meanings, meaning_of, stored_of, stored_field}
+use Rattle.writer.proofs.Kit.{◌≡◌, sym, ap, ◌∙◌, Option, Value, ◌++◌, ℕ, ◌+◌, arith, length, length-append, meanings, stored_of, stored_field}
 use Rattle.writer.proofs.Fields.{rest, all-fields, next_field, no_field, few}
 use Rattle.writer.proofs.fields_length.Goals.{After-stored_size-size}
 use Rattle.writer.proofs.fields_length.Goals as goal

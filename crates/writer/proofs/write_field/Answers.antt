@@ -1,5 +1,5 @@
 -- The field that is put is that of the meaning, and has room.
-use Rattle.writer.proofs.Kit.{sym, ap, ◌∙◌, ℕ, arith, length, sets, field_with, field_for}
+use Rattle.writer.proofs.Kit.{sym, ap, ◌∙◌, ℕ, arith, sets, field_with, field_for}
 use Rattle.writer.proofs.Fields.{field-meant}
 use Rattle.writer.proofs.Room.{room}
 use Rattle.writer.proofs.write_field.Goals as goal

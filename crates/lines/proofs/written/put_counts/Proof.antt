@@ -10,7 +10,7 @@ use Rattle.lines.proofs.written.put_counts.Tie as tie
 put_written_requires : tie.Need-put_written-requires
 put_written_requires c κs =
     let wrote = c in
-    let buffer = kept length_text (converted true wrote.args.«record».now) wrote.to_counts-answer.ensures.0 wrote.to_counts-answer.ensures.1.0 in
+    let buffer = kept length_text (converted true wrote.args.«record».now) wrote.to_counts-answer.ensures.0 wrote.to_counts-answer.ensures.1 in
     (buffer.sized, buffer.few)
 
 returns : tie.Need-returns
@@ -18,7 +18,7 @@ unfolding written_text
 returns c =
     let put = c in
     let wrote = c in
-    (same_more (kept length_text (converted true wrote.args.«record».now) wrote.to_counts-answer.ensures.0 wrote.to_counts-answer.ensures.1.0).is put.put_written.ensures, refl)
+    (same_more (kept length_text (converted true wrote.args.«record».now) wrote.to_counts-answer.ensures.0 wrote.to_counts-answer.ensures.1).is put.put_written.ensures, refl)
 
 pub put_counts_spec : {M : Type 1} → statement M
 put_counts_spec = tie.close (tie.spec (λ c. search rules)

@@ -1,5 +1,5 @@
 -- Check by check: what the reader refuses, then a double with no count, then whether there is room.
-use Rattle.writer.proofs.Kit.{◌≡◌, sym, ap, ◌∙◌, arith, rules, length, accepted, outcome, refusal, NoneHolds, false, then-accepted, read_rows, record_in, converted, count_rows, fields_of}
+use Rattle.writer.proofs.Kit.{◌≡◌, sym, ◌∙◌, arith, rules, length, accepted, outcome, refusal, NoneHolds, false, then-accepted, read_rows, record_in, converted, count_rows, fields_of}
 use Rattle.writer.proofs.Outcome.{reader-refuses, no_count, counted, refuses, has-no_room, has_room}
 use Rattle.writer.proofs.conversion.convert.Goals.{In_ok-read_record, In_ok-length}
 use Rattle.writer.proofs.conversion.convert.Goals as goal

@@ -1,5 +1,5 @@
 -- A place, and the field there: its bytes and its check, and those of the fields after it.
-use Rattle.writer.proofs.Kit.{◌≡◌, refl, sym, ap, ◌∙◌, Err, List, ℕ, arith, rules, length, drop, drop_of_length-le, accepted, outcome, refusal, heads_from, Turned, turned, turned_of, has_no_count, fields_of, record_in}
+use Rattle.writer.proofs.Kit.{◌≡◌, refl, sym, ap, ◌∙◌, List, ℕ, arith, rules, length, drop_of_length-le, accepted, outcome, refusal, heads_from, Turned, turned, turned_of, has_no_count, fields_of, record_in}
 use Rattle.writer.proofs.Split.{is-all-whole, few_bytes}
 use Rattle.writer.proofs.Values.{only-no_count}
 use Rattle.writer.proofs.Place.{never-refused, Here, here, on, whole-after, turned-here, with_left, by_field, size-here}

@@ -1,5 +1,5 @@
 -- A place, and the field there as it is put, and those after it.
-use Rattle.writer.proofs.Kit.{◌≡◌, refl, sym, ap, subst, ◌∙◌, true≢false, Bool, true, false, Ok, List, [], ◌++◌, ℕ, ◌+◌, ◌≤◌, arith, rules, length, drop, length-append, drop_of_length-le, sets, NoneHolds, accepted, outcome, heads_from, Turned, turned, turned_of, has_no_count, field_as, count_rows, fields_of, record_in}
+use Rattle.writer.proofs.Kit.{◌≡◌, refl, sym, ap, subst, ◌∙◌, true≢false, Bool, false, Ok, List, [], ◌++◌, ℕ, ◌+◌, ◌≤◌, arith, length, drop, length-append, drop_of_length-le, sets, NoneHolds, accepted, heads_from, Turned, turned, turned_of, has_no_count, field_as, count_rows, fields_of, record_in}
 use Rattle.writer.proofs.Bytes.{sets_append}
 use Rattle.writer.proofs.Split.{is-all-whole}
 use Rattle.writer.proofs.Place.{never-refused, Here, here, on, whole-after, meaning-here, turned-here, split-here, record-here}

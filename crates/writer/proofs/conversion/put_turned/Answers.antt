@@ -1,5 +1,5 @@
 -- The field that is put, and that it has room.
-use Rattle.writer.proofs.Kit.{◌≡◌, sym, ap, subst, ◌∙◌, List, ◌+◌, ◌≤◌, arith, Option, Value, Ok, Some, None, tag_of, meaning_of, field_for, field_as, length, sets, ℕ}
+use Rattle.writer.proofs.Kit.{◌≡◌, sym, ap, subst, ◌∙◌, List, ◌+◌, ◌≤◌, arith, Option, Value, Ok, field_for, field_as, length, sets, ℕ}
 use Rattle.writer.proofs.Bytes.{part_put, rest_put}
 use Rattle.writer.proofs.conversion.put_turned.Goals.{In_ok-size}
 use Rattle.writer.proofs.conversion.put_turned.Goals as goal
