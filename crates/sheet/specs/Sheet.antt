@@ -1,10 +1,9 @@
 -- The setting sheet of document 02, K1: 51 rows, from -10 to 40 °C by whole degrees, or the number of one refusal with its values. Altitude h in m,
 -- station pressure p in hPa, humidity u in percent. Definitions only.
-use Rattle.refusal.specs.declared.Refusal.{Refusal}
-use Rattle.std.specs.Prelude.{ℕ, zero, suc, List, [], ◌∷◌, ◌++◌, ltb, Float, Err, Ok, Result}
+use Rattle.std.specs.Prelude.{ℕ, zero, suc, List, [], ◌∷◌, ◌++◌, ltb, Float}
 use Rattle.std.specs.Float.{binary64}
 use Rattle.std.specs.Float.Ieee.{of_int, minus}
-use Rattle.refusal.specs.Outcomes.{Outcome, accepted, refusal, ◌⟫◌, Row, row, ◌then◌}
+use Rattle.refusal.specs.Outcomes.{Outcome, accepted, ◌⟫◌, Row, row, ◌then◌}
 use Rattle.mast.specs.Checks.{finite_rows, pressure_rows, humidity_rows}
 use Rattle.sheet.specs.Row.{row_outcome}
 
@@ -25,11 +24,6 @@ sheet_input_rows h p u = finite_rows h ++ pressure_rows p ++ humidity_rows u
 unfoldable pub setting_sheet : Float → Float → Float → ℕ → Outcome (List ℕ)
 unfolding rows
 setting_sheet h p u room = (row (ltb room 1530) 16 [] ∷ sheet_input_rows h p u) then rows h p u 51
-
--- what each case of the code's answer stands for
-abbrev pub outcome : (Result (Unit {0}) Refusal) → Outcome (Unit {0})
-outcome (Ok tt) = accepted tt
-outcome (Err c) = refusal c
 
 -- an outcome without its text
 abbrev pub bare : Outcome (List ℕ) → Outcome (Unit {0})

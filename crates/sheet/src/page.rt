@@ -7,15 +7,14 @@ ghost use Rattle.sheet.specs.Sheet.{celsius_of_row, rows, sheet_input_rows, sett
 use super::row::write_row;
 use mast::checks::{check_altitude, check_humidity, check_pressure};
 use pages::put;
-use refusal::{Refusal, first_of};
+use refusal::Refusal;
 
 fn check_inputs(altitude_m: f64, pressure_hpa: f64, humidity_percent: f64) -> Result<(), Refusal>
     ensures { outcome result ≡ passed (sheet_input_rows altitude_m pressure_hpa humidity_percent) }
 {
-    let altitude = check_altitude(Some(altitude_m));
-    let pressure = check_pressure(Some(pressure_hpa));
-    let humidity = check_humidity(Some(humidity_percent));
-    first_of(first_of(altitude, pressure), humidity)
+    check_altitude(Some(altitude_m))?;
+    check_pressure(Some(pressure_hpa))?;
+    check_humidity(Some(humidity_percent))
 }
 
 fn celsius(n: u32) -> f64
@@ -29,20 +28,9 @@ fn write_rows(page: &mut [u8], altitude_m: f64, pressure_hpa: f64, humidity_perc
     requires { length page.old ≡ 1530 }
     ensures { rows altitude_m pressure_hpa humidity_percent 51 ≡ (outcome result ⟫ (λ _. accepted page.new)) }
 {
-    let mut n: u32 = 0;
-    while n < 51 {
+    for n in 0..51 {
         let at = 30 * n as usize;
-        match write_row(
-            page,
-            at,
-            altitude_m,
-            pressure_hpa,
-            humidity_percent,
-            celsius(n),
-        ) {
-            Err(refusal) => return Err(refusal),
-            Ok(()) => n += 1,
-        }
+        write_row(page, at, altitude_m, pressure_hpa, humidity_percent, celsius(n))?;
     }
     Ok(())
 }
@@ -62,17 +50,9 @@ pub fn setting_sheet(
     if page.len() < 1530 {
         return Err(Refusal::PageTooShort);
     }
-    match check_inputs(altitude_m, pressure_hpa, humidity_percent) {
-        Err(refusal) => Err(refusal),
-        Ok(()) => {
-            let mut own = [0u8; 1530];
-            match write_rows(&mut own, altitude_m, pressure_hpa, humidity_percent) {
-                Err(refusal) => Err(refusal),
-                Ok(()) => {
-                    put(page, 0, &own);
-                    Ok(())
-                }
-            }
-        }
-    }
+    check_inputs(altitude_m, pressure_hpa, humidity_percent)?;
+    let mut own = [0u8; 1530];
+    write_rows(&mut own, altitude_m, pressure_hpa, humidity_percent)?;
+    put(page, 0, &own);
+    Ok(())
 }

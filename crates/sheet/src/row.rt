@@ -61,8 +61,6 @@ pub(crate) fn write_row(
         pressure: Reading::Given(pressure_hpa),
         humidity_percent,
     };
-    match answer_of(station) {
-        Err(refusal) => Err(refusal),
-        Ok(figures) => write_figures(page, at, temperature_c, figures),
-    }
+    let figures = answer_of(station)?;
+    write_figures(page, at, temperature_c, figures)
 }

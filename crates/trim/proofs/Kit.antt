@@ -6,7 +6,7 @@ pub use Rattle.refusal.specs.Outcomes.{Outcome, Row, ◌then◌, ◌⟫◌, acce
 pub use Rattle.refusal.specs.declared.judge.Figures.{Figures}
 pub use Rattle.fields.specs.Fields.{measured_pressure, temperature}
 pub use Rattle.record.specs.Entries.{entry_of, value_or_zero}
-pub use Rattle.record.specs.Readings.{parts, read_parts, read_record, read_rows, readings}
+pub use Rattle.record.specs.Readings.{read_record, read_rows, readings}
 pub use Rattle.record.specs.declared.entries.Readings.{Readings}
 unfoldable pub use Rattle.mast.specs.Judge.{judge, judged}
 pub use Rattle.mast.specs.Judge.{reading_rows, record_rows, resolved}

@@ -1,10 +1,9 @@
 -- The trim class, document 02: "the count of these densities at or below the figure: 1.00, 1.05, 1.10, 1.15, 1.20, 1.25 kg/m³, each as its double".
 -- Definitions only.
-use Rattle.refusal.specs.declared.Refusal.{Refusal}
-use Rattle.std.specs.Prelude.{ℕ, ◌+◌, cond, List, [], ◌∷◌, Float, Err, Ok, Result}
+use Rattle.std.specs.Prelude.{ℕ, ◌+◌, cond, List, [], ◌∷◌, Float}
 use Rattle.std.specs.Float.Ieee.{le}
 use Rattle.arithmetic.specs.Decimals.{decimal}
-use Rattle.refusal.specs.Outcomes.{Outcome, accepted, refusal, ◌⟫◌}
+use Rattle.refusal.specs.Outcomes.{Outcome, accepted, ◌⟫◌}
 use Rattle.record.specs.declared.entries.Readings.{Readings}
 use Rattle.mast.specs.Judge.{judged}
 
@@ -22,8 +21,3 @@ trim_class d = count_at_or_below class_densities d
 -- ---- of readings that are accepted
 unfoldable pub class_of : Readings → Outcome ℕ
 class_of r = judged r ⟫ (λ f. accepted (trim_class f.density_kg_m3))
-
--- what each case of the code's answer stands for
-abbrev pub outcome : (Result ℕ Refusal) → Outcome ℕ
-outcome (Ok n) = accepted n
-outcome (Err c) = refusal c

@@ -1,27 +1,14 @@
 -- The smallest change that gives another trim class, document 02: the first of the 800 changes in their order. Definitions only.
-use Rattle.trim.specs.declared.changes.Turn.{Turn}
-use Rattle.std.specs.Prelude.{ℕ, false, List, [], Float, None, Option, Some}
-use Rattle.refusal.specs.Outcomes.{Outcome, accepted, refused, refusal, ◌⟫◌}
+use Rattle.std.specs.Prelude.{ℕ, List, [], Float, None, Option, Some}
+use Rattle.refusal.specs.Outcomes.{Outcome, accepted, refused, ◌⟫◌}
 use Rattle.record.specs.declared.entries.Readings.{Readings}
 use Rattle.fields.specs.Fields.{temperature, measured_pressure}
 use Rattle.record.specs.Readings.{read_record}
 use Rattle.record.specs.Entries.{entry_of}
 use Rattle.trim.specs.declared.changes.Start.{Start}
-use Rattle.trim.specs.declared.search.Trim.{Trim}
-use Rattle.trim.specs.declared.search.Trim.TheVariants.{Turns, NoChange, Refused}
+pub use Rattle.trim.specs.declared.search.Next.{Next}
 use Rattle.trim.specs.Classes.{class_of}
 use Rattle.trim.specs.InOrder.{changes, first_of}
-
--- the class, and the first change that gives another, if there is one
-pub record Next : Type 0 where
-  pub class : ℕ
-  pub turn : (Option Turn)
-
--- what each case of the code's answer stands for
-abbrev pub trim_outcome : Trim → Outcome Next
-trim_outcome (Turns c t) = accepted (record { class = c; turn = Some t })
-trim_outcome (NoChange c) = accepted (record { class = c; turn = None })
-trim_outcome (Refused c) = refusal c
 
 -- ---- of accepted readings with temperature and measured pressure
 unfoldable pub next_from : Start → Outcome Next

@@ -1,9 +1,7 @@
 // A change of one reading by tenths, and the class that it gives.
 ghost use Rattle.std.specs.Prelude.{◌≡◌};
-ghost use Rattle.refusal.specs.Outcomes.{outcome};
-ghost use Rattle.trim.specs.Changes.{by, changed, change, another, tried};
+ghost use Rattle.trim.specs.Changes.{by, changed, change, tried};
 
-use refusal::Refusal;
 use crate::classes::class_of;
 use fields::fields::{MEASURED_PRESSURE, TEMPERATURE};
 use record::entries::{Readings, with_entry};
@@ -48,9 +46,8 @@ pub struct Start {
 fn by(change: Change) -> f64
     ensures { result ≡ by change }
 {
-    let direction = change.direction;
-    let count = change.tenths as f64;
-    match direction {
+    let count = f64::from(change.tenths);
+    match change.direction {
         Direction::Up => count / 10.0,
         Direction::Down => -count / 10.0,
     }
@@ -60,29 +57,13 @@ fn by(change: Change) -> f64
 fn changed(start: Start, change: Change) -> Readings
     ensures { result ≡ changed start change }
 {
-    let quantity = change.quantity;
     let by = by(change);
-    match quantity {
+    match change.quantity {
         Quantity::Temperature => {
             with_entry(start.readings, TEMPERATURE, start.temperature_c + by)
         }
         Quantity::MeasuredPressure => {
             with_entry(start.readings, MEASURED_PRESSURE, start.pressure_hpa + by)
-        }
-    }
-}
-
-// The change with its class, where that is another than the first.
-fn another(first: u8, change: Change, class: Result<u8, Refusal>) -> Option<Turn>
-    ensures { result ≡ another first change (outcome class) }
-{
-    match class {
-        Err(_) => None,
-        Ok(class) => {
-            if class == first {
-                return None;
-            }
-            Some(Turn { change, class })
         }
     }
 }
@@ -96,5 +77,6 @@ pub(crate) fn tried(start: Start, quantity: Quantity, direction: Direction, tent
         direction,
         tenths,
     };
-    another(start.class, change, class_of(changed(start, change)))
+    let class = class_of(changed(start, change)).ok()?;
+    (class != start.class).then_some(Turn { change, class })
 }

@@ -14,23 +14,13 @@ const CLASS_DENSITIES: [f64; 6] = [1.0, 1.05, 1.1, 1.15, 1.2, 1.25];
 pub fn trim_class(density_kg_m3: f64) -> u8
     ensures { result ≡ trim_class density_kg_m3 }
 {
-    let mut class = 0;
-    let mut i = 0;
-    while i < 6 {
-        if CLASS_DENSITIES[i] <= density_kg_m3 {
-            class += 1;
-        }
-        i += 1;
-    }
-    class
+    CLASS_DENSITIES.iter().filter(|limit| **limit <= density_kg_m3).count() as u8
 }
 
 // The trim class of readings, or their refusal.
 pub(crate) fn class_of(readings: Readings) -> Result<u8, Refusal>
     ensures { outcome result ≡ class_of readings }
 {
-    match judge_readings(readings) {
-        Ok(figures) => Ok(trim_class(figures.density_kg_m3)),
-        Err(refusal) => Err(refusal),
-    }
+    let figures = judge_readings(readings)?;
+    Ok(trim_class(figures.density_kg_m3))
 }
