@@ -18,16 +18,16 @@ use density_altitude::inverse::{
 use fields::bits::double;
 use pages::put;
 use questions::arguments::double_at;
-use questions::forms::{Given, given_in};
+use questions::forms::given_in;
 use questions::words::nth_word;
 use refusal::inverse::Station;
 
-fn reading_of(given: Given) -> Reading
+fn reading_of(given: Option<u64>) -> Reading
     ensures { result ≡ option_of given }
 {
     match given {
-        Given::Word(bits) => Reading::Given(double(bits)),
-        Given::Absent => Reading::FromLayer,
+        Some(bits) => Reading::Given(double(bits)),
+        None => Reading::FromLayer,
     }
 }
 
