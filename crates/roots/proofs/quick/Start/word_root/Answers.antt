@@ -1,10 +1,10 @@
--- `roots::quick::word_root_from` meets its contract: two steps of Newton's iteration from the table's entry lead to the root or one more. Assumes nothing.
+-- Two steps of Newton's iteration from the table's entry lead to the root or one more.
 use Rattle.arithmetic.proofs.Kit.{◌≡◌, ◌∙◌, subst, ℕ, zero, suc, ◌+◌, ◌-◌, ◌*◌, ◌^◌, ◌≤◌, ◌<◌, suc-le-suc, le_trans, mul-mul-mul_comm, mul-le-mul, mul-le-mul_right, add-one, arith}
 use Rattle.roots.proofs.Root.{is-root, roots-le}
 use Rattle.roots.proofs.roots.Newton.{step, step-above, step-near, quotient-lt}
 use Rattle.roots.proofs.roots.Halves.{next-square}
-use Rattle.roots.proofs.quick.word_root_from.Statement.{statement}
-use Rattle.roots.proofs.quick.word_root_from.Tie as tie
+use Rattle.roots.specs.declared.quick.Start.{Start}
+use Rattle.roots.proofs.quick.Start.word_root.Goals as goal
 
 -- a guess r for the root of a top word n: its square is within d of n
 record Guess (n r d : ℕ) : Type 0 where
@@ -55,48 +55,36 @@ less_of n (suc r) h g =
     let known : Less n r = record { low = omega (arith, g.low); high = suc-le-suc (roots-le n r (2 ^ 32 - 1) square h); square = square; next = g.next } in
     subst (Less n) (omega arith) known
 
-module _ (c : tie.Start) where
-  abbrev top : ℕ
-  top = c.args.top
-
+module _ (from : Start) (fits : from.top < 2 ^ 64) where
   abbrev near : ℕ
-  near = step top (c.args.e * 2 ^ 17)
+  near = step from.top (from.entry * 2 ^ 17)
 
-  known : Guess top (c.args.e * 2 ^ 17) (3 * 2 ^ 53)
-  known = start top c.args.e c.requires.0 c.requires.1 c.requires.2 c.requires.3
+  known : Guess from.top (from.entry * 2 ^ 17) (3 * 2 ^ 53)
+  known = start from.top from.entry from.full from.short from.below from.near
 
-  first : Step top near (9 * 2 ^ 44)
-  first = stepped top (c.args.e * 2 ^ 17) (3 * 2 ^ 53) (9 * 2 ^ 44) (2 ^ 30) c.requires.0 c.ranges.top.fits known known.low (omega arith)
+  first : Step from.top near (9 * 2 ^ 44)
+  first = stepped from.top (from.entry * 2 ^ 17) (3 * 2 ^ 53) (9 * 2 ^ 44) (2 ^ 30) from.full fits known known.low (omega arith)
 
-  second : Step top (step top near) (81 * 2 ^ 24)
-  second = stepped top near (9 * 2 ^ 44) (81 * 2 ^ 24) (2 ^ 31) c.requires.0 c.ranges.top.fits (again top near first) first.low (omega arith)
+  second : Step from.top (step from.top near) (81 * 2 ^ 24)
+  second = stepped from.top near (9 * 2 ^ 44) (81 * 2 ^ 24) (2 ^ 31) from.full fits (again from.top near first) first.low (omega arith)
 
-  less : Less top (step top near - 1)
-  less = less_of top (step top near) c.ranges.top.fits second
+  less : Less from.top (step from.top near - 1)
+  less = less_of from.top (step from.top near) fits second
 
-returns : tie.Need-returns-then-less-top
-returns c =
-    let n = top c.before in
-    let r = step n (near c.before) - 1 in
-    add-one r ∙ is-root n (suc r) (omega (arith, less c.before, next-square r), (less c.before).next)
+pub overflow_mul-less-2 : goal.overflow_mul-less-2
+overflow_mul-less-2 c = omega (arith, less c.args.self (omega arith), mul-le-mul (less c.args.self (omega arith)).high (less c.args.self (omega arith)).high)
 
-returns_2 : tie.Need-returns-else-less-top
-returns_2 c =
-    let n = top c.before in
-    let r = step n (near c.before) - 1 in
-    is-root n r ((less c.before).square, omega (arith, less c.before, next-square r))
+pub overflow_sub-top : goal.overflow_sub-top
+overflow_sub-top c = (less c.args.self (omega arith)).square
 
-pub word_root_from_spec : {M : Type 1} → statement M
-word_root_from_spec =
-    tie.close (tie.spec (λ c. omega (arith, known c))
-    (λ c. omega (arith, known c))
-    (λ c. omega (arith, known c, quotient-lt (top c) (c.args.e * 2 ^ 17) c.ranges.top.fits (known c).low))
-    (λ c. omega (arith, first c))
-    (λ c. omega (arith, first c, quotient-lt (top c) (near c) c.ranges.top.fits (again (top c) (near c) (first c)).low))
-    (λ c. omega (arith, second c))
-    (λ c. omega (arith, less c))
-    (λ c. omega (arith, less c))
-    (λ c. (less c).square)
-    (λ c. omega (arith, less c.before))
-    returns
-    returns_2)
+pub returns-then-less-top : goal.returns-then-less-top
+returns-then-less-top c =
+    let n = c.args.self.top in
+    let r = step n (near c.args.self (omega arith)) - 1 in
+    add-one r ∙ is-root n (suc r) (omega (arith, less c.args.self (omega arith), next-square r), (less c.args.self (omega arith)).next)
+
+pub returns-else-less-top : goal.returns-else-less-top
+returns-else-less-top c =
+    let n = c.args.self.top in
+    let r = step n (near c.args.self (omega arith)) - 1 in
+    is-root n r ((less c.args.self (omega arith)).square, omega (arith, less c.args.self (omega arith), next-square r))
