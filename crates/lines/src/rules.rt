@@ -104,6 +104,6 @@ pub(crate) fn put_root(page: &mut Page<'_>, line: &[u8])
 {
     let hi = word_at(line, 1);
     let lo = word_at(line, 2);
-    let roots = both_roots(Wide { hi, lo });
+    let roots = both_roots(u128::from(Wide { hi, lo }));
     put_words(page, roots.first, roots.quick)
 }
