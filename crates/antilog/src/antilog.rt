@@ -8,39 +8,23 @@ ghost use Rattle.arithmetic.specs.Places.{places};
 
 use crate::estimate::{estimate, moved};
 use arithmetic::nearest::{nearest_product, nearest_quotient};
-use arithmetic::wide::Wide;
 use arithmetic::word::{ONES, PLACES, WHOLE, Word};
-use roots::quick::quick_root;
+use roots::quick::{Tables, quick_root};
 use roots::reciprocal_table::reciprocal_table;
 use roots::root_table::root_table;
 
 // What the roots from a place on make of y, one for each bit that is left, lowest first. The radicand,
-// y * 2^62 or y * 2^63, has its upper word from y's upper bits, and from 125 to 126 bits.
-fn later_roots(
-    start: u64,
-    first: u32,
-    bits: u64,
-    roots: &[u64; 768],
-    reciprocals: &[u32; 768],
-) -> u64
+// y * 2^62 or y * 2^63, has from 125 to 126 bits.
+fn later_roots(start: u64, first: u32, bits: u64, tables: Tables) -> u64
     requires { (first ≤ places) × (bits < 2 ^ (places - first)) }
     ensures { result ≡ later_roots (places - first) start bits }
 {
     let mut y = start;
     let mut rest = bits;
-    let mut place = first;
-    while place < PLACES {
+    for _ in first..PLACES {
         let bit = rest % 2;
-        y = quick_root(
-            Wide {
-                hi: y >> (2 - bit),
-                lo: y << (62 + bit),
-            },
-            roots,
-            reciprocals,
-        );
-        rest = rest / 2;
-        place += 1;
+        y = quick_root(u128::from(y) << (62 + bit), tables);
+        rest /= 2;
     }
     y
 }
@@ -68,15 +52,19 @@ fn scaled_by_roots(f: u64, negative: bool, whole: u64) -> f64
 {
     let roots = root_table();
     let reciprocals = reciprocal_table();
+    let tables = Tables {
+        roots: &roots,
+        reciprocals: &reciprocals,
+    };
     let early = estimate(f % 0x40_0000_0000_0000 * 64) / 2;
     let last = f / 0x40_0000_0000_0000;
-    let least = later_roots(early - 3, 54, last, &roots, &reciprocals);
-    let most = later_roots(early + 2, 54, last, &roots, &reciprocals);
+    let least = later_roots(early - 3, 54, last, tables);
+    let most = later_roots(early + 2, 54, last, tables);
     let low = scaled(least, negative, whole);
     if scaled(most, negative, whole) <= low {
         return low;
     }
-    let y = later_roots(0x4000_0000_0000_0000, 0, f, &roots, &reciprocals);
+    let y = later_roots(0x4000_0000_0000_0000, 0, f, tables);
     scaled(y, negative, whole)
 }
 

@@ -5,7 +5,6 @@ ghost use Rattle.antilog.specs.Sqrt.{sqrt, sqrt_of_units};
 
 use arithmetic::double::Parts;
 use arithmetic::nearest::{nearest_scaled, take_apart};
-use arithmetic::wide::{at_most, product};
 use roots::roots::floor_root;
 
 // The root of q * 2^k units of 2^-1074, a number of `d` digits to the base 4. `n` has the same digits
@@ -15,10 +14,10 @@ fn root_of_units(q: u64, k: u32) -> f64
     ensures { result ≡ sqrt_of_units (q * 2 ^ k) }
 {
     let d = (65 - u64::leading_zeros(q) + k) / 2;
-    let n = product(q << (k + 54 - 2 * d), 0x10_0000_0000_0000);
+    let n = u128::from(q << (k + 54 - 2 * d)) * 0x10_0000_0000_0000;
     let r = floor_root(n);
     // n is above (r + 1/2)^2 if it is above r * r + r
-    let nearest = if at_most(n, product(r, r + 1)) {
+    let nearest = if n <= u128::from(r) * u128::from(r + 1) {
         r
     } else {
         r + 1

@@ -3,7 +3,8 @@ use Rattle.arithmetic.proofs.Kit.{◌≡◌, refl, sym, ap, ap₂, ◌∙◌, Bo
 use Rattle.pages.specs.Scan.{index_of, index_after}
 use Rattle.pages.specs.Pages.{Appended}
 use Rattle.pages.proofs.Growing.{same_length, and_then, same_more, held-length}
-use Rattle.questions.specs.declared.line_ends.Found.TheVariants.{Line, Nothing}
+use Rattle.std.specs.Prelude.{Some, None}
+use Rattle.questions.specs.declared.line_ends.Line.{Line}
 use Rattle.questions.specs.Lines.{line_end, first_line, next_line, has_line, found_line}
 use Rattle.lines.specs.Answers.{answer_line}
 use Rattle.ask_run.proofs.Short.{answers_fit}
@@ -44,14 +45,14 @@ some_bytes ended s h = go (ltb (index_of 10 s) (length s)) (ltb 0 (length s)) en
     go false false true p q h = let z : ◌≡◌ {A = ℕ} 0 1 = cc in absurd (omega arith)
     go false false false p q h = let z : ◌≡◌ {A = ℕ} 0 1 = cc in absurd (omega arith)
 
-pub found : (ended : Bool) (s : List ℕ) {end next : ℕ} → Line end next ≡ found_line ended s → Taken ended s end next
+pub found : (ended : Bool) (s : List ℕ) {r : Line} → Some r ≡ found_line ended s → Taken ended s r.end r.next
 unfolding found_line
-found ended s {end} {next} e = go (has_line ended s) refl e
+found ended s {r} e = go (has_line ended s) refl e
   where
-    go : (b : Bool) → has_line ended s ≡ b → Line end next ≡ cond b (Line (line_end s) (next_line s)) Nothing → Taken ended s end next
+    go : (b : Bool) → has_line ended s ≡ b → Some r ≡ cond b (Some (record { end = line_end s; next = next_line s })) None → Taken ended s r.end r.next
     go true h e =
-        let end_is : end ≡ line_end s = cc in
-        let next-is : next ≡ next_line s = cc in
+        let end_is : r.end ≡ line_end s = cc in
+        let next-is : r.next ≡ next_line s = cc in
         record {
           end_is = end_is;
           next-is = next-is;

@@ -3,7 +3,7 @@ ghost use Rattle.std.specs.Prelude.{◌≡◌};
 ghost use Rattle.ask_run.specs.Answered.{Answered};
 
 use lines::put_line_answer;
-use questions::line_ends::{Found, first_line};
+use questions::line_ends::first_line;
 
 // An answer is begun with so many bytes free; none is longer than 4,096.
 const LONGEST: usize = 4096;
@@ -28,20 +28,12 @@ pub fn answer_lines(input: &[u8], ended: bool, page: &mut [u8]) -> Progress
     let mut written = 0;
     while page.len() - written >= LONGEST {
         let rest = &input[taken..];
-        match first_line(rest, ended) {
-            Found::Nothing => {
-                return Progress {
-                    lines,
-                    taken,
-                    written,
-                };
-            }
-            Found::Line(end, next) => {
-                written = put_line_answer(page, written, &rest[..end]);
-                taken += next;
-                lines += 1;
-            }
-        }
+        let Some(line) = first_line(rest, ended) else {
+            break;
+        };
+        written = put_line_answer(page, written, &rest[..line.end]);
+        taken += line.next;
+        lines += 1;
     }
     Progress {
         lines,

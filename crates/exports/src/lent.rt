@@ -1,6 +1,6 @@
 // What is written to lent arrays, marks and lengths, and the statuses that are no number of a refusal.
 // An array has the places that are needed: an exported function tests that before it computes anything.
-ghost use Rattle.std.specs.Prelude.{◌≡◌, ◌≤◌, [], ◌∷◌, length};
+ghost use Rattle.std.specs.Prelude.{◌≡◌, ◌≤◌, length};
 ghost use Rattle.refusal.specs.Refusals.{number_of, values_of, listed};
 ghost use Rattle.refusal.specs.Outcomes.{outcome};
 ghost use Rattle.exports.specs.Lent.{handed_out, left_in, status_of, station_values, figure_values, mark_or, length_or};
@@ -15,35 +15,45 @@ pub(crate) const FIGURES: u32 = 0;
 // The status of a lent array that is too short.
 pub(crate) const TOO_SHORT: u32 = 255;
 
-pub(crate) fn put_two(lent: &mut [f64], a: f64, b: f64)
-    requires { 2 ≤ length lent.old }
-    ensures { lent.new ≡ handed_out (a ∷ b ∷ []) lent.old }
+// The values in the first places of a lent array.
+pub(crate) fn hand_out<T: Copy>(lent: &mut [T], values: &[T])
+    requires { length values.now ≤ length lent.old }
+    ensures { lent.new ≡ handed_out values.now lent.old }
 {
-    lent[0] = a;
-    lent[1] = b;
+    lent[..values.len()].copy_from_slice(values);
 }
 
 pub(crate) fn put_station(lent: &mut [f64], station: Station)
     requires { 3 ≤ length lent.old }
     ensures { lent.new ≡ handed_out (station_values station) lent.old }
 {
-    lent[0] = station.altitude_m;
-    lent[1] = station.temperature_c;
-    lent[2] = station.pressure_hpa;
+    hand_out(
+        lent,
+        &[
+            station.altitude_m,
+            station.temperature_c,
+            station.pressure_hpa,
+        ],
+    );
 }
 
 fn put_figures(lent: &mut [f64], figures: Figures)
     requires { 8 ≤ length lent.old }
     ensures { lent.new ≡ handed_out (figure_values figures) lent.old }
 {
-    lent[0] = figures.altitude_m;
-    lent[1] = figures.temperature_c;
-    lent[2] = figures.pressure_hpa;
-    lent[3] = figures.density_kg_m3;
-    lent[4] = figures.speed_of_sound_mps;
-    lent[5] = figures.pressure_altitude_m;
-    lent[6] = figures.density_matched_altitude_m;
-    lent[7] = figures.vapor_mole_fraction;
+    hand_out(
+        lent,
+        &[
+            figures.altitude_m,
+            figures.temperature_c,
+            figures.pressure_hpa,
+            figures.density_kg_m3,
+            figures.speed_of_sound_mps,
+            figures.pressure_altitude_m,
+            figures.density_matched_altitude_m,
+            figures.vapor_mole_fraction,
+        ],
+    );
 }
 
 fn put_values(lent: &mut [f64], values: Values)
@@ -52,16 +62,9 @@ fn put_values(lent: &mut [f64], values: Values)
 {
     match values {
         Values::None => {}
-        Values::One(a) => lent[0] = a,
-        Values::Two(a, b) => put_two(lent, a, b),
+        Values::One(a) => hand_out(lent, &[a]),
+        Values::Two(a, b) => hand_out(lent, &[a, b]),
     }
-}
-
-// The same number.
-pub(crate) fn wide(n: u8) -> u32
-    ensures { result ≡ n }
-{
-    n as u32
 }
 
 // The refusal's number, with its values in the first places.
@@ -71,11 +74,15 @@ pub(crate) fn put_refusal(lent: &mut [f64], refusal: Refusal) -> u32
     ensures lent_after { lent.new ≡ handed_out (values_of refusal) lent.old }
 {
     put_values(lent, handed_out(refusal));
-    wide(number(refusal))
+    u32::from(number(refusal))
 }
 
 // The status of what the judge answers, with its figures and their mark or its refusal's values.
-pub(crate) fn put_answer(lent: &mut [f64], in_range: &mut bool, answer: Result<Figures, Refusal>) -> u32
+pub(crate) fn put_answer(
+    lent: &mut [f64],
+    in_range: &mut bool,
+    answer: Result<Figures, Refusal>,
+) -> u32
     requires { 8 ≤ length lent.old }
     ensures value { result ≡ status_of (outcome answer) }
     ensures lent_after { lent.new ≡ left_in figure_values lent.old (outcome answer) }
@@ -101,6 +108,6 @@ pub(crate) fn put_length(length: &mut usize, answer: Result<usize, Refusal>) -> 
             *length = n;
             FIGURES
         }
-        Err(refusal) => wide(number(refusal)),
+        Err(refusal) => u32::from(number(refusal)),
     }
 }

@@ -1,25 +1,23 @@
 // Records read: their readings as arrays with a place for each meaning, as `records` takes them.
 ghost use Rattle.std.specs.Prelude.{◌≡◌, true, false, ◌≤◌, length};
 ghost use Rattle.fields.specs.Fields.{meanings};
-ghost use Rattle.record.specs.Readings.{outcome};
+ghost use Rattle.refusal.specs.Outcomes.{outcome};
 ghost use Rattle.exports.specs.Lent.{handed_out, status_of};
 ghost use Rattle.exports.specs.Reads.{form_of, double_for, count_for, each, read_in, array_after};
 
-use crate::lent::{FIGURES, TOO_SHORT, wide};
+use crate::lent::{FIGURES, TOO_SHORT};
 use fields::fields::{MEANINGS, Value};
 use record::entries::{Readings, entry_of, stored_of, value_or_zero};
-use record::readings::{Read, read_record, read_record_strictly};
-use refusal::number;
+use record::readings::{read_record, read_record_strictly};
+use refusal::{Refusal, number};
 
 fn form_of(stored: Option<Value>) -> u8
     ensures { result ≡ form_of stored }
 {
     match stored {
         None => 0,
-        Some(value) => match value {
-            Value::Double(_) => 1,
-            Value::Count(_) => 2,
-        },
+        Some(Value::Double(_)) => 1,
+        Some(Value::Count(_)) => 2,
     }
 }
 
@@ -28,10 +26,8 @@ fn count_for(stored: Option<Value>) -> u32
 {
     match stored {
         None => 0,
-        Some(value) => match value {
-            Value::Double(_) => 0,
-            Value::Count(word) => word,
-        },
+        Some(Value::Double(_)) => 0,
+        Some(Value::Count(word)) => word,
     }
 }
 
@@ -43,16 +39,19 @@ fn put_readings(forms: &mut [u8], values: &mut [f64], counts: &mut [u32], readin
     ensures values_after { values.new ≡ handed_out (each double_for meanings readings) values.old }
     ensures counts_after { counts.new ≡ handed_out (each count_for meanings readings) counts.old }
 {
-    let mut meaning = 0;
-    while meaning < MEANINGS {
+    for meaning in 0..MEANINGS {
         forms[meaning] = form_of(stored_of(readings, meaning));
         values[meaning] = value_or_zero(entry_of(readings, meaning));
         counts[meaning] = count_for(stored_of(readings, meaning));
-        meaning += 1;
     }
 }
 
-fn put_read(forms: &mut [u8], values: &mut [f64], counts: &mut [u32], read: Read) -> u32
+fn put_read(
+    forms: &mut [u8],
+    values: &mut [f64],
+    counts: &mut [u32],
+    read: Result<Readings, Refusal>,
+) -> u32
     requires meanings_in_bounds { meanings ≤ length forms.old }
     requires meanings_in_bounds_2 { meanings ≤ length values.old }
     requires meanings_in_bounds_3 { meanings ≤ length counts.old }
@@ -61,14 +60,46 @@ fn put_read(forms: &mut [u8], values: &mut [f64], counts: &mut [u32], read: Read
     ensures values_after { values.new ≡ array_after double_for values.old (outcome read) }
     ensures counts_after { counts.new ≡ array_after count_for counts.old (outcome read) }
 {
-    let check = read.check;
-    match check {
-        Ok(()) => {
-            put_readings(forms, values, counts, read.readings);
+    match read {
+        Ok(readings) => {
+            put_readings(forms, values, counts, readings);
             FIGURES
         }
-        Err(refusal) => wide(number(refusal)),
+        Err(refusal) => u32::from(number(refusal)),
     }
+}
+
+// The readings of a record by one of the two readers, the room of the arrays first.
+fn read_by(
+    strict: bool,
+    record: &[u8],
+    forms: &mut [u8],
+    values: &mut [f64],
+    counts: &mut [u32],
+) -> u32
+    ensures value { result ≡ status_of (read_in strict forms.old values.old counts.old «record».now) }
+    ensures forms_after { forms.new
+        ≡ array_after form_of forms.old (read_in strict forms.old values.old counts.old «record».now) }
+    ensures values_after { values.new
+        ≡ array_after double_for values.old (read_in strict forms.old values.old counts.old «record».now) }
+    ensures counts_after { counts.new
+        ≡ array_after count_for counts.old (read_in strict forms.old values.old counts.old «record».now) }
+{
+    if forms.len() < MEANINGS {
+        return TOO_SHORT;
+    }
+    if values.len() < MEANINGS {
+        return TOO_SHORT;
+    }
+    if counts.len() < MEANINGS {
+        return TOO_SHORT;
+    }
+    let read = if strict {
+        read_record_strictly(record)
+    } else {
+        read_record(record)
+    };
+    put_read(forms, values, counts, read)
 }
 
 // The readings of a record, its tags in any order: each meaning's form, 0 absent, 1 a double or 2 a count;
@@ -90,16 +121,7 @@ pub fn station_air_read(
         ≡ array_after count_for counts.old (read_in false forms.old values.old counts.old «record».now) }
     ensures record_value { «record».now ≡ «record».now }
 {
-    if forms.len() < MEANINGS {
-        return TOO_SHORT;
-    }
-    if values.len() < MEANINGS {
-        return TOO_SHORT;
-    }
-    if counts.len() < MEANINGS {
-        return TOO_SHORT;
-    }
-    put_read(forms, values, counts, read_record(record))
+    read_by(false, record, forms, values, counts)
 }
 
 // The same by the strict reader, which refuses a tag below the one before it by 19.
@@ -118,14 +140,5 @@ pub fn station_air_read_strictly(
         ≡ array_after count_for counts.old (read_in true forms.old values.old counts.old «record».now) }
     ensures record_value { «record».now ≡ «record».now }
 {
-    if forms.len() < MEANINGS {
-        return TOO_SHORT;
-    }
-    if values.len() < MEANINGS {
-        return TOO_SHORT;
-    }
-    if counts.len() < MEANINGS {
-        return TOO_SHORT;
-    }
-    put_read(forms, values, counts, read_record_strictly(record))
+    read_by(true, record, forms, values, counts)
 }

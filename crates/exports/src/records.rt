@@ -19,11 +19,8 @@ fn are_forms(forms: &[u8]) -> bool
     ensures { result ≡ are_forms meanings forms.now }
 {
     let mut all = true;
-    let mut meaning = 0;
-    while meaning < MEANINGS {
-        let form = forms[meaning];
-        all = all & (form <= 2);
-        meaning += 1;
+    for meaning in 0..MEANINGS {
+        all = all & (forms[meaning] <= 2);
     }
     all
 }
@@ -31,13 +28,11 @@ fn are_forms(forms: &[u8]) -> bool
 fn with_form(readings: Readings, meaning: usize, form: u8, value: f64, count: u32) -> Readings
     ensures { result ≡ with_form readings meaning form value count }
 {
-    if form == 1 {
-        return with_entry(readings, meaning, value);
+    match form {
+        1 => with_entry(readings, meaning, value),
+        2 => with_value(readings, meaning, Value::Count(count)),
+        _ => readings,
     }
-    if form == 2 {
-        return with_value(readings, meaning, Value::Count(count));
-    }
-    readings
 }
 
 fn readings_of(forms: &[u8], values: &[f64], counts: &[u32]) -> Readings
@@ -47,8 +42,7 @@ fn readings_of(forms: &[u8], values: &[f64], counts: &[u32]) -> Readings
     ensures { result ≡ array_readings meanings forms.now values.now counts.now }
 {
     let mut readings = no_readings();
-    let mut meaning = 0;
-    while meaning < MEANINGS {
+    for meaning in 0..MEANINGS {
         readings = with_form(
             readings,
             meaning,
@@ -56,7 +50,6 @@ fn readings_of(forms: &[u8], values: &[f64], counts: &[u32]) -> Readings
             values[meaning],
             counts[meaning],
         );
-        meaning += 1;
     }
     readings
 }

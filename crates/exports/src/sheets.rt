@@ -5,7 +5,7 @@ ghost use Rattle.sheet.specs.Over.{over_or_left};
 ghost use Rattle.exports.specs.Lent.{handed_out, status_of, values_after};
 ghost use Rattle.exports.specs.Sheets.{sheet_in};
 
-use crate::lent::{FIGURES, TOO_SHORT, wide};
+use crate::lent::{FIGURES, TOO_SHORT, hand_out};
 use refusal::{Values, handed_out, number};
 use sheet::page::setting_sheet;
 
@@ -16,8 +16,7 @@ fn put_first(lent: &mut [f64], values: Values)
 {
     match values {
         Values::None => {}
-        Values::One(a) => lent[0] = a,
-        Values::Two(a, _) => lent[0] = a,
+        Values::One(a) | Values::Two(a, _) => hand_out(lent, &[a]),
     }
 }
 
@@ -44,7 +43,7 @@ pub fn station_air_setting_sheet(
         Ok(()) => FIGURES,
         Err(refusal) => {
             put_first(lent, handed_out(refusal));
-            wide(number(refusal))
+            u32::from(number(refusal))
         }
     }
 }

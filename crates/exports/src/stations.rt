@@ -12,7 +12,7 @@ ghost use Rattle.mast.specs.Judge.{judge, judge_strictly};
 ghost use Rattle.exports.specs.Lent.{with_room, status_of, left_in, station_values, figure_values, mark_or};
 ghost use Rattle.exports.specs.Readings.{reading, standard_values, air_values, plausibility_values, implausible_or};
 
-use crate::lent::{FIGURES, TOO_SHORT, put_answer, put_refusal, put_station, put_two};
+use crate::lent::{FIGURES, TOO_SHORT, hand_out, put_answer, put_refusal, put_station};
 use air::conditions::calculate_atmosphere;
 use atmosphere::given::Reading;
 use atmosphere::layers::calculate_icao_standard_atmosphere;
@@ -41,7 +41,7 @@ pub fn station_air_standard_atmosphere(altitude_m: f64, lent: &mut [f64]) -> u32
         return TOO_SHORT;
     }
     let air = calculate_icao_standard_atmosphere(altitude_m);
-    put_two(lent, air.temperature_k, air.pressure_pa);
+    hand_out(lent, &[air.temperature_k, air.pressure_pa]);
     FIGURES
 }
 
@@ -69,7 +69,7 @@ pub fn station_air_calculate_atmosphere(
         reading(pressure_given, pressure_hpa),
         humidity_percent,
     );
-    put_two(lent, air.density_kg_m3, air.speed_of_sound_mps);
+    hand_out(lent, &[air.density_kg_m3, air.speed_of_sound_mps]);
     FIGURES
 }
 
@@ -91,7 +91,7 @@ pub fn station_air_station_pressure_plausibility(
         return TOO_SHORT;
     }
     let judged = station_pressure_plausibility(station_pressure_pa, altitude_m);
-    put_two(lent, judged.icao_standard_pa, judged.ratio);
+    hand_out(lent, &[judged.icao_standard_pa, judged.ratio]);
     *implausible = judged.implausible;
     FIGURES
 }

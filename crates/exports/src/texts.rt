@@ -6,6 +6,7 @@ ghost use Rattle.exports.specs.Lent.{status_of};
 ghost use Rattle.exports.specs.Texts.{report_on, has_words, words_on, text_length_or};
 
 use crate::lent::FIGURES;
+use pages::Page;
 use report::advice::put_cause;
 use report::{Origin, put_record_report};
 
@@ -23,10 +24,7 @@ const REPORT: usize = 2842;
 fn has_room(page: usize, record: usize) -> bool
     ensures { result ≡ leb (2842 + 2 * «record») page }
 {
-    if page < REPORT {
-        return false;
-    }
-    record <= (page - REPORT) / 2
+    page >= REPORT && record <= (page - REPORT) / 2
 }
 
 // Writes the report of a record, or why it is not read, at the start of the page, and its length. 16 where
@@ -41,7 +39,9 @@ pub fn station_air_report(record: &[u8], page: &mut [u8], length: &mut usize) ->
     if !has_room(page.len(), record.len()) {
         return PAGE_TOO_SHORT;
     }
-    *length = put_record_report(page, 0, record);
+    let mut page = Page::new(page);
+    put_record_report(&mut page, record);
+    *length = page.position();
     FIGURES
 }
 
@@ -65,6 +65,8 @@ pub fn station_air_refusal_words(number: u32, page: &mut [u8], length: &mut usiz
     if !has_words(number) {
         return NO_WORDS;
     }
-    *length = put_cause(page, 0, Origin::Record, number as u8);
+    let mut page = Page::new(page);
+    put_cause(&mut page, Origin::Record, number as u8);
+    *length = page.position();
     FIGURES
 }

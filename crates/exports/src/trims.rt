@@ -1,25 +1,19 @@
 // The trim class of a density, and how close the next one is.
-ghost use Rattle.std.specs.Prelude.{Some, ◌≡◌, [], ◌∷◌, ◌≤◌, length, pos};
+ghost use Rattle.std.specs.Prelude.{◌≡◌, pos};
 ghost use Rattle.trim.specs.Classes.{trim_class};
-ghost use Rattle.exports.specs.Lent.{handed_out, status_of, values_after};
-ghost use Rattle.exports.specs.Trims.{quantity_tag, signed_tenths, turn_numbers, trim_in, answer_after};
+ghost use Rattle.exports.specs.Lent.{status_of, values_after};
+ghost use Rattle.exports.specs.Trims.{quantity_tag, signed_tenths, trim_numbers, trim_in, answer_after};
 
-use crate::lent::{FIGURES, TOO_SHORT, put_refusal, wide};
-use trim::changes::{Direction, Quantity, Turn};
+use crate::lent::{FIGURES, TOO_SHORT, hand_out, put_refusal};
+use trim::changes::{Direction, Quantity};
 use trim::classes::trim_class;
-use trim::search::{Trim, next_trim_class};
+use trim::search::{Next, next_trim_class};
 
 // The trim class of a density, kg/m3.
 pub fn station_air_trim_class(density_kg_m3: f64) -> u32
     ensures { result ≡ trim_class density_kg_m3 }
 {
-    wide(trim_class(density_kg_m3))
-}
-
-fn signed(n: u8) -> i32
-    ensures { result ≡ pos n }
-{
-    n as i32
+    u32::from(trim_class(density_kg_m3))
 }
 
 fn tag_of(quantity: Quantity) -> i32
@@ -35,31 +29,29 @@ fn signed_tenths(direction: Direction, tenths: u8) -> i32
     ensures { result ≡ signed_tenths direction tenths }
 {
     match direction {
-        Direction::Up => signed(tenths),
-        Direction::Down => -signed(tenths),
+        Direction::Up => i32::from(tenths),
+        Direction::Down => -i32::from(tenths),
     }
 }
 
-fn put_four(answer: &mut [i32], a: i32, b: i32, c: i32, d: i32)
-    requires { 4 ≤ length answer.old }
-    ensures { answer.new ≡ handed_out (a ∷ b ∷ c ∷ d ∷ []) answer.old }
+// The class, and the tag, the tenths and the class of the change; without one 0, 0 and the class again.
+fn numbers_of(next: Next) -> [i32; 4]
+    ensures { result ≡ trim_numbers next }
 {
-    answer[0] = a;
-    answer[1] = b;
-    answer[2] = c;
-    answer[3] = d;
-}
-
-fn put_turn(answer: &mut [i32], class: u8, turn: Turn)
-    requires { 4 ≤ length answer.old }
-    ensures { answer.new ≡ handed_out (turn_numbers class (Some turn)) answer.old }
-{
-    let change = turn.change;
-    let quantity = change.quantity;
-    let direction = change.direction;
-    let tag = tag_of(quantity);
-    let tenths = signed_tenths(direction, change.tenths);
-    put_four(answer, signed(class), tag, tenths, signed(turn.class));
+    let class = i32::from(next.class);
+    match next.turn {
+        None => [class, 0, 0, class],
+        Some(turn) => {
+            let change = turn.change;
+            let tenths = signed_tenths(change.direction, change.tenths);
+            [
+                class,
+                tag_of(change.quantity),
+                tenths,
+                i32::from(turn.class),
+            ]
+        }
+    }
 }
 
 // The trim class of a record and the smallest change of its temperature or measured pressure that gives
@@ -80,14 +72,10 @@ pub fn station_air_next_trim_class(record: &[u8], lent: &mut [f64], answer: &mut
         return TOO_SHORT;
     }
     match next_trim_class(record) {
-        Trim::Turns(class, turn) => {
-            put_turn(answer, class, turn);
+        Ok(next) => {
+            hand_out(answer, &numbers_of(next));
             FIGURES
         }
-        Trim::NoChange(class) => {
-            put_four(answer, signed(class), 0, 0, signed(class));
-            FIGURES
-        }
-        Trim::Refused(refusal) => put_refusal(lent, refusal),
+        Err(refusal) => put_refusal(lent, refusal),
     }
 }

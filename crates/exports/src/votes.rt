@@ -5,9 +5,9 @@ ghost use Rattle.vote.specs.Vote.{vote_outcome, vote};
 ghost use Rattle.exports.specs.Lent.{with_room, status_of, left_in, figure_values, mark_or};
 ghost use Rattle.exports.specs.Votes.{mast_in};
 
-use refusal::judge::Figures;
-use refusal::Refusal;
 use crate::lent::{TOO_SHORT, put_answer, wide};
+use refusal::Refusal;
+use refusal::judge::Figures;
 use vote::answer::Vote;
 use vote::masts::vote;
 

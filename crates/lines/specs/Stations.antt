@@ -1,5 +1,5 @@
 -- The functions of the station that answer more than one double, by the words of their line. Definitions only.
-use Rattle.std.specs.Prelude.{ℕ, List, [], ◌++◌, get_or, Float}
+use Rattle.std.specs.Prelude.{ℕ, List, [], ◌++◌, get_or, Float, Option, Some, None}
 use Rattle.std.specs.Float.{binary64}
 use Rattle.std.specs.Float.Ieee.{of_bits}
 use Rattle.arithmetic.specs.Places.{places}
@@ -15,17 +15,15 @@ use Rattle.air.specs.declared.conditions.Air.{Air}
 use Rattle.air.specs.Station.{atmosphere}
 use Rattle.density_altitude.specs.Inverse.{resolve, station}
 use Rattle.arithmetic.specs.Ascii.{ascii}
-use Rattle.questions.specs.declared.forms.Given.{Given}
-use Rattle.questions.specs.declared.forms.Given.TheVariants.{Word, Absent}
 use Rattle.questions.specs.Forms.{given_in}
 use Rattle.questions.specs.Arguments.{double_in}
 use Rattle.lines.specs.Values.{value_text, refusal_values}
 use Rattle.lines.specs.Texts.{pair_line, three_line, pair_truth_line}
 
 -- ---- arguments: a reading that is absent is the layer's
-abbrev pub option_of : Given → Reading
-option_of (Word bits) = reading.Given (of_bits binary64 bits)
-option_of Absent = reading.FromLayer
+abbrev pub option_of : Option ℕ → Reading
+option_of (Some bits) = reading.Given (of_bits binary64 bits)
+option_of None = reading.FromLayer
 
 abbrev pub reading_in : List ℕ → Reading
 reading_in w = option_of (given_in w)

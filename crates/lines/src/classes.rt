@@ -1,70 +1,70 @@
 // The trim class and the smallest change that gives another.
 ghost use Rattle.std.specs.Prelude.{◌≡◌, ◌++◌};
 ghost use Rattle.arithmetic.specs.Ascii.{ascii};
-ghost use Rattle.pages.specs.Pages.{Appended};
+ghost use Rattle.pages.specs.Pages.{put};
 ghost use Rattle.lines.specs.Values.{whole};
 ghost use Rattle.trim.specs.Search.{next_trim_class};
 ghost use Rattle.lines.specs.Classes.{direction_text, quantity_text, turn_text, class_text};
 
 use crate::value_lines::put_whole;
-use pages::put;
+use pages::Page;
 use text::answer_lines::put_refusal;
 use trim::changes::{Direction, Quantity, Turn};
 use trim::search::{Trim, next_trim_class};
 
-fn put_direction(page: &mut [u8], at: usize, direction: Direction) -> usize
-    ensures { Appended page.old at (direction_text direction) page.new result }
+fn put_direction(page: &mut Page<'_>, direction: Direction)
+    ensures { page.new ≡ put page.old (direction_text direction) }
 {
     match direction {
-        Direction::Up => put(page, at, b" up "),
-        Direction::Down => put(page, at, b" down "),
+        Direction::Up => page.put(b" up "),
+        Direction::Down => page.put(b" down "),
     }
 }
 
-fn put_quantity(page: &mut [u8], at: usize, quantity: Quantity) -> usize
-    ensures { Appended page.old at (quantity_text quantity) page.new result }
+fn put_quantity(page: &mut Page<'_>, quantity: Quantity)
+    ensures { page.new ≡ put page.old (quantity_text quantity) }
 {
     match quantity {
-        Quantity::Temperature => put(page, at, b" temperature"),
-        Quantity::MeasuredPressure => put(page, at, b" pressure"),
+        Quantity::Temperature => page.put(b" temperature"),
+        Quantity::MeasuredPressure => page.put(b" pressure"),
     }
 }
 
-fn put_turn(page: &mut [u8], at: usize, turn: Turn) -> usize
-    ensures { Appended page.old at (turn_text turn) page.new result }
+fn put_turn(page: &mut Page<'_>, turn: Turn)
+    ensures { page.new ≡ put page.old (turn_text turn) }
 {
     let change = turn.change;
     let quantity = change.quantity;
     let direction = change.direction;
-    let changed = put_quantity(page, at, quantity);
-    let directed = put_direction(page, changed, direction);
-    let tenths = put_whole(page, directed, change.tenths);
-    let word = put(page, tenths, b" class ");
-    let class = put_whole(page, word, turn.class);
-    put(page, class, b"\n")
+    put_quantity(page, quantity);
+    put_direction(page, direction);
+    put_whole(page, change.tenths);
+    page.put(b" class ");
+    put_whole(page, turn.class);
+    page.put(b"\n")
 }
 
-fn put_class(page: &mut [u8], at: usize, class: u8) -> usize
-    ensures { Appended page.old at (ascii "class " ++ whole class) page.new result }
+fn put_class(page: &mut Page<'_>, class: u8)
+    ensures { page.new ≡ put page.old (ascii "class " ++ whole class) }
 {
-    let word = put(page, at, b"class ");
-    put_whole(page, word, class)
+    page.put(b"class ");
+    put_whole(page, class)
 }
 
 // The class of a record and the change, or the refusal. The record is left as it was.
-pub(crate) fn put_next_class(page: &mut [u8], at: usize, record: &[u8]) -> usize
-    ensures appended { Appended page.old at (class_text (next_trim_class «record».now)) page.new result }
+pub(crate) fn put_next_class(page: &mut Page<'_>, record: &[u8])
+    ensures put { page.new ≡ put page.old (class_text (next_trim_class «record».now)) }
     ensures kept { «record».now ≡ «record».now }
 {
     match next_trim_class(record) {
         Trim::Turns(class, turn) => {
-            let classed = put_class(page, at, class);
-            put_turn(page, classed, turn)
+            put_class(page, class);
+            put_turn(page, turn)
         }
         Trim::NoChange(class) => {
-            let classed = put_class(page, at, class);
-            put(page, classed, b" none\n")
+            put_class(page, class);
+            page.put(b" none\n")
         }
-        Trim::Refused(refusal) => put_refusal(page, at, refusal),
+        Trim::Refused(refusal) => put_refusal(page, refusal),
     }
 }

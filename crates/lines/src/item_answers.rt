@@ -1,14 +1,14 @@
 // The question `write`: readings as items, `TAG=DATA`, and the record that is written of them.
 ghost use Rattle.std.specs.Prelude.{◌≡◌, take, drop, ◌+◌, ◌*◌};
 ghost use Rattle.fields.specs.Fields.{is_tag, data_size};
-ghost use Rattle.pages.specs.Pages.{Appended};
+ghost use Rattle.pages.specs.Pages.{put};
 ghost use Rattle.questions.specs.Words.{line_parts};
 ghost use Rattle.lines.specs.Items.{item_tag, is_item, value_in, wrong, with_item, items_in, items_of, write_answer};
 
 use crate::written::put_record;
 use fields::bits::double;
 use fields::fields::{Value, is_count_tag, meaning_of};
-use pages::put;
+use pages::Page;
 use questions::digits::{are_hex, word_in};
 use questions::words::{nth_word, word_count};
 use record::entries::{Readings, entry_of, no_readings, with_value};
@@ -138,17 +138,15 @@ fn read_items(line: &[u8]) -> Items
 
 // The record of the items of a line, its length before it, or what is expected, on the page from `at` on;
 // the position after it. The line is left as it was.
-pub(crate) fn put_write(page: &mut [u8], at: usize, line: &[u8]) -> usize
-    ensures appended { Appended page.old at (write_answer (line_parts line.now)) page.new result }
+pub(crate) fn put_write(page: &mut Page<'_>, line: &[u8])
+    ensures put { page.new ≡ put page.old (write_answer (line_parts line.now)) }
     ensures kept { line.now ≡ line.now }
 {
     let items = read_items(line);
     if items.good {
-        return put_record(page, at, items.readings);
+        return put_record(page, items.readings);
     }
-    put(
-        page,
-        at,
+    page.put(
         b"wrong arguments: expected write TAG=DATA .., 01 to 07 with 16 hex digits or 11 to 17 with 8, no reading twice\n",
     )
 }

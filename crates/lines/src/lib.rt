@@ -16,7 +16,7 @@ mod votes;
 mod written;
 
 ghost use Rattle.std.specs.Prelude.{◌≡◌};
-ghost use Rattle.pages.specs.Pages.{Appended};
+ghost use Rattle.pages.specs.Pages.{put};
 ghost use Rattle.questions.specs.Words.{line_parts};
 ghost use Rattle.lines.specs.Answers.{record_answer, vote_answer, sheet_answer, load_answer, known_answer, question_answer, answer_line};
 
@@ -26,7 +26,7 @@ use crate::park_answers::put_park;
 use crate::records::{put_of_record, put_sheet};
 use crate::votes::put_vote;
 use load_text::blocks::put_load_record;
-use pages::put;
+use pages::Page;
 use questions::arguments::{double_at, number_at, record_at};
 use questions::forms::{fits, put_wrong};
 use questions::words::{nth_word, place};
@@ -34,16 +34,16 @@ use questions::words::{nth_word, place};
 // A line has room for no longer record.
 const ROOM: usize = 2048;
 
-fn put_record_answer(page: &mut [u8], at: usize, number: usize, line: &[u8]) -> usize
-    ensures { Appended page.old at (record_answer number (line_parts line.now)) page.new result }
+fn put_record_answer(page: &mut Page<'_>, number: usize, line: &[u8])
+    ensures { page.new ≡ put page.old (record_answer number (line_parts line.now)) }
 {
     let mut record = [0u8; ROOM];
     let n = record_at(line, 1, &mut record);
-    put_of_record(page, at, number, &record[..n])
+    put_of_record(page, number, &record[..n])
 }
 
-fn put_vote_answer(page: &mut [u8], at: usize, line: &[u8]) -> usize
-    ensures { Appended page.old at (vote_answer (line_parts line.now)) page.new result }
+fn put_vote_answer(page: &mut Page<'_>, line: &[u8])
+    ensures { page.new ≡ put page.old (vote_answer (line_parts line.now)) }
 {
     let mut first = [0u8; ROOM];
     let a = record_at(line, 1, &mut first);
@@ -51,71 +51,73 @@ fn put_vote_answer(page: &mut [u8], at: usize, line: &[u8]) -> usize
     let b = record_at(line, 2, &mut second);
     let mut third = [0u8; ROOM];
     let c = record_at(line, 3, &mut third);
-    put_vote(page, at, &first[..a], &second[..b], &third[..c])
+    put_vote(page, &first[..a], &second[..b], &third[..c])
 }
 
-fn put_sheet_answer(page: &mut [u8], at: usize, line: &[u8]) -> usize
-    ensures { Appended page.old at (sheet_answer (line_parts line.now)) page.new result }
+fn put_sheet_answer(page: &mut Page<'_>, line: &[u8])
+    ensures { page.new ≡ put page.old (sheet_answer (line_parts line.now)) }
 {
     let altitude_m = double_at(line, 1);
     let pressure_hpa = double_at(line, 2);
     let humidity_percent = double_at(line, 3);
-    put_sheet(page, at, altitude_m, pressure_hpa, humidity_percent)
+    put_sheet(page, altitude_m, pressure_hpa, humidity_percent)
 }
 
-fn put_load_answer(page: &mut [u8], at: usize, line: &[u8]) -> usize
-    ensures { Appended page.old at (load_answer (line_parts line.now)) page.new result }
+fn put_load_answer(page: &mut Page<'_>, line: &[u8])
+    ensures { page.new ≡ put page.old (load_answer (line_parts line.now)) }
 {
     let number = number_at(line, 1);
-    put_load_record(page, at, number)
+    put_load_record(page, number)
 }
 
 // The answer to the question with a number, whose arguments fit its shape.
-fn put_known(page: &mut [u8], at: usize, number: usize, line: &[u8]) -> usize
-    ensures { Appended page.old at (known_answer number (line_parts line.now)) page.new result }
+fn put_known(page: &mut Page<'_>, number: usize, line: &[u8])
+    ensures { page.new ≡ put page.old (known_answer number (line_parts line.now)) }
 {
     match number {
-        8 => put_vote_answer(page, at, line),
-        9 => put_sheet_answer(page, at, line),
-        10 => put_load_answer(page, at, line),
-        _ => put_record_answer(page, at, number, line),
+        8 => put_vote_answer(page, line),
+        9 => put_sheet_answer(page, line),
+        10 => put_load_answer(page, line),
+        _ => put_record_answer(page, number, line),
     }
 }
 
-fn put_question(page: &mut [u8], at: usize, line: &[u8]) -> usize
-    ensures { Appended page.old at (question_answer line.now) page.new result }
+fn put_question(page: &mut Page<'_>, line: &[u8])
+    ensures { page.new ≡ put page.old (question_answer line.now) }
 {
     let names =
         b"judge strict judge-values strict-values class counts doubles report vote sheet load write park";
     let number = place(nth_word(line, 0), names);
     if number >= 13 {
-        return put_function_answer(page, at, line);
+        return put_function_answer(page, line);
     }
     if number == 12 {
-        return put_park(page, at, line);
+        return put_park(page, line);
     }
     if number == 11 {
-        return put_write(page, at, line);
+        return put_write(page, line);
     }
     let shapes = b"r r r r r r r r rrr xxx n";
     let shape = nth_word(shapes, number);
     if fits(line, shape) {
-        return put_known(page, at, number, line);
+        return put_known(page, number, line);
     }
-    put_wrong(page, at, nth_word(names, number), shape)
+    put_wrong(page, nth_word(names, number), shape)
 }
 
 // The answer to a line, its end not counted, on the page from `at` on, as much of it as there is room for;
 // the position after it. The line is left as it was.
-pub fn put_line_answer(page: &mut [u8], at: usize, line: &[u8]) -> usize
-    ensures appended { Appended page.old at (answer_line line.now) page.new result }
+pub fn put_line_answer(page: &mut Page<'_>, line: &[u8])
+    ensures put { page.new ≡ put page.old (answer_line line.now) }
     ensures kept { line.now ≡ line.now }
 {
     if line.len() > 4096 {
-        return put(page, at, b"line too long: expected 4096 bytes at most\n");
+        page.put(b"line too long: expected 4096 bytes at most\n");
+        return;
     }
     if line.len() == 0 {
-        return put(page, at, b"\n");
+        page.put(b"\n");
+        return;
     }
-    put_question(page, at, line)
+    put_question(page, line)
 }

@@ -53,11 +53,11 @@ fn typed_text(line: &[u8], out: &mut [u8]) -> usize
 }
 
 // What is printed, on the page from `at` on; the position after it. The line is left as it was.
-pub(crate) fn put_park(page: &mut [u8], at: usize, line: &[u8]) -> usize
-    ensures appended { Appended page.old at (park_answer line.now) page.new result }
+pub(crate) fn put_park(page: &mut Page<'_>, line: &[u8])
+    ensures put { page.new ≡ put page.old (park_answer line.now) }
     ensures kept { line.now ≡ line.now }
 {
     let mut typed = [0u8; ROOM];
     let n = typed_text(line, &mut typed);
-    put_park_text(page, at, &typed[..n])
+    put_park_text(page, &typed[..n])
 }

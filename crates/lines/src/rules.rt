@@ -1,6 +1,6 @@
 // The functions by whole numbers alone: log word, antilog, root, and the decimal text of a double.
 ghost use Rattle.std.specs.Prelude.{◌≡◌};
-ghost use Rattle.pages.specs.Pages.{Appended};
+ghost use Rattle.pages.specs.Pages.{put};
 ghost use Rattle.questions.specs.Words.{line_parts};
 ghost use Rattle.lines.specs.Rules.{whole_of, part_of, log_line, log_answer, log_word_of, word_line, antilog_answer, root_answer};
 
@@ -9,7 +9,7 @@ use antilog::antilog::antilog;
 use arithmetic::wide::Wide;
 use arithmetic::word::{Logarithm, ONES, Word};
 use elementary::log::log_word;
-use pages::put;
+use pages::Page;
 use questions::arguments::{double_at, word_at};
 use roots::quick::both_roots;
 
@@ -35,24 +35,24 @@ fn part_of(w: Word) -> u64
     }
 }
 
-fn put_logarithm(page: &mut [u8], at: usize, logarithm: Logarithm) -> usize
-    ensures { Appended page.old at (log_line logarithm) page.new result }
+fn put_logarithm(page: &mut Page<'_>, logarithm: Logarithm)
+    ensures { page.new ≡ put page.old (log_line logarithm) }
 {
     match logarithm {
         Logarithm::Defined(w) => {
             let whole = whole_of(w);
             let part = part_of(w);
-            put_words(page, at, whole, part)
+            put_words(page, whole, part)
         }
-        Logarithm::Undefined => put(page, at, b"none\n"),
+        Logarithm::Undefined => page.put(b"none\n"),
     }
 }
 
-pub(crate) fn put_log_word(page: &mut [u8], at: usize, line: &[u8]) -> usize
-    ensures { Appended page.old at (log_answer (line_parts line.now)) page.new result }
+pub(crate) fn put_log_word(page: &mut Page<'_>, line: &[u8])
+    ensures { page.new ≡ put page.old (log_answer (line_parts line.now)) }
 {
     let logarithm = log_word(double_at(line, 1));
-    put_logarithm(page, at, logarithm)
+    put_logarithm(page, logarithm)
 }
 
 // A word by its whole part in two's complement and what is left of it; none where the one is past 32 bits or
@@ -80,32 +80,30 @@ fn word_of(k: u64, f: u64) -> Logarithm
     Logarithm::Undefined
 }
 
-fn put_power_of_two(page: &mut [u8], at: usize, word: Logarithm) -> usize
-    ensures { Appended page.old at (word_line word) page.new result }
+fn put_power_of_two(page: &mut Page<'_>, word: Logarithm)
+    ensures { page.new ≡ put page.old (word_line word) }
 {
     match word {
-        Logarithm::Defined(w) => put_value_line(page, at, antilog(w)),
-        Logarithm::Undefined => put(
-            page,
-            at,
+        Logarithm::Defined(w) => put_value_line(page, antilog(w)),
+        Logarithm::Undefined => page.put(
             b"wrong arguments: expected antilog WORD WORD, FFFFFFFF00000000 to 00000000FFFFFFFF and below 1000000000000000\n",
         ),
     }
 }
 
-pub(crate) fn put_antilog(page: &mut [u8], at: usize, line: &[u8]) -> usize
-    ensures { Appended page.old at (antilog_answer (line_parts line.now)) page.new result }
+pub(crate) fn put_antilog(page: &mut Page<'_>, line: &[u8])
+    ensures { page.new ≡ put page.old (antilog_answer (line_parts line.now)) }
 {
     let k = word_at(line, 1);
     let f = word_at(line, 2);
-    put_power_of_two(page, at, word_of(k, f))
+    put_power_of_two(page, word_of(k, f))
 }
 
-pub(crate) fn put_root(page: &mut [u8], at: usize, line: &[u8]) -> usize
-    ensures { Appended page.old at (root_answer (line_parts line.now)) page.new result }
+pub(crate) fn put_root(page: &mut Page<'_>, line: &[u8])
+    ensures { page.new ≡ put page.old (root_answer (line_parts line.now)) }
 {
     let hi = word_at(line, 1);
     let lo = word_at(line, 2);
-    let roots = both_roots(Wide { hi, lo });
-    put_words(page, at, roots.first, roots.quick)
+    let roots = both_roots(u128::from(Wide { hi, lo }));
+    put_words(page, roots.first, roots.quick)
 }

@@ -1,78 +1,79 @@
 // Values and refusals with their values as text on a page: each function puts its text from a position on,
 // as far as the page reaches, and answers the position after it.
-ghost use Rattle.std.specs.Prelude.{◌++◌};
+ghost use Rattle.std.specs.Prelude.{◌≡◌, ◌++◌};
 ghost use Rattle.refusal.specs.Refusals.{number_of, values_of, listed};
 ghost use Rattle.refusal.specs.Outcomes.{outcome};
 ghost use Rattle.arithmetic.specs.Ascii.{ascii};
-ghost use Rattle.pages.specs.Pages.{Appended};
+ghost use Rattle.pages.specs.Pages.{put};
 ghost use Rattle.lines.specs.Values.{whole, value_text, values_text, refusal_values, answer_values};
 
-use refusal::judge::Figures;
 use fields::bits::pattern;
-use pages::digits::put_digits;
-use pages::{put, put_number};
+use pages::Page;
+use refusal::judge::Figures;
 use refusal::{Refusal, Values, handed_out, number};
 use text::answer_lines::put_figures;
 
 // A double's digits, or `nan`.
-pub(crate) fn put_value(page: &mut [u8], at: usize, x: f64) -> usize
-    ensures { Appended page.old at (value_text x) page.new result }
+pub(crate) fn put_value(page: &mut Page<'_>, x: f64)
+    ensures { page.new ≡ put page.old (value_text x) }
 {
     // only a NaN differs from itself
     if x != x {
-        return put(page, at, b"nan");
+        page.put(b"nan");
+        return;
     }
-    put_digits(page, at, pattern(x))
+    page.put_digits(pattern(x))
 }
 
 // A number below 256.
-pub(crate) fn put_whole(page: &mut [u8], at: usize, n: u8) -> usize
-    ensures { Appended page.old at (whole n) page.new result }
+pub(crate) fn put_whole(page: &mut Page<'_>, n: u8)
+    ensures { page.new ≡ put page.old (whole n) }
 {
     if n < 100 {
-        return put_number(page, at, n);
+        page.put_number(n);
+        return;
     }
     let digits = [48 + n / 100, 48 + n / 10 % 10, 48 + n % 10];
-    put(page, at, &digits)
+    page.put(&digits)
 }
 
 // A blank and a value.
-pub(crate) fn put_next_value(page: &mut [u8], at: usize, x: f64) -> usize
-    ensures { Appended page.old at (ascii " " ++ value_text x) page.new result }
+pub(crate) fn put_next_value(page: &mut Page<'_>, x: f64)
+    ensures { page.new ≡ put page.old (ascii " " ++ value_text x) }
 {
-    let blank = put(page, at, b" ");
-    put_value(page, blank, x)
+    page.put(b" ");
+    put_value(page, x)
 }
 
-fn put_handed_out(page: &mut [u8], at: usize, values: Values) -> usize
-    ensures { Appended page.old at (values_text (listed values)) page.new result }
+fn put_handed_out(page: &mut Page<'_>, values: Values)
+    ensures { page.new ≡ put page.old (values_text (listed values)) }
 {
     match values {
-        Values::None => at,
-        Values::One(x) => put_next_value(page, at, x),
+        Values::None => {}
+        Values::One(x) => put_next_value(page, x),
         Values::Two(x, y) => {
-            let first = put_next_value(page, at, x);
-            put_next_value(page, first, y)
+            put_next_value(page, x);
+            put_next_value(page, y)
         }
     }
 }
 
 // The line of a refusal, with the values that it hands out.
-pub(crate) fn put_refusal_values(page: &mut [u8], at: usize, refusal: Refusal) -> usize
-    ensures { Appended page.old at (refusal_values (number_of refusal) (values_of refusal)) page.new result }
+pub(crate) fn put_refusal_values(page: &mut Page<'_>, refusal: Refusal)
+    ensures { page.new ≡ put page.old (refusal_values (number_of refusal) (values_of refusal)) }
 {
-    let word = put(page, at, b"refused ");
-    let numbered = put_number(page, word, number(refusal));
-    let valued = put_handed_out(page, numbered, handed_out(refusal));
-    put(page, valued, b"\n")
+    page.put(b"refused ");
+    page.put_number(number(refusal));
+    put_handed_out(page, handed_out(refusal));
+    page.put(b"\n")
 }
 
 // The two lines of the figures, or the one of a refusal with its values.
-pub(crate) fn put_answer_values(page: &mut [u8], at: usize, answer: Result<Figures, Refusal>) -> usize
-    ensures { Appended page.old at (answer_values (outcome answer)) page.new result }
+pub(crate) fn put_answer_values(page: &mut Page<'_>, answer: Result<Figures, Refusal>)
+    ensures { page.new ≡ put page.old (answer_values (outcome answer)) }
 {
     match answer {
-        Ok(figures) => put_figures(page, at, figures),
-        Err(refusal) => put_refusal_values(page, at, refusal),
+        Ok(figures) => put_figures(page, figures),
+        Err(refusal) => put_refusal_values(page, refusal),
     }
 }

@@ -2,7 +2,7 @@
 // say what is read or written, so this is all that stands outside of one.
 #![tactic(auto)]
 
-use load_text::asked::{Asked, asked_for};
+use load_text::asked::asked_for;
 use load_text::blocks::put_records;
 use std::env::{Env, FillError};
 
@@ -22,8 +22,8 @@ fn word_count<E: Env>(env: &E) -> usize {
     usize::MAX
 }
 
-// What is asked for by the words that the program was started with.
-fn asked<E: Env>(env: &E) -> Asked {
+// How many records are asked for by the words that the program was started with.
+fn asked<E: Env>(env: &E) -> Option<u32> {
     let mut word = [0u8; WORD];
     let length = env.arg(1, &mut word).unwrap_or(0);
     asked_for(word_count(env), &word[..length])
@@ -47,8 +47,8 @@ fn write_records<P: Print>(rt: &P, count: u32) {
 // there is is written.
 fn main(rt: HostRuntime) {
     match asked(&rt) {
-        Asked::Records(count) => write_records(&rt, count),
-        Asked::Unknown => {
+        Some(count) => write_records(&rt, count),
+        None => {
             let _ = rt.write_all(
                 b"usage: load [COUNT], a whole number from 0 to 2147483, 10000 if there is none\n",
             );

@@ -1,6 +1,6 @@
 // Lines that the program `park` prints: what is wrong with a word, and a reading in its unit.
 ghost use Rattle.std.specs.Prelude.{◌≡◌, take, drop};
-ghost use Rattle.pages.specs.Pages.{Appended};
+ghost use Rattle.pages.specs.Pages.{put};
 ghost use Rattle.park_text.specs.Units.{by_quantity};
 ghost use Rattle.park_text.specs.ParkLines.{byte_with, typed_with, as_typed, quoted, example_of, alone_message, unit_message, decimals_message, range_message, blank_message, comma_message, minus_message, message_of, problem_line, reading_line, unit_line};
 
@@ -11,8 +11,8 @@ use fields::fields::{
     ALTITUDE, DENSITY_ALTITUDE, HUMIDITY, MEANINGS, MEASURED_PRESSURE, QNH, STATION_PRESSURE,
     TEMPERATURE,
 };
+use pages::Page;
 use pages::scan::find;
-use pages::{put, put_hex};
 
 // The first bytes of a word.
 pub(crate) fn first_bytes(word: &[u8], n: usize) -> &[u8]
@@ -37,112 +37,122 @@ pub(crate) fn later_bytes(word: &[u8], n: usize) -> &[u8]
 
 // Each of the following puts a piece on the page from `at` on, and answers the position after it.
 // A byte of a word, or `new` where it is `old`.
-fn put_byte(page: &mut [u8], at: usize, byte: u8, old: u8, new: &[u8]) -> usize
-    ensures appended { Appended page.old at (byte_with old new.now byte) page.new result }
+fn put_byte(page: &mut Page<'_>, byte: u8, old: u8, new: &[u8])
+    ensures put { page.new ≡ put page.old (byte_with old new.now byte) }
     ensures kept { new.now ≡ new.now }
 {
     if byte == old {
-        return put(page, at, new);
+        page.put(new);
+        return;
     }
     let one = [byte];
     if (byte < 32) | (byte > 126) {
-        let code = put(page, at, b"\\x");
-        return put_hex(page, code, &one);
+        page.put(b"\\x");
+        page.put_hex(&one);
+        return;
     }
-    put(page, at, &one)
+    page.put(&one)
 }
 
 // A word with `new` in the place of each byte `old`. The word is left as it was.
-fn put_with(page: &mut [u8], at: usize, word: &[u8], old: u8, new: &[u8]) -> usize
-    ensures appended { Appended page.old at (typed_with old new.now word.now) page.new result }
+fn put_with(page: &mut Page<'_>, word: &[u8], old: u8, new: &[u8])
+    ensures put { page.new ≡ put page.old (typed_with old new.now word.now) }
     ensures kept { word.now ≡ word.now }
 {
     let mut next = at;
     let mut i = 0;
     while i < word.len() {
-        next = put_byte(page, next, word[i], old, new);
+        next = put_byte(page, word[i], old, new);
         i += 1;
     }
     next
 }
 
 // A word as it was typed. It is left as it was.
-fn put_typed(page: &mut [u8], at: usize, word: &[u8]) -> usize
-    ensures appended { Appended page.old at (as_typed word.now) page.new result }
+fn put_typed(page: &mut Page<'_>, word: &[u8])
+    ensures put { page.new ≡ put page.old (as_typed word.now) }
     ensures kept { word.now ≡ word.now }
 {
-    put_with(page, at, word, b'"', b"\"")
+    put_with(page, word, b'"', b"\"")
 }
 
 // One of four texts: for a length, a temperature, a humidity and a pressure.
 fn put_for(
-    page: &mut [u8],
-    at: usize,
+    page: &mut Page<'_>,
     meaning: usize,
     length: &[u8],
     temperature: &[u8],
     humidity: &[u8],
     pressure: &[u8],
-) -> usize
-    ensures { Appended page.old at (by_quantity meaning length.now temperature.now humidity.now pressure.now) page.new result }
+)
+    ensures { page.new ≡ put page.old (by_quantity meaning length.now temperature.now humidity.now pressure.now) }
 {
     if is_length(meaning) {
-        return put(page, at, length);
+        page.put(length);
+        return;
     }
     if meaning == TEMPERATURE {
-        return put(page, at, temperature);
+        page.put(temperature);
+        return;
     }
     if meaning == HUMIDITY {
-        return put(page, at, humidity);
+        page.put(humidity);
+        return;
     }
-    put(page, at, pressure)
+    page.put(pressure)
 }
 
 // A word with a number, for each meaning, and one with a record.
-fn put_example(page: &mut [u8], at: usize, meaning: usize) -> usize
-    ensures { Appended page.old at (example_of meaning) page.new result }
+fn put_example(page: &mut Page<'_>, meaning: usize)
+    ensures { page.new ≡ put page.old (example_of meaning) }
 {
     if meaning == ALTITUDE {
-        return put(page, at, b"altitude=1586\n");
+        page.put(b"altitude=1586\n");
+        return;
     }
     if meaning == TEMPERATURE {
-        return put(page, at, b"temperature=24\n");
+        page.put(b"temperature=24\n");
+        return;
     }
     if meaning == STATION_PRESSURE {
-        return put(page, at, b"station-pressure=841.9\n");
+        page.put(b"station-pressure=841.9\n");
+        return;
     }
     if meaning == QNH {
-        return put(page, at, b"qnh=1019.3\n");
+        page.put(b"qnh=1019.3\n");
+        return;
     }
     if meaning == HUMIDITY {
-        return put(page, at, b"humidity=32\n");
+        page.put(b"humidity=32\n");
+        return;
     }
     if meaning == DENSITY_ALTITUDE {
-        return put(page, at, b"density-altitude=2100\n");
+        page.put(b"density-altitude=2100\n");
+        return;
     }
     if meaning == MEASURED_PRESSURE {
-        return put(page, at, b"pressure=841.9\n");
+        page.put(b"pressure=841.9\n");
+        return;
     }
     if meaning == MEANINGS {
-        return put(page, at, b"record=11000400183350\n");
+        page.put(b"record=11000400183350\n");
+        return;
     }
-    at
 }
 
-fn put_alone(page: &mut [u8], at: usize, meaning: usize) -> usize
-    ensures { Appended page.old at (alone_message meaning) page.new result }
+fn put_alone(page: &mut Page<'_>, meaning: usize)
+    ensures { page.new ≡ put page.old (alone_message meaning) }
 {
-    let told = put(page, at, b": a name without =, type ");
-    put_example(page, told, meaning)
+    page.put(b": a name without =, type ");
+    put_example(page, meaning)
 }
 
-fn put_units(page: &mut [u8], at: usize, meaning: usize) -> usize
-    ensures { Appended page.old at (unit_message meaning) page.new result }
+fn put_units(page: &mut Page<'_>, meaning: usize)
+    ensures { page.new ≡ put page.old (unit_message meaning) }
 {
-    let told = put(page, at, b": unknown unit, expected ");
+    page.put(b": unknown unit, expected ");
     put_for(
         page,
-        told,
         meaning,
         b"m or ft\n",
         b"C, F or K\n",
@@ -151,153 +161,123 @@ fn put_units(page: &mut [u8], at: usize, meaning: usize) -> usize
     )
 }
 
-fn put_decimals(page: &mut [u8], at: usize, places: usize) -> usize
-    ensures { Appended page.old at (decimals_message places) page.new result }
+fn put_decimals(page: &mut Page<'_>, places: usize)
+    ensures { page.new ≡ put page.old (decimals_message places) }
 {
     if places == 4 {
-        return put(page, at, b": more than four decimals, as 30.1025inHg\n");
+        page.put(b": more than four decimals, as 30.1025inHg\n");
+        return;
     }
-    put(
-        page,
-        at,
-        b": more than three decimals, expected thousandths at most, as 841.897\n",
-    )
+    page.put(b": more than three decimals, expected thousandths at most, as 841.897\n")
 }
 
-fn put_range(page: &mut [u8], at: usize, places: usize) -> usize
-    ensures { Appended page.old at (range_message places) page.new result }
+fn put_range(page: &mut Page<'_>, places: usize)
+    ensures { page.new ≡ put page.old (range_message places) }
 {
     if places == 4 {
-        return put(
-            page,
-            at,
-            b": out of range, expected a number from -214748.3648 to 214748.3647\n",
-        );
+        page.put(b": out of range, expected a number from -214748.3648 to 214748.3647\n");
+        return;
     }
-    put(
-        page,
-        at,
-        b": out of range, expected a number from -2147483.648 to 2147483.647\n",
-    )
+    page.put(b": out of range, expected a number from -2147483.648 to 2147483.647\n")
 }
 
-fn put_blank(page: &mut [u8], at: usize, word: &[u8]) -> usize
-    ensures { Appended page.old at (blank_message word.now) page.new result }
+fn put_blank(page: &mut Page<'_>, word: &[u8])
+    ensures { page.new ≡ put page.old (blank_message word.now) }
 {
-    let told = put(page, at, b": a blank, type ");
-    let typed = put_with(page, told, word, b' ', b"");
-    put(page, typed, b"\n")
+    page.put(b": a blank, type ");
+    put_with(page, word, b' ', b"");
+    page.put(b"\n")
 }
 
-fn put_comma(page: &mut [u8], at: usize, word: &[u8]) -> usize
-    ensures { Appended page.old at (comma_message word.now) page.new result }
+fn put_comma(page: &mut Page<'_>, word: &[u8])
+    ensures { page.new ≡ put page.old (comma_message word.now) }
 {
-    let told = put(page, at, b": a comma, type ");
-    let decimals = put_with(page, told, word, b',', b".");
-    let or = put(page, decimals, b" for decimals, ");
-    let thousands = put_with(page, or, word, b',', b"");
-    put(page, thousands, b" for thousands\n")
+    page.put(b": a comma, type ");
+    put_with(page, word, b',', b".");
+    page.put(b" for decimals, ");
+    put_with(page, word, b',', b"");
+    page.put(b" for thousands\n")
 }
 
-fn put_hyphened(page: &mut [u8], at: usize, word: &[u8]) -> usize
-    ensures { Appended page.old at (minus_message word.now) page.new result }
+fn put_hyphened(page: &mut Page<'_>, word: &[u8])
+    ensures { page.new ≡ put page.old (minus_message word.now) }
 {
     let mark = find(word, 0, word.len(), b'=');
-    let told = put(page, at, b": a minus sign that is no hyphen, type ");
-    let named = put_typed(page, told, first_bytes(word, mark));
-    let sign = put(page, named, b"=-");
-    let number = put_typed(page, sign, later_bytes(later_bytes(word, mark), 4));
-    put(page, number, b"\n")
+    page.put(b": a minus sign that is no hyphen, type ");
+    put_typed(page, first_bytes(word, mark));
+    page.put(b"=-");
+    put_typed(page, later_bytes(later_bytes(word, mark), 4));
+    page.put(b"\n")
 }
 
 // What is wrong with a word and what is expected.
-fn put_message(page: &mut [u8], at: usize, word: &[u8], problem: Problem) -> usize
-    ensures { Appended page.old at (message_of word.now problem) page.new result }
+fn put_message(page: &mut Page<'_>, word: &[u8], problem: Problem)
+    ensures { page.new ≡ put page.old (message_of word.now problem) }
 {
     match problem {
-        Problem::RecordBeside => put(
-            page,
-            at,
+        Problem::RecordBeside => page.put(
             b": record= stands alone, as park record=11000400183350\n",
         ),
-        Problem::NotARecord => put(
-            page,
-            at,
+        Problem::NotARecord => page.put(
             b": not a record, expected an even number of hex digits, as record=11000400183350\n",
         ),
-        Problem::RecordTooLong => put(
-            page,
-            at,
-            b": more than 256 bytes, and no record is as long\n",
-        ),
-        Problem::NameAlone(meaning) => put_alone(page, at, meaning),
-        Problem::UnknownWord => put(
-            page,
-            at,
+        Problem::RecordTooLong => page.put(b": more than 256 bytes, and no record is as long\n"),
+        Problem::NameAlone(meaning) => put_alone(page, meaning),
+        Problem::UnknownWord => page.put(
             b": unknown word, expected altitude=, temperature=, pressure=, station-pressure=, qnh=, humidity= or density-altitude= and a number\n",
         ),
-        Problem::Blank => put_blank(page, at, word),
-        Problem::Comma => put_comma(page, at, word),
-        Problem::MinusSign => put_hyphened(page, at, word),
-        Problem::NotANumber => put(
-            page,
-            at,
+        Problem::Blank => put_blank(page, word),
+        Problem::Comma => put_comma(page, word),
+        Problem::MinusSign => put_hyphened(page, word),
+        Problem::NotANumber => page.put(
             b": not a number, expected digits with up to three decimals, as 1586 or -12.5\n",
         ),
-        Problem::UnknownUnit(meaning) => put_units(page, at, meaning),
-        Problem::TooManyDecimals(places) => put_decimals(page, at, places),
-        Problem::OutOfRange(places) => put_range(page, at, places),
-        Problem::RepeatedWord => put(page, at, b": repeated, expected each reading once\n"),
+        Problem::UnknownUnit(meaning) => put_units(page, meaning),
+        Problem::TooManyDecimals(places) => put_decimals(page, places),
+        Problem::OutOfRange(places) => put_range(page, places),
+        Problem::RepeatedWord => page.put(b": repeated, expected each reading once\n"),
     }
 }
 
 // The first 64 bytes of a word in quotes. The word is left as it was.
-pub(crate) fn put_quoted(page: &mut [u8], at: usize, word: &[u8]) -> usize
-    ensures appended { Appended page.old at (quoted word.now) page.new result }
+pub(crate) fn put_quoted(page: &mut Page<'_>, word: &[u8])
+    ensures put { page.new ≡ put page.old (quoted word.now) }
     ensures kept { word.now ≡ word.now }
 {
-    let quote = put(page, at, b"\"");
-    let typed = put_typed(page, quote, first_bytes(word, 64));
-    put(page, typed, b"\"")
+    page.put(b"\"");
+    put_typed(page, first_bytes(word, 64));
+    page.put(b"\"")
 }
 
 // The line on a word that is not understood.
-pub(crate) fn put_problem(page: &mut [u8], at: usize, word: &[u8], problem: Problem) -> usize
-    ensures { Appended page.old at (problem_line word.now problem) page.new result }
+pub(crate) fn put_problem(page: &mut Page<'_>, word: &[u8], problem: Problem)
+    ensures { page.new ≡ put page.old (problem_line word.now problem) }
 {
-    let told = put_quoted(page, at, word);
-    put_message(page, told, first_bytes(word, 64), problem)
+    put_quoted(page, word);
+    put_message(page, first_bytes(word, 64), problem)
 }
 
 // The reading of a word whose unit was written.
-fn put_reading_of(page: &mut [u8], at: usize, word: &[u8], meaning: usize, x: f64) -> usize
-    ensures { Appended page.old at (reading_line word.now meaning x) page.new result }
+fn put_reading_of(page: &mut Page<'_>, word: &[u8], meaning: usize, x: f64)
+    ensures { page.new ≡ put page.old (reading_line word.now meaning x) }
 {
-    let typed = put(page, at, first_bytes(word, 64));
-    let is = put(page, typed, b" is ");
-    let read = put_shown(page, is, x, 3);
-    put_for(
-        page,
-        read,
-        meaning,
-        b" m\n",
-        b" C\n",
-        b" percent\n",
-        b" hPa\n",
-    )
+    page.put(first_bytes(word, 64));
+    page.put(b" is ");
+    put_shown(page, x, 3);
+    put_for(page, meaning, b" m\n", b" C\n", b" percent\n", b" hPa\n")
 }
 
 // Nothing for any other word.
-pub(crate) fn put_unit_line(page: &mut [u8], at: usize, word: &[u8], read: Word) -> usize
-    ensures { Appended page.old at (unit_line word.now read) page.new result }
+pub(crate) fn put_unit_line(page: &mut Page<'_>, word: &[u8], read: Word)
+    ensures { page.new ≡ put page.old (unit_line word.now read) }
 {
     match read {
         Word::Reading(meaning, x, written, _) => {
             if written {
-                return put_reading_of(page, at, word, meaning, x);
+                return put_reading_of(page, word, meaning, x);
             }
             at
         }
-        Word::Wrong(_) => at,
+        Word::Wrong(_) => {}
     }
 }

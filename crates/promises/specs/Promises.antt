@@ -17,7 +17,6 @@ use Rattle.arithmetic.specs.Places.{places}
 use Rattle.roots.specs.Root.{root}
 use Rattle.roots.specs.Tables.{root_table}
 use Rattle.roots.specs.Quick.{table_root, both_roots}
-use Rattle.roots.specs.declared.quick.TableRoot.TheVariants.{Root}
 use Rattle.antilog.specs.Log.{log_word}
 use Rattle.antilog.specs.Antilog.{antilog_root, antilog}
 use Rattle.arithmetic.specs.Fractions.{Fraction, ◌is_at_most◌, ◌is_below◌, ◌to_the◌, two_to_the, exact_value}
@@ -414,7 +413,7 @@ pub record K13 : Type 0 where
   pub entries : (n : ℕ) → 256 ≤ n → n < 1024 → get_or root_table (n - 256) 0 ≡ root (n * 2 ^ 20)
   -- "the two give the same number for every radicand from 2^124 up to but not including 2^126", and there the first root is never taken: the table serves each
   pub alike : (n : ℕ) → 2 ^ 124 ≤ n → n < 2 ^ 126 → (both_roots n).quick ≡ (both_roots n).first
-  pub served : (n : ℕ) → 2 ^ 124 ≤ n → n < 2 ^ 126 → table_root root_table n ≡ Root (root n)
+  pub served : (n : ℕ) → 2 ^ 124 ≤ n → n < 2 ^ 126 → table_root root_table n ≡ Some (root n)
 
 -- ---- K14, how near is near: "over any number of places from 1 to 60"
 pub record K14 : Type 0 where

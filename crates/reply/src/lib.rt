@@ -10,7 +10,7 @@ ghost use Rattle.text.specs.Asked.{asked_text};
 use pages::Page;
 use std::env::{Env, FillError};
 use std::io::Read;
-use text::{Asked, asked_for, put_asked};
+use text::{Order, asked_for, put_asked};
 
 // Longer words than this ask for nothing.
 const WORD: usize = 16;
@@ -28,8 +28,8 @@ fn word_count<E: Env>(env: &E) -> usize {
     usize::MAX
 }
 
-// What is asked for by the words that the program was started with.
-fn asked<E: Env>(env: &E) -> Asked {
+// The order that is asked for by the words that the program was started with.
+fn asked<E: Env>(env: &E) -> Option<Order> {
     let mut word = [0u8; WORD];
     let length = env.arg(1, &mut word).unwrap_or(0);
     asked_for(word_count(env), &word[..length])
@@ -50,17 +50,17 @@ fn read_full<R: Read>(input: &mut R, record: &mut [u8]) -> usize
 }
 
 // How many bytes were read, none where nothing is asked for.
-fn read_for<R: Input>(rt: &R, how: Asked, record: &mut [u8]) -> usize
+fn read_for<R: Input>(rt: &R, how: Option<Order>, record: &mut [u8]) -> usize
     ensures { IsPrefixLen result «record».new }
 {
-    if let Asked::Unknown = how {
+    if how.is_none() {
         return 0;
     }
     read_full(&mut rt.reader(), record)
 }
 
 // All the text that is asked for, at the start of the page; how many bytes it has.
-fn put_text(page: &mut [u8], how: Asked, record: &[u8]) -> usize
+fn put_text(page: &mut [u8], how: Option<Order>, record: &[u8]) -> usize
     requires { length page.old ≡ 150 }
     ensures { Holds (asked_text how «record».now) page.new result }
 {

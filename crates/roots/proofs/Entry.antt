@@ -4,11 +4,10 @@ use Rattle.arithmetic.proofs.Kit.{◌≡◌, refl, sym, ap, ◌∙◌, Bool, tru
 use Rattle.std.proofs.Common.{sub-add_cancel}
 use Rattle.roots.specs.Root.{root}
 use Rattle.roots.specs.Tables.{values, entry, root_table}
-use Rattle.roots.specs.declared.quick.TableRoot.TheVariants.{Root, NotServed}
+use Rattle.std.specs.Prelude.{Some, None}
 use Rattle.roots.specs.Quick.{is_near, served, table_root}
 use Rattle.roots.proofs.Root.{IsRoot, of-root, roots-le}
 use Rattle.roots.proofs.roots.Halves.{next-square}
-use Rattle.arithmetic.proofs.wide.Shifts.{far_right}
 
 -- ---- what stands at a place of a table
 
@@ -25,10 +24,6 @@ value-at f n (suc k) (suc i) h = value-at f (suc n) k i (le_of_suc-le-suc h) ∙
 pub root-at : (n : ℕ) → 256 ≤ n → n < 1024 → get_or root_table (n - 256) 0 ≡ root (n * 2 ^ 20)
 unfolding root_table entry
 root-at n l h = value-at entry 256 768 (n - 256) (omega arith) ∙ ap entry (sub-add_cancel l)
-
--- n / 2 ^ 116 from the upper word of n
-pub number_of : (hi lo : ℕ) → lo < 2 ^ 64 → hi / 2 ^ 52 ≡ (hi * 2 ^ 64 + lo) / 2 ^ 116
-number_of hi lo l = sym (zero-add _) ∙ far_right hi lo 116 l (omega arith)
 
 -- ---- the test of an entry, in inequalities
 
@@ -66,21 +61,31 @@ module _ (table : List ℕ) (n : ℕ) where
         rest = ltb→lt top (square + 3 * 2 ^ 53) (and_r (leb square top) below between);
       }
 
-  pub is-served : Serves n entry_for → table_root table n ≡ Root (root n)
-  unfolding table_root served
-  is-served s = rw (le-leb _ _ s.from, lt-ltb _ _ s.to, lt-ltb _ _ s.low, le-leb _ _ s.square, lt-ltb _ _ s.rest)
+  pub is_near_enough : Serves n entry_for → true ≡ served table n
+  unfolding served
+  is_near_enough s = sym (rw (le-leb _ _ s.from, lt-ltb _ _ s.to, lt-ltb _ _ s.low, le-leb _ _ s.square, lt-ltb _ _ s.rest) refl)
 
-  pub is_not_served : (Serves n entry_for → ⊥) → NotServed ≡ table_root table n
+  pub is_too_far : (Serves n entry_for → ⊥) → false ≡ served table n
+  is_too_far far = sym (is_false (served table n) (λ (t : T (served table n)). far (serves t)))
+
+  pub some_where_served : true ≡ served table n → Some (root n) ≡ table_root table n
   unfolding table_root
-  is_not_served far = rw (is_false (served table n) (λ (t : T (served table n)). far (serves t)))
+  some_where_served is = ap (λ (b : Bool). cond b (Some (root n)) None) is
 
-is-root_if : (b : Bool) (n r : ℕ) → Root r ≡ cond b (Root (root n)) NotServed → r ≡ root n
-is-root_if true n r e = cc
-is-root_if false n r e = let z : ◌≡◌ {A = ℕ} 0 1 = cc in omega arith
+  pub none_where_not : false ≡ served table n → None ≡ table_root table n
+  unfolding table_root
+  none_where_not is = ap (λ (b : Bool). cond b (Some (root n)) None) is
 
-pub is-root : (table : List ℕ) (n r : ℕ) → Root r ≡ table_root table n → r ≡ root n
+  pub entry_is : {place e : ℕ} → place ≡ n / 2 ^ 116 - 256 → e ≡ get_or table place 0 → e ≡ entry_for
+  entry_is at is = is ∙ ap (λ (k : ℕ). get_or table k 0) at
+
+root_if : (b : Bool) (n r : ℕ) → Some r ≡ cond b (Some (root n)) None → r ≡ root n
+root_if true n r e = cc
+root_if false n r e = let z : ◌≡◌ {A = ℕ} 0 1 = cc in omega arith
+
+pub root_of_some : (table : List ℕ) (n r : ℕ) → Some r ≡ table_root table n → r ≡ root n
 unfolding table_root
-is-root table n r = is-root_if (served table n) n r
+root_of_some table n r e = root_if (served table n) n r e
 
 -- ---- the table of 768 serves
 
@@ -89,7 +94,7 @@ near top e h r =
     let low : e < 2 ^ 15 = suc-le-suc (roots-le (top / 2 ^ 54 * 2 ^ 20) e (2 ^ 15 - 1) r.0 (omega arith)) in
     (low, omega arith, omega (arith, next-square e))
 
-pub table_serves : (n : ℕ) → 2 ^ 124 ≤ n → n < 2 ^ 126 → table_root root_table n ≡ Root (root n)
+pub table_serves : (n : ℕ) → 2 ^ 124 ≤ n → n < 2 ^ 126 → table_root root_table n ≡ Some (root n)
 table_serves n low high =
     let number : ℕ = n / 2 ^ 116 in
     let from : 256 ≤ number = (le-div_iff_mul-le {k = 2 ^ 116} (pow_pos 116)).1 low in
@@ -97,4 +102,4 @@ table_serves n low high =
     let top : n / 2 ^ 62 < 2 ^ 64 = (div-lt_iff_lt-mul {k = 2 ^ 62} (pow_pos 62)).1 high in
     let upper : number ≡ n / 2 ^ 62 / 2 ^ 54 = sym (div-div-eq-div-mul n (2 ^ 62) (2 ^ 54)) in
     let is = near (n / 2 ^ 62) (entry_for root_table n) top (of-root _ _ (root-at number from to ∙ ap (λ (m : ℕ). root (m * 2 ^ 20)) upper)) in
-    is-served root_table n (record { from = from; to = to; low = is.0; square = is.1; rest = is.2 })
+    sym (some_where_served root_table n (is_near_enough root_table n (record { from = from; to = to; low = is.0; square = is.1; rest = is.2 })))

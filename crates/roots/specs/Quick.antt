@@ -1,9 +1,7 @@
 -- Document 02, "Quicker roots": which numbers are served from the table, and what the two roots are. Definitions only.
-use Rattle.std.specs.Prelude.{ℕ, ◌+◌, ◌-◌, ◌*◌, ◌/◌, ◌^◌, Bool, cond, ◌&&◌, List, nat_le, nat_lt, slice_index}
+use Rattle.std.specs.Prelude.{ℕ, ◌+◌, ◌-◌, ◌*◌, ◌/◌, ◌^◌, Bool, cond, ◌&&◌, List, nat_le, nat_lt, slice_index, Option, Some, None}
 use Rattle.roots.specs.Root.{root}
 use Rattle.roots.specs.declared.quick.Both.{Both}
-use Rattle.roots.specs.declared.quick.TableRoot.{TableRoot}
-use Rattle.roots.specs.declared.quick.TableRoot.TheVariants.{Root, NotServed}
 
 -- the entry e, times 2^17, is at most the root of n / 2^62, and its square less than 3 * 2^53 below n / 2^62: near enough for two steps of Newton's iteration
 abbrev pub is_near : ℕ → ℕ → Bool
@@ -14,9 +12,9 @@ unfoldable pub served : List ℕ → ℕ → Bool
 served table n = let number = n / 2 ^ 116 in nat_le 256 number && (nat_lt number 1024 && is_near n (slice_index table (number - 256)))
 
 -- the root of a number that is served, without the first root
-unfoldable pub table_root : List ℕ → ℕ → TableRoot
+unfoldable pub table_root : List ℕ → ℕ → Option ℕ
 unfolding served root
-table_root table n = cond (served table n) (Root (root n)) NotServed
+table_root table n = cond (served table n) (Some (root n)) None
 
 -- the first root and the quick one: "the two give the same number"
 abbrev pub both_roots : ℕ → Both

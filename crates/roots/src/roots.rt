@@ -1,9 +1,6 @@
-// The floor of the square root of a number of two words.
+// The floor of the square root.
 ghost use Rattle.std.specs.Prelude.{◌≡◌, suc, ◌+◌, ◌*◌, ◌%◌, ◌^◌, ◌<◌, ◌≤◌};
 ghost use Rattle.roots.specs.Root.{root};
-ghost use Rattle.arithmetic.specs.Value.{value};
-
-use arithmetic::wide::{Wide, at_most, product, shifted_left};
 
 // A guess that is no less than the root of n: a step of Newton's iteration from a parabola in n's top
 // 16 bits, which for an n of 63 or 64 bits is within 1/190 of the root. Half a word holds every root.
@@ -12,12 +9,7 @@ fn guess(n: u64) -> u64
 {
     let x = n >> 48;
     let near = 1_113_600_000 + x * (17_650_000 - 81 * x) / 256;
-    let next = (near + n / near) / 2;
-    if next < 0x1_0000_0000 {
-        next
-    } else {
-        0xffff_ffff
-    }
+    ((near + n / near) / 2).min(0xffff_ffff)
 }
 
 // The floor of the root of a word. A word of 63 or 64 bits takes at most two steps from the guess, and a
@@ -54,51 +46,52 @@ pub(crate) fn with_lower_half(top: u64, s: u64, lo: u64) -> u64
 }
 
 // The floor of the root of a number of 125 or 126 bits.
-fn normal_root(hi: u64, lo: u64) -> u64
-    requires { (2 ^ 60 ≤ hi) × (hi < 2 ^ 62) }
-    ensures { result ≡ root (hi * 2 ^ 64 + lo) }
+fn normal_root(n: u128) -> u64
+    requires { (2 ^ 124 ≤ n) × (n < 2 ^ 126) }
+    ensures { result ≡ root n }
 {
-    let top = hi * 4 + lo / BASE / BASE;
+    let top = (n >> 62) as u64;
+    let lo = (n % 0x1_0000_0000_0000_0000) as u64;
     with_lower_half(top, word_root(top), lo)
 }
 
 // The floor of the root of a number of 65 to 126 bits: the number times a power of 4 has 125 or 126 bits.
-fn lifted_root(hi: u64, lo: u64) -> u64
-    requires { (0 < hi) × (hi < 2 ^ 62) }
-    ensures { result ≡ root (hi * 2 ^ 64 + lo) }
+fn lifted_root(n: u128) -> u64
+    requires { (2 ^ 64 ≤ n) × (n < 2 ^ 126) }
+    ensures { result ≡ root n }
 {
-    let j = (u64::leading_zeros(hi) - 2) / 2;
-    let n = shifted_left(Wide { hi, lo }, 2 * j);
-    normal_root(n.hi, n.lo) >> j
+    let j = (n.leading_zeros() - 2) / 2;
+    normal_root(n << (2 * j)) >> j
+}
+
+// r * r.
+pub(crate) fn square(r: u64) -> u128
+    ensures { result ≡ r * r }
+{
+    u128::from(r) * u128::from(r)
 }
 
 // The floor of the root of a number of 127 or 128 bits: twice the root of a quarter of it, or one more.
-fn doubled_root(hi: u64, lo: u64) -> u64
-    requires { 2 ^ 62 ≤ hi }
-    ensures { result ≡ root (hi * 2 ^ 64 + lo) }
+fn doubled_root(n: u128) -> u64
+    requires { 2 ^ 126 ≤ n }
+    ensures { result ≡ root n }
 {
-    let even = 2 * normal_root(hi / 4, hi % 4 * 0x4000_0000_0000_0000 + lo / 4);
+    let even = 2 * normal_root(n / 4);
     let odd = even + 1;
-    if at_most(product(odd, odd), Wide { hi, lo }) {
-        odd
-    } else {
-        even
-    }
+    if square(odd) <= n { odd } else { even }
 }
 
 // The floor of the square root. A number of 65 bits or more takes at most four divisions of words.
-pub fn floor_root(n: Wide) -> u64
-    ensures { result ≡ root (value n) }
+pub fn floor_root(n: u128) -> u64
+    ensures { result ≡ root n }
 {
-    let hi = n.hi;
-    let lo = n.lo;
-    if hi == 0 {
-        word_root(lo)
-    } else if hi < 0x1000_0000_0000_0000 {
-        lifted_root(hi, lo)
-    } else if hi < 0x4000_0000_0000_0000 {
-        normal_root(hi, lo)
+    if n < 1 << 64 {
+        word_root(n as u64)
+    } else if n < 1 << 124 {
+        lifted_root(n)
+    } else if n < 1 << 126 {
+        normal_root(n)
     } else {
-        doubled_root(hi, lo)
+        doubled_root(n)
     }
 }

@@ -9,15 +9,17 @@ ghost use Rattle.std.specs.Prelude.{◌≡◌, cond};
 ghost use Rattle.std.specs.Float.Ieee.{le};
 ghost use Rattle.arithmetic.specs.Decimals.{nought};
 ghost use Rattle.refusal.specs.Refusals.{number_of};
-ghost use Rattle.pages.specs.Pages.{Appended};
+ghost use Rattle.pages.specs.Pages.{put};
 ghost use Rattle.sheet_text.specs.SheetText.{row_of, refused_sheet, sheet_page, pressure_for, sheet_at, takes_other, is_wanting, sheet_of};
 
 use crate::rows::{celsius, refused_row};
 use crate::sheet_lines::{put_heading, put_limits, put_rows};
 use atmosphere::given::Reading;
 use decimals::figures::put_shown;
-use fields::fields::{ALTITUDE, DENSITY_ALTITUDE, MEASURED_PRESSURE, QNH, STATION_PRESSURE, TEMPERATURE};
-use pages::{put, put_refusal};
+use fields::fields::{
+    ALTITUDE, DENSITY_ALTITUDE, MEASURED_PRESSURE, QNH, STATION_PRESSURE, TEMPERATURE,
+};
+use pages::Page;
 use record::entries::{Readings, entry_of};
 use refusal::{Refusal, number};
 use report::Origin;
@@ -28,87 +30,67 @@ use station::resolved::{Resolved, ordinary};
 
 // Each puts a piece on the page from `at` on, and answers the position after it.
 fn put_row_of(
-    page: &mut [u8],
-    at: usize,
+    page: &mut Page<'_>,
     altitude_m: f64,
     pressure_hpa: f64,
     humidity_percent: f64,
     number: u8,
-) -> usize
-    ensures { Appended page.old at (row_of altitude_m pressure_hpa humidity_percent number) page.new result }
+)
+    ensures { page.new ≡ put page.old (row_of altitude_m pressure_hpa humidity_percent number) }
 {
     if number <= 13 {
-        return at;
+        return;
     }
-    let word = put(page, at, b"row: ");
-    let row = put_shown(
+    page.put(b"row: ");
+    put_shown(
         page,
-        word,
         celsius(refused_row(altitude_m, pressure_hpa, humidity_percent)),
         1,
     );
-    put(page, row, b" C\n")
+    page.put(b" C\n")
 }
 
 fn put_refused_sheet(
-    page: &mut [u8],
-    at: usize,
+    page: &mut Page<'_>,
     altitude_m: f64,
     pressure_hpa: f64,
     humidity_percent: f64,
     refusal: Refusal,
-) -> usize
-    ensures { Appended page.old at (refused_sheet altitude_m pressure_hpa humidity_percent (number_of refusal)) page.new result }
+)
+    ensures { page.new ≡ put page.old (refused_sheet altitude_m pressure_hpa humidity_percent (number_of refusal)) }
 {
     let number = number(refusal);
-    let line = put_refusal(page, at, number);
-    let row = put_row_of(
-        page,
-        line,
-        altitude_m,
-        pressure_hpa,
-        humidity_percent,
-        number,
-    );
-    put_cause(page, row, Origin::Words(false), number)
+    page.put_refusal(number);
+    put_row_of(page, altitude_m, pressure_hpa, humidity_percent, number);
+    put_cause(page, Origin::Words(false), number)
 }
 
 fn put_sheet_page(
-    page: &mut [u8],
-    at: usize,
+    page: &mut Page<'_>,
     altitude_m: f64,
     pressure_hpa: f64,
     humidity_percent: f64,
     readings: Readings,
     resolved: Reading,
-) -> usize
-    ensures { Appended page.old at (sheet_page altitude_m pressure_hpa humidity_percent readings resolved) page.new result }
+)
+    ensures { page.new ≡ put page.old (sheet_page altitude_m pressure_hpa humidity_percent readings resolved) }
 {
     let mut rows = [0u8; 1530];
     match setting_sheet(altitude_m, pressure_hpa, humidity_percent, &mut rows) {
         Ok(()) => {
-            let heading = put_heading(
+            put_heading(
                 page,
-                at,
                 altitude_m,
                 pressure_hpa,
                 humidity_percent,
                 readings,
                 resolved,
             );
-            let last = put_rows(
-                page,
-                heading,
-                &rows,
-                altitude_m,
-                pressure_hpa,
-                humidity_percent,
-            );
-            put_limits(page, last, altitude_m, pressure_hpa, humidity_percent)
+            put_rows(page, &rows, altitude_m, pressure_hpa, humidity_percent);
+            put_limits(page, altitude_m, pressure_hpa, humidity_percent)
         }
         Err(refusal) => put_refused_sheet(
             page,
-            at,
             altitude_m,
             pressure_hpa,
             humidity_percent,
@@ -136,8 +118,8 @@ fn pressure_for(qnh: Option<f64>, resolved_hpa: f64) -> f64
     }
 }
 
-fn put_sheet_at(page: &mut [u8], at: usize, readings: Readings, resolved: Resolved) -> usize
-    ensures { Appended page.old at (sheet_at readings resolved) page.new result }
+fn put_sheet_at(page: &mut Page<'_>, readings: Readings, resolved: Resolved)
+    ensures { page.new ≡ put page.old (sheet_at readings resolved) }
 {
     let found = figures_of(resolved);
     let figures = found.figures;
@@ -145,7 +127,6 @@ fn put_sheet_at(page: &mut [u8], at: usize, readings: Readings, resolved: Resolv
     let pressure_hpa = pressure_for(entry_of(readings, QNH), figures.pressure_hpa);
     put_sheet_page(
         page,
-        at,
         resolved.altitude_m,
         pressure_hpa,
         resolved.humidity_percent,
@@ -176,22 +157,20 @@ fn is_wanting(readings: Readings) -> bool
 }
 
 // The sheet of any readings.
-pub fn put_sheet_of(page: &mut [u8], at: usize, readings: Readings) -> usize
-    ensures { Appended page.old at (sheet_of readings) page.new result }
+pub fn put_sheet_of(page: &mut Page<'_>, readings: Readings)
+    ensures { page.new ≡ put page.old (sheet_of readings) }
 {
     if takes_other(readings) {
-        return put(
-            page,
-            at,
+        page.put(
             b"a sheet takes altitude=, one pressure and humidity=, and no temperature= or density-altitude=: its rows have the temperatures\n",
         );
+        return;
     }
     if is_wanting(readings) {
-        return put(
-            page,
-            at,
+        page.put(
             b"a sheet needs altitude= and one of pressure=, station-pressure= and qnh=, as park sheet altitude=1586 pressure=841.9 humidity=32\n",
         );
+        return;
     }
-    put_sheet_at(page, at, readings, ordinary(readings))
+    put_sheet_at(page, readings, ordinary(readings))
 }

@@ -5,7 +5,8 @@ use Rattle.refusal.specs.declared.judge.Figures.{Figures}
 use Rattle.mast.specs.Judge.{judge, judge_strictly}
 use Rattle.arithmetic.specs.Ascii.{ascii}
 use Rattle.pages.proofs.Short.{Within, whole, both, word-short, refusal-short}
-use Rattle.text.specs.declared.Asked.TheVariants.{AnyOrder, RisingTags, Unknown}
+use Rattle.std.specs.Prelude.{Some, None}
+use Rattle.text.specs.declared.Order.TheVariants.{AnyOrder, RisingTags}
 use Rattle.text.specs.Lines.{double_cell, mark_cell, station_line, air_line}
 use Rattle.text.specs.Text.{answer_text}
 use Rattle.text.proofs.Stated.{HasRoom}
@@ -33,6 +34,6 @@ answer-short (accepted f) = both (station f) (air f)
 answer-short (refused n values) = record { bound = omega (arith, (refusal-short n).bound) }
 
 pub has_room : HasRoom
-has_room AnyOrder s = (answer-short (judge (take 256 s))).bound
-has_room RisingTags s = (answer-short (judge_strictly (take 256 s))).bound
-has_room Unknown s = lit≤ tt
+has_room (Some AnyOrder) s = (answer-short (judge (take 256 s))).bound
+has_room (Some RisingTags) s = (answer-short (judge_strictly (take 256 s))).bound
+has_room None s = lit≤ tt

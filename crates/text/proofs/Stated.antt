@@ -5,7 +5,8 @@ use Rattle.text.specs.Text.{answer_text}
 use Rattle.arithmetic.specs.Decimals.{decimal}
 use Rattle.arithmetic.specs.Ascii.{ascii}
 use Rattle.text.specs.Samples.{big_endian, double_field}
-use Rattle.text.specs.declared.Asked.{Asked}
+use Rattle.std.specs.Prelude.{Option}
+use Rattle.text.specs.declared.Order.{Order}
 use Rattle.text.specs.Asked.{asked_text}
 
 -- ---- the samples
@@ -28,4 +29,4 @@ pub record AnswerSamples : Type 0 where
 
 -- the program's page has room for it
 abbrev pub HasRoom : Type 0
-HasRoom = (asked : Asked) (s : List ℕ) → length (asked_text asked s) ≤ 150
+HasRoom = (asked : Option Order) (s : List ℕ) → length (asked_text asked s) ≤ 150

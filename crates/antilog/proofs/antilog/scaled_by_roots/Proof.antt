@@ -24,8 +24,8 @@ sub_later_roots c =
 returns : tie.Need-returns-then-scaled-low
 returns c =
     let high = c.before.before.before in
-    let low = high.before.before.before in
-    let first = low.before.before.before in
+    let low = high.before in
+    let first = low.before in
     let start = first.before.before.before in
     let f : ℕ = start.args.f in
     let within = early f _ first.estimate-early.ensures in

@@ -2,7 +2,8 @@
 use Rattle.arithmetic.proofs.Kit.{◌≡◌, refl, ap, ◌∙◌, Bool, List, ℕ, ◌-◌, arith, length, take, drop, length-take, length-drop, take_all}
 use Rattle.pages.proofs.Growing.{within, no_more, same_more}
 use Rattle.pages.proofs.Growing as growing
-use Rattle.questions.specs.declared.line_ends.Found.TheVariants.{Line}
+use Rattle.std.specs.Prelude.{Some}
+use Rattle.questions.specs.declared.line_ends.Line.{Line}
 use Rattle.questions.specs.Lines.{found_line}
 use Rattle.lines.specs.Answers.{answer_line}
 use Rattle.ask_run.specs.Answered.{lines_after, answers_to, AreWhole}
@@ -13,8 +14,8 @@ use Rattle.ask_run.proofs.answered.answer_lines.Goals as goal
 full : (s : List ℕ) (taken : ℕ) → take (length s - taken) (drop taken s) ≡ drop taken s
 full s taken = take_all (length s - taken) (drop taken s) (rw length-drop (omega arith))
 
-found_at : (ended : Bool) (s : List ℕ) (taken : ℕ) {end next : ℕ} → Line end next ≡ found_line ended (take (length s - taken) (drop taken s))
-    → Taken ended (drop taken s) end next
+found_at : (ended : Bool) (s : List ℕ) (taken : ℕ) {r : Line} → Some r ≡ found_line ended (take (length s - taken) (drop taken s))
+    → Taken ended (drop taken s) r.end r.next
 found_at ended s taken e = found ended (drop taken s) (e ∙ ap (found_line ended) (full s taken))
 
 pub loop-page-init : goal.loop-page-init
@@ -28,21 +29,21 @@ pub slice_bounds-put_line_answer-end : goal.slice_bounds-put_line_answer-end
 slice_bounds-put_line_answer-end c =
     let s = c.args.input.now in
     let taken : ℕ = c.loop-page.taken in
-    let t = found_at c.args.ended s taken c.in-Line.ensures.answered in
+    let t = found_at c.args.ended s taken c.in-Some.ensures.answered in
     simp (length-take, length-drop) (omega (arith, t.end_in, length-drop taken s))
 
 pub overflow_add-taken : goal.overflow_add-taken
 overflow_add-taken c =
     let s = c.args.input.now in
     let taken : ℕ = c.loop-page.taken in
-    let t = found_at c.args.ended s taken c.in-Line.ensures.answered in
+    let t = found_at c.args.ended s taken c.in-Some.ensures.answered in
     omega (arith, t.next_in, length-drop taken s)
 
 pub loop-page-smaller : goal.loop-page-smaller
 loop-page-smaller c =
     let s = c.args.input.now in
     let taken : ℕ = c.loop-page.taken in
-    let t = found_at c.args.ended s taken c.in-Line.ensures.answered in
+    let t = found_at c.args.ended s taken c.in-Some.ensures.answered in
     omega (arith, t.some, t.next_in, length-drop taken s)
 
 pub loop-page-preserved : goal.loop-page-preserved
@@ -54,11 +55,11 @@ loop-page-preserved c =
     let kept = c.loop-page.invariant in
     let rest = kept.2 in
     let text = kept.4 in
-    let t = found_at ended s taken c.in-Line.ensures.answered in (
+    let t = found_at ended s taken c.in-Some.ensures.answered in (
       omega (arith, t.next_in, length-drop taken s),
       omega (arith, t.some),
       rest-again ended s n taken rest t,
       whole_again ended s n taken rest t kept.3,
-      text-again ended s n taken rest t text (same_more (ap (λ (l : List ℕ). answer_line (take c.in-Line.end l)) (full s taken)) c.put_line_answer-written.ensures.appended),
+      text-again ended s n taken rest t text (same_more (ap (λ (l : List ℕ). answer_line (take c.in-Some.line.end l)) (full s taken)) c.put_line_answer-written.ensures.appended),
       room-again n s text kept.5 (omega (arith, growing.same_length text, within text (omega arith))),
     )

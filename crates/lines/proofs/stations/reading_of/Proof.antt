@@ -10,5 +10,5 @@ reading_of_spec =
     tie.close (tie.spec (λ c. search rules)
     (λ c κs. search rules)
     (λ c. search rules)
-    (λ c. ap reading.Given c.double.ensures ∙ sym (ap option_of c.in-Word.is))
+    (λ c. ap reading.Given c.double.ensures ∙ sym (ap option_of c.in-Some.is))
     (λ c. search rules))
