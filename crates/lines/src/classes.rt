@@ -10,7 +10,7 @@ use crate::value_lines::put_whole;
 use pages::Page;
 use text::answer_lines::put_refusal;
 use trim::changes::{Direction, Quantity, Turn};
-use trim::search::{Trim, next_trim_class};
+use trim::search::next_trim_class;
 
 fn put_direction(page: &mut Page<'_>, direction: Direction)
     ensures { page.new ≡ put page.old (direction_text direction) }
@@ -57,14 +57,13 @@ pub(crate) fn put_next_class(page: &mut Page<'_>, record: &[u8])
     ensures kept { «record».now ≡ «record».now }
 {
     match next_trim_class(record) {
-        Trim::Turns(class, turn) => {
-            put_class(page, class);
-            put_turn(page, turn)
+        Ok(next) => {
+            put_class(page, next.class);
+            match next.turn {
+                Some(turn) => put_turn(page, turn),
+                None => page.put(b" none\n"),
+            }
         }
-        Trim::NoChange(class) => {
-            put_class(page, class);
-            page.put(b" none\n")
-        }
-        Trim::Refused(refusal) => put_refusal(page, refusal),
+        Err(refusal) => put_refusal(page, refusal),
     }
 }
