@@ -1,6 +1,6 @@
 -- What the search finds: of one change, of the four changes by one count, and of the counts from k on. Assumes nothing.
 use Rattle.std.specs.Prelude.{None, Some}
-use Rattle.trim.proofs.Kit.{◌≡◌, refl, sym, ap, subst, ◌∙◌, Bool, true, false, cond, ⊎_elim, ℕ, zero, suc, ◌+◌, ◌≤◌, ◌<◌, eq-or-lt_of_le, arith, eqb-true, eqb-false, T, leb, eqb, leb→le, Outcome, accepted, refused, Quantity, Temperature, MeasuredPressure, Up, Down, Change, Option, Start, class_of, changed, change, another, tried, changes_of, changes_from, first_of, rank, place, Gives}
+use Rattle.trim.proofs.Kit.{◌≡◌, refl, sym, ap, subst, ◌∙◌, Bool, true, false, cond, ⊎_elim, ℕ, zero, suc, ◌+◌, ◌≤◌, ◌<◌, eq-or-lt_of_le, arith, eqb-true, eqb-false, T, leb, eqb, leb→le, Outcome, accepted, refused, Quantity, Temperature, MeasuredPressure, Up, Down, Change, Turn, Option, Start, class_of, changed, change, another, tried, changes_of, changes_from, first_of, rank, place, Gives}
 use Rattle.trim.specs.declared.changes.Direction.{Direction}
 use Rattle.trim.proofs.First.{first-append}
 

@@ -1,5 +1,5 @@
 -- The smallest change that gives another trim class, document 02: the first of the 800 changes in their order. Definitions only.
-use Rattle.std.specs.Prelude.{ℕ, List, [], Float, None, Option, Some}
+use Rattle.std.specs.Prelude.{ℕ, false, List, [], Float, None, Option, Some}
 use Rattle.refusal.specs.Outcomes.{Outcome, accepted, refused, ◌⟫◌}
 use Rattle.record.specs.declared.entries.Readings.{Readings}
 use Rattle.fields.specs.Fields.{temperature, measured_pressure}

@@ -69,7 +69,13 @@ fn changed(start: Start, change: Change) -> Readings
 }
 
 // A change with the class that it gives, where the changed readings are accepted with another class.
-pub(crate) fn tried(start: Start, quantity: Quantity, direction: Direction, tenths: u8) -> Option<Turn>
+#[tactic(auto, unfolding(crate::specs::Changes::tried))]
+pub(crate) fn tried(
+    start: Start,
+    quantity: Quantity,
+    direction: Direction,
+    tenths: u8,
+) -> Option<Turn>
     ensures { result ≡ tried start (change quantity direction tenths) }
 {
     let change = Change {

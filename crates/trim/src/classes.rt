@@ -14,10 +14,14 @@ const CLASS_DENSITIES: [f64; 6] = [1.0, 1.05, 1.1, 1.15, 1.2, 1.25];
 pub fn trim_class(density_kg_m3: f64) -> u8
     ensures { result ≡ trim_class density_kg_m3 }
 {
-    CLASS_DENSITIES.iter().filter(|limit| **limit <= density_kg_m3).count() as u8
+    CLASS_DENSITIES
+        .iter()
+        .filter(|limit| **limit <= density_kg_m3)
+        .count() as u8
 }
 
 // The trim class of readings, or their refusal.
+#[tactic(auto, unfolding(crate::specs::Classes::class_of))]
 pub(crate) fn class_of(readings: Readings) -> Result<u8, Refusal>
     ensures { outcome result ≡ class_of readings }
 {

@@ -23,6 +23,7 @@ pub struct Next {
 
 // The first change by so many tenths that gives another class: temperature before pressure, up before
 // down.
+#[tactic(auto, unfolding(crate::specs::InOrder::first_of))]
 fn first_by(start: Start, tenths: u8) -> Option<Turn>
     ensures { result ≡ first_of start (changes_of tenths) }
 {
@@ -51,6 +52,7 @@ fn next_from(start: Start) -> Next
     }
 }
 
+#[tactic(auto, unfolding(crate::specs::Search::next_with))]
 fn next_with(readings: Readings, class: u8) -> Result<Next, Refusal>
     ensures { outcome result ≡ next_with readings class }
 {
@@ -65,6 +67,7 @@ fn next_with(readings: Readings, class: u8) -> Result<Next, Refusal>
 }
 
 // What `next_trim_class` says of readings.
+#[tactic(auto, unfolding(crate::specs::Search::next_of))]
 pub fn next_trim_class_of_readings(readings: Readings) -> Result<Next, Refusal>
     ensures { outcome result ≡ next_of readings }
 {
@@ -74,6 +77,7 @@ pub fn next_trim_class_of_readings(readings: Readings) -> Result<Next, Refusal>
 // The trim class of a record, and the smallest change of its temperature or measured pressure that gives
 // another class; the record's own refusal, or 22 where one of the two is absent. The record is left as it
 // was.
+#[tactic(auto, unfolding(crate::specs::Search::next_trim_class))]
 pub fn next_trim_class(record: &[u8]) -> Result<Next, Refusal>
     ensures { outcome result ≡ next_trim_class «record».now }
 {
