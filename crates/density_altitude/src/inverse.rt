@@ -63,7 +63,7 @@ fn station_at(pressure_alt_ft: f64, temperature_c: f64) -> Station
 }
 
 // Whether x is finite and above a bound.
-fn is_finite_above(x: f64, bound: f64) -> bool
+pub fn is_finite_above(x: f64, bound: f64) -> bool
     ensures { result ≡ is_finite_above bound x }
 {
     is_finite(x) && x > bound

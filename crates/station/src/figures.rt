@@ -1,13 +1,12 @@
 // The eight figures of a station and their mark: what is shown of what is resolved, and the figures.
 ghost use Rattle.std.specs.Prelude.{◌≡◌};
-ghost use Rattle.arithmetic.specs.Doubles.{is_finite_above};
-ghost use Rattle.arithmetic.specs.Decimals.{nought};
 ghost use Rattle.station.specs.Figures.{in_cipm_range, station_figures, is_air};
 
 use crate::resolved::Resolved;
 use air::figures::air_figures;
 use arithmetic::doubles::is_finite;
 use atmosphere::altitudes::pressure_altitude_m;
+use density_altitude::inverse::is_finite_above;
 use refusal::judge::Figures;
 
 // The figures of a station, with the mole fraction of vapour, uncapped, of the shown temperature and
@@ -59,21 +58,15 @@ pub fn figures_of(resolved: Resolved) -> StationFigures
     }
 }
 
-fn is_positive(x: f64) -> bool
-    ensures { result ≡ is_finite_above nought x }
-{
-    is_finite(x) & (x > 0.0)
-}
-
 // Whether all figures are finite, and pressure, density and sound speed above 0.
 pub fn is_air(figures: Figures) -> bool
     ensures { result ≡ is_air figures }
 {
     is_finite(figures.altitude_m)
         & is_finite(figures.temperature_c)
-        & is_positive(figures.pressure_hpa)
-        & is_positive(figures.density_kg_m3)
-        & is_positive(figures.speed_of_sound_mps)
+        & is_finite_above(figures.pressure_hpa, 0.0)
+        & is_finite_above(figures.density_kg_m3, 0.0)
+        & is_finite_above(figures.speed_of_sound_mps, 0.0)
         & is_finite(figures.pressure_altitude_m)
         & is_finite(figures.density_matched_altitude_m)
         & is_finite(figures.vapor_mole_fraction)

@@ -8,7 +8,7 @@ use atmosphere::resolvers::{
     reduce_qnh_to_station_pressure, resolve_station_pressure, resolve_station_temperature,
 };
 use fields::fields::{ALTITUDE, HUMIDITY, MEASURED_PRESSURE, QNH, STATION_PRESSURE, TEMPERATURE};
-use record::entries::{Readings, entry_of, value_or_zero};
+use record::entries::{Readings, entry_of};
 use refusal::inverse::Station;
 
 #[derive(Clone, Copy)]
@@ -32,36 +32,32 @@ pub struct Resolved {
 fn unmeasured_pressure(station_pressure_hpa: Option<f64>, qnh_hpa: Option<f64>) -> Pressure
     ensures { result ≡ unmeasured_pressure station_pressure_hpa qnh_hpa }
 {
-    match station_pressure_hpa {
-        Some(p) => Pressure::Station(p),
-        None => match qnh_hpa {
-            Some(q) => Pressure::Qnh(q),
-            None => Pressure::Absent,
-        },
+    match (station_pressure_hpa, qnh_hpa) {
+        (Some(p), _) => Pressure::Station(p),
+        (None, Some(q)) => Pressure::Qnh(q),
+        (None, None) => Pressure::Absent,
     }
 }
 
 fn pressure_of(readings: Readings) -> Pressure
     ensures { result ≡ pressure_of readings }
 {
-    match entry_of(readings, MEASURED_PRESSURE) {
-        Some(p) => Pressure::Measured(p),
-        None => {
-            unmeasured_pressure(
-                entry_of(readings, STATION_PRESSURE),
-                entry_of(readings, QNH),
-            )
-        }
+    if let Some(p) = entry_of(readings, MEASURED_PRESSURE) {
+        return Pressure::Measured(p);
     }
+    unmeasured_pressure(
+        entry_of(readings, STATION_PRESSURE),
+        entry_of(readings, QNH),
+    )
 }
 
 fn resolved_temperature(temperature_c: Option<f64>, altitude_m: f64) -> Reading
     ensures { result ≡ resolved_temperature temperature_c altitude_m }
 {
-    match temperature_c {
-        Some(t) => resolve_station_temperature(t, altitude_m),
-        None => Reading::FromLayer,
-    }
+    temperature_c.map_or(
+        Reading::FromLayer,
+        |t| resolve_station_temperature(t, altitude_m),
+    )
 }
 
 fn resolved_pressure(pressure: Pressure, altitude_m: f64) -> Reading
@@ -79,22 +75,19 @@ fn resolved_pressure(pressure: Pressure, altitude_m: f64) -> Reading
 pub fn given_temperature(entry: Option<f64>) -> Reading
     ensures { result ≡ given_temperature entry }
 {
-    match entry {
-        Some(t) => Reading::Given(t),
-        None => Reading::FromLayer,
-    }
+    entry.map_or(Reading::FromLayer, Reading::Given)
 }
 
 // The station of readings without 06.
 pub fn ordinary(readings: Readings) -> Resolved
     ensures { result ≡ ordinary readings }
 {
-    let altitude_m = value_or_zero(entry_of(readings, ALTITUDE));
+    let altitude_m = entry_of(readings, ALTITUDE).unwrap_or(0.0);
     Resolved {
         altitude_m,
         temperature: resolved_temperature(entry_of(readings, TEMPERATURE), altitude_m),
         pressure: resolved_pressure(pressure_of(readings), altitude_m),
-        humidity_percent: value_or_zero(entry_of(readings, HUMIDITY)),
+        humidity_percent: entry_of(readings, HUMIDITY).unwrap_or(0.0),
     }
 }
 
@@ -106,6 +99,6 @@ pub fn at_station(station: Station, readings: Readings) -> Resolved
         altitude_m: station.altitude_m,
         temperature: Reading::Given(station.temperature_c),
         pressure: Reading::Given(station.pressure_hpa),
-        humidity_percent: value_or_zero(entry_of(readings, HUMIDITY)),
+        humidity_percent: entry_of(readings, HUMIDITY).unwrap_or(0.0),
     }
 }

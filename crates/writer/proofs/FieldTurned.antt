@@ -1,5 +1,5 @@
 -- A field in a form: the readers take it, with the same meaning and the same double; and out of the other form it comes back byte for byte. Assumes nothing.
-use Rattle.writer.proofs.Kit.{◌≡◌, refl, sym, ap, ap₂, ◌∙◌, Bool, true, false, not, cond, true≢false, List, ℕ, ◌<◌, arith, binary64, of_bits-fits, length, take_all, NoneHolds, Value, Double, Count, number_at, double_at, meanings, is_count_tag, is_tag, meaning_of, tag_in, is_count, double_of, tag_of, size_of, value_of, head_rows, tag-known, tag-meaning, field_with, field_for, has_form, AreBytes, IsHeld, Turned, Kept, Other, NoCount, turned, field_as, turned_of, field_in, has_no_count}
+use Rattle.writer.proofs.Kit.{◌≡◌, refl, sym, ap, ◌∙◌, Bool, true, false, not, cond, true≢false, List, ℕ, ◌<◌, arith, binary64, of_bits-fits, length, take_all, NoneHolds, Value, Double, Count, number_at, double_at, meanings, is_count_tag, is_tag, meaning_of, tag_in, is_count, double_of, tag_of, size_of, value_of, head_rows, tag-known, tag-meaning, field_with, field_for, has_form, AreBytes, IsHeld, Ok, Err, Some, None, Turned, turned, field_as, turned_of, field_in, has_no_count}
 use Rattle.writer.proofs.Fields.{field-meant}
 use Rattle.writer.proofs.Spelled.{word_lt}
 use Rattle.writer.proofs.FieldRead.{tag_read, size-read, value_read, none-refuses}
@@ -30,15 +30,15 @@ module _ (counts : Bool) (f : List ℕ) (all : AreBytes f) (one : length f ≡ s
   meant = (tag_is f all none).meant
 
   -- with the other value
-  module _ (n : ℕ) (w : Value) (e : turned_of counts f ≡ Other n w) where
-    to : TurnedTo counts m (value_of f) n w
-    to = turned-to counts m (value_of f) (value-held f all) e
+  module _ (w : Value) (e : turned_of counts f ≡ Ok (Some w)) where
+    to : TurnedTo counts (value_of f) w
+    to = turned-to counts (value_of f) (value-held f all) e
 
     abbrev tag : ℕ
     tag = tag_in (is_count w) m
 
-    is_field : field_for n w ≡ field_with tag w
-    is_field = ap (λ (k : ℕ). field_for k w) to.its_meaning ∙ field-meant m w meant
+    is_field : field_for m w ≡ field_with tag w
+    is_field = field-meant m w meant
 
     is_tag_lem : is_tag tag ≡ true
     is_tag_lem = tag-known m meant (is_count w)
@@ -55,7 +55,7 @@ module _ (counts : Bool) (f : List ℕ) (all : AreBytes f) (one : length f ≡ s
     its_value : value_of (field_with tag w) ≡ w
     its_value = value_read tag w is_tag_lem small form to.held
 
-    other-seen : SeenAs f (field_for n w)
+    other-seen : SeenAs f (field_for m w)
     other-seen =
         rw is_field
         record {
@@ -66,8 +66,8 @@ module _ (counts : Bool) (f : List ℕ) (all : AreBytes f) (one : length f ≡ s
         }
 
     -- and back
-    comes_back : turned_of (not counts) (field_for n w) ≡ Other m (value_of f)
-    comes_back = ap (turned_of (not counts)) is_field ∙ ap₂ (turned (not counts)) its_meaning its_value ∙ to.back
+    comes_back : turned_of (not counts) (field_for m w) ≡ Ok (Some (value_of f))
+    comes_back = ap (turned_of (not counts)) is_field ∙ ap (turned (not counts)) its_value ∙ to.back
 
     same-field : field_for m (value_of f) ≡ f
     same-field =
@@ -80,9 +80,9 @@ module _ (counts : Bool) (f : List ℕ) (all : AreBytes f) (one : length f ≡ s
   seen_as has = go (turned_of counts f) refl has
     where
       go : (t : Turned) → turned_of counts f ≡ t → has_no_count t ≡ false → SeenAs f (field_as f t)
-      go Kept e has = record { one = one; none = none; meaning = refl; value = refl }
-      go (Other n w) e has = other-seen n w e
-      go NoCount e has = absurd (true≢false has)
+      go (Ok None) e has = record { one = one; none = none; meaning = refl; value = refl }
+      go (Ok (Some w)) e has = other-seen w e
+      go (Err c) e has = absurd (true≢false has)
 
   pub field_back : is_count_tag (tag_of f) ≡ not counts → has_no_count (turned_of counts f) ≡ false
       → (has_no_count (turned_of (not counts) (field_in counts f)) ≡ false) × (field_in (not counts) (field_in counts f) ≡ f)
@@ -93,8 +93,8 @@ module _ (counts : Bool) (f : List ℕ) (all : AreBytes f) (one : length f ≡ s
       apart false e h = true≢false (sym h ∙ e)
 
       go : (t : Turned) → turned_of counts f ≡ t → has_no_count t ≡ false → (has_no_count (turned_of (not counts) (field_as f t)) ≡ false) × (field_in (not counts) (field_as f t) ≡ f)
-      go Kept e has = absurd (apart counts (kept-form counts m (value_of f) e) (value-form f ∙ other))
-      go (Other n w) e has =
-          let back = comes_back n w e in
-          (ap has_no_count back, ap (field_as (field_for n w)) back ∙ same-field n w e)
-      go NoCount e has = absurd (true≢false has)
+      go (Ok None) e has = absurd (apart counts (kept-form counts (value_of f) e) (value-form f ∙ other))
+      go (Ok (Some w)) e has =
+          let back = comes_back w e in
+          (ap has_no_count back, ap (field_as (field_for m w)) back ∙ ap (λ (k : ℕ). field_for k (value_of f)) (ap (λ (g : List ℕ). meaning_of (tag_of g)) (is_field w e) ∙ its_meaning w e) ∙ same-field w e)
+      go (Err c) e has = absurd (true≢false has)

@@ -1,5 +1,5 @@
 -- A record as one run of tags, 01 to 17 (hex): those between the two forms have no field. Assumes nothing.
-use Rattle.writer.proofs.Kit.{◌≡◌, refl, sym, ap, ◌∙◌, Bool, true, false, cond, List, [], ◌++◌, append_assoc, ℕ, zero, suc, ◌+◌, ◌≤◌, ◌<◌, arith, add-one, length, Option, None, Some, Readings, meanings, meaning_of, is_count, tag_in, stored_of, field_with, has_form, stored_field, fields_from, record_of}
+use Rattle.writer.proofs.Kit.{◌≡◌, refl, sym, ap, ◌∙◌, Bool, true, false, cond, List, [], ◌++◌, append_assoc, ℕ, zero, suc, ◌+◌, ◌≤◌, ◌<◌, arith, add-one, length, Value, Option, None, Some, Readings, meanings, meaning_of, is_count, tag_in, stored_of, field_with, has_form, stored_field, fields_from, record_of}
 use Rattle.writer.proofs.Fields.{rest, next_field}
 use Rattle.writer.proofs.Passed.{NoField, is-meant, form-tag}
 

@@ -1,15 +1,15 @@
 -- Every count has a double: no field of a record has cause 20 on the way to doubles, and the reader has no such cause. Assumes nothing.
-use Rattle.writer.proofs.Kit.{◌≡◌, refl, ap, ◌∙◌, Bool, true, false, cond, List, [], ◌∷◌, ◌++◌, ℕ, arith, ltb, Float, length, Outcome, accepted, refused, ◌⟫◌, Never, never_both, never-refused, Value, Double, Count, meaning_of, tag_of, value_of, read_rows, length_written, turned, has_no_count, fields_of, record_in, count_rows, converted, length_converted}
+use Rattle.writer.proofs.Kit.{◌≡◌, refl, ap, ◌∙◌, Bool, true, false, cond, List, [], ◌∷◌, ◌++◌, ℕ, arith, ltb, Float, length, Outcome, accepted, refused, ◌⟫◌, Never, never_both, never-refused, Value, Double, Count, value_of, read_rows, length_written, turned, has_no_count, fields_of, record_in, count_rows, converted, length_converted}
 use Rattle.record.proofs.Numbers.{fields-never}
 
 -- ---- rows that never refuse by 20
-has-double : (m : ℕ) (v : Value) → has_no_count (turned false m v) ≡ false
-has-double m (Double x) = refl
-has-double m (Count word) = refl
+has-double : (v : Value) → has_no_count (turned false v) ≡ false
+has-double (Double x) = refl
+has-double (Count word) = refl
 
 counts-never : (fs : List (List ℕ)) → Never 20 (count_rows false fs)
 counts-never [] = tt
-counts-never (f ∷ fs) = ((λ e. has-double (meaning_of (tag_of f)) (value_of f)), counts-never fs)
+counts-never (f ∷ fs) = ((λ e. has-double (value_of f)), counts-never fs)
 
 converted-never : (s : List ℕ) {vs : List Float} → converted false s ≡ refused 20 vs → ⊥
 unfolding converted

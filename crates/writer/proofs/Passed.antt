@@ -93,7 +93,7 @@ pub all-passed : (q r : Readings) → length r.slots ≡ meanings → Below (17 
 all-passed q r all h =
     ap from (ext_get_or None q.slots r.slots (h.all ∙ sym all) (λ i j.
     let less : i < meanings = omega (arith, h.all) in
-    ap slot_of (h.each i less ∙ all-below i (stored_of r i) less)))
+    h.each i less ∙ all-below i (stored_of r i) less))
   where
     from : List (Option Value) → Readings
     from l = record { slots = l }

@@ -1,7 +1,7 @@
 -- A place in a record of whole fields: a reader's step finds the field there, and the place after it. Assumes nothing.
-use Rattle.writer.proofs.Kit.{◌≡◌, sym, ap, ap₂, subst, ◌∙◌, Bool, List, ◌∷◌, ℕ, ◌-◌, ◌≤◌, ◌<◌, arith, Float, length, take, drop, length-drop, length-take-le, accepted, refused, then-none, Field, size_of, field, head_rows, step_at, step-found, step-refused, next-is, further, after_is, head-whole, turned, turned_of, fields_of}
+use Rattle.writer.proofs.Kit.{◌≡◌, sym, ap, ap₂, subst, ◌∙◌, Bool, cond, List, [], ◌∷◌, ◌++◌, ℕ, ◌+◌, ◌-◌, ◌≤◌, ◌<◌, arith, Float, length, take, drop, length-append, length-drop, length-take-le, Outcome, ◌then◌, accepted, refused, then-none, Field, meaning_of, tag_of, size_of, field, head_rows, step_at, step-found, step-refused, next-is, further, after_is, head-whole, Turned, turned, turned_of, has_no_count, size_as, field_in, fields_in, count_rows, record_in, fields_of}
 use Rattle.refusal.specs.Causes.{NoneHolds}
-use Rattle.writer.proofs.Split.{split_step, first_field, Whole, head_of}
+use Rattle.writer.proofs.Split.{split_step, first_field, Whole, head_of, length_as}
 
 pub record Place (s : List ℕ) (at : ℕ) : Type 0 where
   pub whole : Whole (drop at s)
@@ -56,12 +56,42 @@ module _ {s : List ℕ} {at : ℕ} (h : Here s at) where
   pub length-here : length here ≡ h.next - at
   length-here = length-take-le (h.next - at) left (omega (arith, size, fits))
 
-  pub turned-here : (counts : Bool) → turned counts h.read.meaning h.read.value ≡ turned_of counts here
+  read-here : field here ≡ h.read
   unfolding field
-  turned-here counts =
+  read-here =
       let read = sym (then-none (head_rows left) (head h.place).0) ∙ (step-found s at h.found).0 in
       let same : field left ≡ h.read = cc in
-      ap (λ (g : Field). turned counts g.meaning g.value) (sym same ∙ sym (first_field left fits) ∙ ap field (sym here-is))
+      ap field here-is ∙ first_field left fits ∙ same
+
+  pub meaning-here : h.read.meaning ≡ meaning_of (tag_of here)
+  unfolding field
+  meaning-here = sym (ap (λ (g : Field). g.meaning) read-here)
+
+  pub turned-here : (counts : Bool) → turned counts h.read.value ≡ turned_of counts here
+  unfolding field
+  turned-here counts = sym (ap (λ (g : Field). turned counts g.value) read-here)
 
   pub split-here : fields_of left ≡ here ∷ fields_of (drop h.next s)
   split-here = split_step left (some h.place) ∙ ap₂ (λ (f u : List ℕ). f ∷ fields_of u) (sym here-is) after
+
+-- ---- the lengths and the checks of the fields from a place on
+abbrev pub with_left : Bool → List ℕ → List (List ℕ) → Outcome ℕ
+with_left counts s fs = count_rows counts fs then accepted (length (record_in counts s))
+
+module _ {s : List ℕ} {at : ℕ} (h : Here s at) (counts : Bool) where
+  pub by_field : {b : Bool} → has_no_count (turned_of counts (here h)) ≡ b
+      → with_left counts s (fields_of (drop at s)) ≡ cond b (refused 20 []) (with_left counts s (fields_of (drop h.next s)))
+  by_field has =
+      ap (with_left counts s) (split-here h)
+      ∙ ap (λ (b : Bool). cond b (refused 20 []) (with_left counts s (fields_of (drop h.next s)))) has
+
+  pub record-here : record_in counts (drop at s) ≡ field_in counts (here h) ++ record_in counts (drop h.next s)
+  record-here = ap (fields_in counts) (split-here h)
+
+  pub size-here : {t : Turned} → t ≡ turned_of counts (here h)
+      → size_as (h.next - at) h.read.meaning t + length (record_in counts (drop h.next s)) ≡ length (record_in counts (drop at s))
+  size-here {t} is =
+      let n = ap₂ (λ (n m : ℕ). size_as n m t) (sym (length-here h)) (meaning-here h) ∙ ap (size_as (length (here h)) (meaning_of (tag_of (here h)))) is ∙ sym (length_as (here h) (turned_of counts (here h))) in
+      ap (λ (k : ℕ). k + length (record_in counts (drop h.next s))) n
+      ∙ sym (length-append (field_in counts (here h)) (record_in counts (drop h.next s)))
+      ∙ ap length (sym record-here)

@@ -1,5 +1,5 @@
 -- The fields of a record, each with all of its bytes: the first, and those that follow it. A record that is read is whole, and its fields are few. Assumes nothing.
-use Rattle.writer.proofs.Kit.{◌≡◌, refl, sym, ap, ap₂, subst, ◌∙◌, Bool, true, false, List, [], ◌∷◌, ◌++◌, map, ℕ, ◌+◌, ◌*◌, ◌≤◌, ◌<◌, arith, ltb-true, ltb-false, ltb, length, take, drop, get_or, length-take, length-append, length-set, take-append-drop, List·getD-eq-default, length-take-le, get_or-drop, get_or-take, take-append_seam, drop-append_seam, NoneHolds, none_before, none_after, Some, Readings, meanings, data_size, tag_of, size_of, field, head_rows, heads, noted, order_rows, rows_of, read_rows, no_readings, at_most_lem, heads-step, field_rows, is-new, in_range_lem, AreBytes, Turned, Kept, Other, NoCount, field_as, size_as, turned_of, field_in, fields_of, fields_in, record_in}
+use Rattle.writer.proofs.Kit.{◌≡◌, refl, sym, ap, ap₂, subst, ◌∙◌, Bool, true, false, List, [], ◌∷◌, ◌++◌, map, ℕ, ◌+◌, ◌*◌, ◌≤◌, ◌<◌, arith, ltb-true, ltb-false, ltb, length, take, drop, get_or, length-take, length-append, length-set, take-append-drop, List·getD-eq-default, length-take-le, get_or-drop, get_or-take, take-append_seam, drop-append_seam, NoneHolds, none_before, none_after, Readings, meanings, data_size, tag_of, size_of, field, head_rows, heads, noted, order_rows, rows_of, read_rows, no_readings, at_most_lem, heads-step, field_rows, is-new, in_range_lem, AreBytes, meaning_of, Ok, Err, Some, None, Turned, field_as, size_as, turned_of, field_in, fields_of, fields_in, record_in}
 use lib.ListN.{get_or-append}
 use Rattle.record.proofs.Followed.{same_rows, same-field}
 use Rattle.record.proofs.FirstBytes.{room, falls}
@@ -82,21 +82,21 @@ fields-few r last (s ∷ fs) all h =
     let fewer = falls r.slots g.meaning g.value (omega (arith, in_range_lem false r last s one)) (is-new false r last s one) in
     omega (arith, fewer, fields-few (noted r g) (tag_of s) fs (length-set r.slots g.meaning (Some g.value) ∙ all) (after r last s fs h))
 
-pub length_as : (f : List ℕ) (t : Turned) → length (field_as f t) ≡ size_as (length f) t
-length_as f Kept = refl
-length_as f (Other m v) = refl
-length_as f NoCount = refl
+pub length_as : (f : List ℕ) (t : Turned) → length (field_as f t) ≡ size_as (length f) (meaning_of (tag_of f)) t
+length_as f (Ok None) = refl
+length_as f (Ok (Some v)) = refl
+length_as f (Err c) = refl
 
-at_most_eleven : (n : ℕ) (t : Turned) → n ≤ 11 → size_as n t ≤ 11
-at_most_eleven n Kept h = h
-at_most_eleven n (Other m v) h = field-short m v
-at_most_eleven n NoCount h = omega arith
+at_most_eleven : (n m : ℕ) (t : Turned) → n ≤ 11 → size_as n m t ≤ 11
+at_most_eleven n m (Ok None) h = h
+at_most_eleven n m (Ok (Some v)) h = field-short m v
+at_most_eleven n m (Err c) h = omega arith
 
 short : (counts : Bool) (fs : List (List ℕ)) → length (fields_in counts (map (λ (f : List ℕ). take (size_of f) f) fs)) ≤ 11 * length fs
 short counts [] = omega arith
 short counts (s ∷ fs) =
     let f = take (size_of s) s in
-    let size = at_most_eleven (length f) (turned_of counts f) (omega (arith, length-take (size_of s) s, at_most_lem (tag_of s))) in
+    let size = at_most_eleven (length f) (meaning_of (tag_of f)) (turned_of counts f) (omega (arith, length-take (size_of s) s, at_most_lem (tag_of s))) in
     omega (arith, length-append (field_in counts f) (fields_in counts (map (λ (f : List ℕ). take (size_of f) f) fs)), length_as f (turned_of counts f), size, short counts fs)
 
 pub few_bytes : (counts : Bool) (s : List ℕ) → NoneHolds (read_rows false s) → length (record_in counts s) ≤ 11 * meanings

@@ -1,6 +1,8 @@
 -- A stored record in counts of thousandths or in doubles, document 02: "convert a stored record to the new form and back, fields in their old order".
 -- Definitions only.
-use Rattle.std.specs.Prelude.{ℕ, ℤ, ◌≡◌, Bool, true, false, List, [], ◌∷◌, ◌++◌, map, length, take, Option, Some, None}
+use Rattle.std.specs.Prelude.{ℕ, ℤ, ◌≡◌, Bool, true, false, List, [], ◌∷◌, ◌++◌, map, length, take, Option, Some, None, Result, Ok, Err}
+use Rattle.refusal.specs.declared.Refusal.{Refusal}
+use Rattle.refusal.specs.declared.Refusal.TheVariants.{NoCount}
 use Rattle.refusal.specs.Outcomes.{Outcome, accepted, refused, ◌⟫◌, Row, row, ◌then◌}
 use Rattle.thousandths.specs.Thousandths.{count_of, twos_complement, thousandths, count_for}
 use Rattle.fields.specs.declared.fields.Value.{Value}
@@ -9,42 +11,42 @@ use Rattle.fields.specs.Fields.{is_count_tag, meaning_of, tag_of, size_of, value
 use Rattle.record.specs.Readings.{read_rows}
 use Rattle.writer.specs.Records.{field_for}
 use Rattle.writer.specs.Written.{length_written, overwritten}
-use Rattle.writer.specs.declared.conversion.Turned.{Turned}
-use Rattle.writer.specs.declared.conversion.Turned.TheVariants.{Kept, Other, NoCount}
 
--- ---- a value of a meaning, in counts or in doubles: kept where it is so already
-abbrev pub counted_field : ℕ → Option ℤ → Turned
-counted_field m (Some n) = Other m (Count (twos_complement n))
-counted_field m None = NoCount
+-- ---- a value, in counts or in doubles: none where it is kept, since it is so already, and the refusal of a double that has no count
+abbrev pub Turned : Type 0
+Turned = Result (Option Value) Refusal
 
-abbrev pub turned : Bool → ℕ → Value → Turned
-turned true m (Double x) = counted_field m (count_for x)
-turned true m (Count word) = Kept
-turned false m (Double x) = Kept
-turned false m (Count word) = Other m (Double (thousandths (count_of word)))
+abbrev pub counted_field : Option ℤ → Turned
+counted_field (Some n) = Ok (Some (Count (twos_complement n)))
+counted_field None = Err NoCount
+
+abbrev pub turned : Bool → Value → Turned
+turned true (Double x) = counted_field (count_for x)
+turned true (Count word) = Ok None
+turned false (Double x) = Ok None
+turned false (Count word) = Ok (Some (Double (thousandths (count_of word))))
 
 -- ---- a field: what is kept is so byte for byte
 abbrev pub field_as : List ℕ → Turned → List ℕ
-field_as f Kept = f
-field_as f (Other m v) = field_for m v
-field_as f NoCount = []
+field_as f (Ok None) = f
+field_as f (Ok (Some v)) = field_for (meaning_of (tag_of f)) v
+field_as f (Err c) = []
 
--- its length, where it has n bytes
-abbrev pub size_as : ℕ → Turned → ℕ
-size_as n Kept = n
-size_as n (Other m v) = length (field_for m v)
-size_as n NoCount = 0
+-- its length, where it has n bytes and the meaning m
+abbrev pub size_as : ℕ → ℕ → Turned → ℕ
+size_as n m (Ok None) = n
+size_as n m (Ok (Some v)) = length (field_for m v)
+size_as n m (Err c) = 0
 
 abbrev pub turned_of : Bool → List ℕ → Turned
-turned_of counts f = turned counts (meaning_of (tag_of f)) (value_of f)
+turned_of counts f = turned counts (value_of f)
 
 abbrev pub field_in : Bool → List ℕ → List ℕ
 field_in counts f = field_as f (turned_of counts f)
 
 abbrev pub has_no_count : Turned → Bool
-has_no_count Kept = false
-has_no_count (Other m v) = false
-has_no_count NoCount = true
+has_no_count (Ok v) = false
+has_no_count (Err c) = true
 
 -- ---- a record: its fields, each with all of its bytes
 abbrev pub fields_of : List ℕ → List (List ℕ)

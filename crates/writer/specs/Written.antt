@@ -1,7 +1,6 @@
 -- Bytes written at the start of a lent buffer. Definitions only.
-use Rattle.refusal.specs.declared.Refusal.{Refusal}
-use Rattle.std.specs.Prelude.{ℕ, cond, List, [], ◌∷◌, ◌++◌, ltb, length, drop, Err, Ok, Result}
-use Rattle.refusal.specs.Outcomes.{Outcome, accepted, refusal, Row, row, ◌then◌}
+use Rattle.std.specs.Prelude.{ℕ, cond, List, [], ◌∷◌, ◌++◌, ltb, length, drop}
+use Rattle.refusal.specs.Outcomes.{Outcome, accepted, Row, row, ◌then◌}
 
 -- 18: the buffer is shorter than s
 abbrev pub room_rows : List ℕ → List ℕ → List Row
@@ -14,8 +13,3 @@ length_written s buffer = room_rows s buffer then accepted (length s)
 -- s, then what was there; all that was there, where the buffer is shorter
 abbrev pub overwritten : List ℕ → List ℕ → List ℕ
 overwritten s buffer = cond (ltb (length buffer) (length s)) buffer (s ++ drop (length s) buffer)
-
--- what each case of the code's answer stands for
-abbrev pub written : (Result ℕ Refusal) → Outcome ℕ
-written (Ok n) = accepted n
-written (Err c) = refusal c

@@ -1,11 +1,12 @@
 // Stored mast records in counts of thousandths, and in doubles: the fields in their old order, and those
 // that are in the form already as they are.
-ghost use Rattle.std.specs.Prelude.{◌≡◌, true, false, ◌+◌, ◌≤◌, length};
+ghost use Rattle.std.specs.Prelude.{◌≡◌, true, false, ◌+◌, ◌≤◌, Ok, length};
 ghost use Rattle.std.proofs.lemmas.List.Edits.{sets};
 ghost use Rattle.refusal.specs.Causes.{NoneHolds};
 ghost use Rattle.refusal.specs.Outcomes.{accepted, ◌then◌, outcome};
+ghost use Rattle.fields.specs.Fields.{meaning_of, tag_of};
 ghost use Rattle.record.specs.Readings.{read_rows};
-ghost use Rattle.writer.specs.Conversion.{counted_field, turned, field_as, size_as, has_no_count, fields_of, record_in, count_rows, converted, length_converted, written_in};
+ghost use Rattle.writer.specs.Conversion.{turned, field_as, size_as, fields_of, record_in, count_rows, converted, length_converted, written_in};
 
 use crate::{field_size, write_field};
 use fields::fields::Value;
@@ -14,60 +15,25 @@ use record::readings::read_record;
 use refusal::Refusal;
 use thousandths::{count_of, double_of_word, word_from};
 
-// A field in a form: as it is, with the other value of its meaning, or none, where a double has no count.
-#[derive(Clone, Copy)]
-enum Turned {
-    Kept,
-    Other(usize, Value),
-    NoCount,
-}
-
-fn counted(meaning: usize, count: Option<i32>) -> Turned
-    ensures { result ≡ counted_field meaning count }
-{
-    match count {
-        Some(n) => Turned::Other(meaning, Value::Count(word_from(n))),
-        None => Turned::NoCount,
-    }
-}
-
-fn turn(meaning: usize, value: Value, counts: bool) -> Turned
-    ensures { result ≡ turned counts meaning value }
+// The other value of a field that is not in the form already, or cause 20, where a double has no count.
+fn turn(value: Value, counts: bool) -> Result<Option<Value>, Refusal>
+    ensures { result ≡ turned counts value }
 {
     match value {
-        Value::Double(x) => {
-            if counts {
-                return counted(meaning, count_of(x));
-            }
-            Turned::Kept
+        Value::Double(x) if counts => {
+            let count = count_of(x).ok_or(Refusal::NoCount)?;
+            Ok(Some(Value::Count(word_from(count))))
         }
-        Value::Count(word) => {
-            if counts {
-                return Turned::Kept;
-            }
-            Turned::Other(meaning, Value::Double(double_of_word(word)))
-        }
+        Value::Count(word) if !counts => Ok(Some(Value::Double(double_of_word(word)))),
+        _ => Ok(None),
     }
 }
 
-fn has_no_count(turned: Turned) -> bool
-    ensures { result ≡ has_no_count turned }
+// The length of a field of this many bytes, or of that of the other value.
+fn turned_size(size: usize, meaning: usize, other: Option<Value>) -> usize
+    ensures { result ≡ size_as size meaning (Ok other) }
 {
-    match turned {
-        Turned::Kept => false,
-        Turned::Other(_, _) => false,
-        Turned::NoCount => true,
-    }
-}
-
-fn turned_size(size: usize, turned: Turned) -> usize
-    ensures { result ≡ size_as size turned }
-{
-    match turned {
-        Turned::Kept => size,
-        Turned::Other(meaning, value) => field_size(meaning, value),
-        Turned::NoCount => 0,
-    }
+    other.map_or(size, |value| field_size(meaning, value))
 }
 
 // The length of a record that was read, in a form, or cause 20. None of its fields is refused.
@@ -78,85 +44,66 @@ fn converted_length(bytes: &[u8], counts: bool) -> Result<usize, Refusal>
     let mut size = 0;
     let mut at = 0;
     while at < bytes.len() {
-        let Ok((field, next)) = step_from(bytes, at) else {
-            return Ok(size);
-        };
-        let value = field.value;
-        let turned = turn(field.meaning, value, counts);
-        if has_no_count(turned) {
-            return Err(Refusal::NoCount);
-        }
-        size += turned_size(next - at, turned);
+        let (field, next) = step_from(bytes, at)?;
+        let other = turn(field.value, counts)?;
+        size += turned_size(next - at, field.meaning, other);
         at = next;
     }
     Ok(size)
 }
 
-fn copy(field: &[u8], out: &mut [u8], at: usize)
-    requires { at + length field.now ≤ length out.old }
-    ensures { out.new ≡ sets out.old at field.now }
+// Puts a field, or that of the other value, and answers the position after it.
+fn put_turned(
+    field: &[u8],
+    meaning: usize,
+    other: Option<Value>,
+    out: &mut [u8],
+    at: usize,
+) -> Result<usize, Refusal>
+    requires meant { meaning ≡ meaning_of (tag_of field.now) }
+    requires room { at + length (field_as field.now (Ok other)) ≤ length out.old }
+    ensures value { outcome result ≡ accepted (at + length (field_as field.now (Ok other))) }
+    ensures out_after { out.new ≡ sets out.old at (field_as field.now (Ok other)) }
 {
-    let mut i = 0;
-    while i < field.len() {
-        out[at + i] = field[i];
-        i += 1;
-    }
+    let Some(value) = other else {
+        let end = at + field.len();
+        out[at..end].copy_from_slice(field);
+        return Ok(end);
+    };
+    let size = write_field(meaning, value, &mut out[at..])?;
+    Ok(at + size)
 }
 
-// Answers the position after the field.
-fn put_turned(field: &[u8], turned: Turned, out: &mut [u8], at: usize) -> usize
-    requires { at + length (field_as field.now turned) ≤ length out.old }
-    ensures value { result ≡ at + length (field_as field.now turned) }
-    ensures out_after { out.new ≡ sets out.old at (field_as field.now turned) }
-{
-    match turned {
-        Turned::Kept => {
-            copy(field, out, at);
-            at + field.len()
-        }
-        Turned::Other(meaning, value) => {
-            write_field(meaning, value, &mut out[at..]);
-            at + field_size(meaning, value)
-        }
-        Turned::NoCount => at,
-    }
-}
-
-fn put_converted(bytes: &[u8], counts: bool, out: &mut [u8])
-    requires { NoneHolds (read_rows false bytes.now) × (length (record_in counts bytes.now) ≤ length out.old) }
-    ensures { out.new ≡ sets out.old 0 (record_in counts bytes.now) }
+// Puts a record that was read, in a form, and answers its length. Each of its doubles has a count, and
+// there is room.
+fn put_converted(bytes: &[u8], counts: bool, out: &mut [u8]) -> Result<usize, Refusal>
+    requires read { NoneHolds (read_rows false bytes.now) }
+    requires counted { NoneHolds (count_rows counts (fields_of bytes.now)) }
+    requires room { length (record_in counts bytes.now) ≤ length out.old }
+    ensures value { outcome result ≡ accepted (length (record_in counts bytes.now)) }
+    ensures out_after { out.new ≡ sets out.old 0 (record_in counts bytes.now) }
 {
     let mut place = 0;
     let mut at = 0;
     while at < bytes.len() {
-        let Ok((field, next)) = step_from(bytes, at) else {
-            return;
-        };
-        let value = field.value;
-        let turned = turn(field.meaning, value, counts);
-        place = put_turned(&bytes[at..next], turned, out, place);
+        let (field, next) = step_from(bytes, at)?;
+        let other = turn(field.value, counts)?;
+        place = put_turned(&bytes[at..next], field.meaning, other, out, place)?;
         at = next;
     }
+    Ok(place)
 }
 
 fn convert(bytes: &[u8], counts: bool, out: &mut [u8]) -> Result<usize, Refusal>
     ensures answered { outcome result ≡ length_converted counts bytes.now out.old }
     ensures lent { out.new ≡ written_in (converted counts bytes.now) out.old }
 {
-    let read = read_record(bytes);
-    let check = read.check;
-    if let Err(refusal) = check {
-        return Err(refusal);
-    }
-    let answer = converted_length(bytes, counts);
-    let Ok(length) = answer else {
-        return answer;
-    };
+    read_record(bytes)?;
+    let length = converted_length(bytes, counts)?;
     if out.len() < length {
         return Err(Refusal::BufferTooShort);
     }
-    put_converted(bytes, counts, out);
-    answer
+    put_converted(bytes, counts, out)
 }
 
 // The record in counts at the start of the buffer, and its length; or a cause 5 to 8, 20 or 18, and then
@@ -164,7 +111,6 @@ fn convert(bytes: &[u8], counts: bool, out: &mut [u8]) -> Result<usize, Refusal>
 pub fn to_counts(bytes: &[u8], out: &mut [u8]) -> Result<usize, Refusal>
     ensures answered { outcome result ≡ length_converted true bytes.now out.old }
     ensures lent { out.new ≡ written_in (converted true bytes.now) out.old }
-    ensures kept { bytes.now ≡ bytes.now }
 {
     convert(bytes, true, out)
 }
@@ -174,7 +120,6 @@ pub fn to_counts(bytes: &[u8], out: &mut [u8]) -> Result<usize, Refusal>
 pub fn to_doubles(bytes: &[u8], out: &mut [u8]) -> Result<usize, Refusal>
     ensures answered { outcome result ≡ length_converted false bytes.now out.old }
     ensures lent { out.new ≡ written_in (converted false bytes.now) out.old }
-    ensures kept { bytes.now ≡ bytes.now }
 {
     convert(bytes, false, out)
 }

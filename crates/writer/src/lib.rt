@@ -12,22 +12,19 @@ ghost use Rattle.writer.specs.Written.{length_written, overwritten};
 ghost use Rattle.refusal.specs.Outcomes.{outcome};
 
 use fields::bits::pattern;
-use fields::fields::{FIRST_COUNT, FIRST_DOUBLE, HEADER, MEANINGS, Value, data_size, is_count_tag, meaning_of};
+use fields::fields::{
+    FIRST_COUNT, FIRST_DOUBLE, HEADER, MEANINGS, Value, data_size, is_count_tag, meaning_of,
+};
 use record::entries::{Readings, stored_of};
 use refusal::Refusal;
 
 // The last `width` bytes of a number, the highest first.
-fn put_number(out: &mut [u8], at: usize, width: u64, n: u64)
+fn put_number(out: &mut [u8], at: usize, width: usize, n: u64)
     requires { (width ≤ 8) × (at + width ≤ length out.old) }
     ensures { out.new ≡ sets out.old at (bytes width n) }
 {
-    let mut place = at;
-    let mut left = width;
-    while left > 0 {
-        left -= 1;
-        out[place] = ((n >> (8 * left)) % 256) as u8;
-        place += 1;
-    }
+    let bytes = n.to_be_bytes();
+    out[at..at + width].copy_from_slice(&bytes[8 - width..]);
 }
 
 fn data_of(value: Value) -> u64
@@ -35,7 +32,7 @@ fn data_of(value: Value) -> u64
 {
     match value {
         Value::Double(x) => pattern(x),
-        Value::Count(word) => word as u64,
+        Value::Count(word) => u64::from(word),
     }
 }
 
@@ -46,9 +43,9 @@ fn put_field(out: &mut [u8], at: usize, tag: u8, value: Value) -> usize
     ensures out_after { out.new ≡ sets out.old at (field_with tag value) }
 {
     let data = data_size(tag);
-    put_number(out, at, 1, tag as u64);
+    put_number(out, at, 1, u64::from(tag));
     put_number(out, at + 1, 2, data as u64);
-    put_number(out, at + HEADER, data as u64, data_of(value));
+    put_number(out, at + HEADER, data, data_of(value));
     at + HEADER + data
 }
 
@@ -66,25 +63,19 @@ fn put_stored(out: &mut [u8], at: usize, tag: u8, stored: Option<Value>) -> usiz
     ensures value { result ≡ at + length (stored_field tag stored) }
     ensures out_after { out.new ≡ sets out.old at (stored_field tag stored) }
 {
-    let Some(value) = stored else {
-        return at;
-    };
-    if has_form(tag, value) {
-        return put_field(out, at, tag, value);
+    match stored {
+        Some(value) if has_form(tag, value) => put_field(out, at, tag, value),
+        _ => at,
     }
-    at
 }
 
 fn stored_size(tag: u8, stored: Option<Value>) -> usize
     ensures { result ≡ length (stored_field tag stored) }
 {
-    let Some(value) = stored else {
-        return 0;
-    };
-    if has_form(tag, value) {
-        return HEADER + data_size(tag);
+    match stored {
+        Some(value) if has_form(tag, value) => HEADER + data_size(tag),
+        _ => 0,
     }
-    0
 }
 
 // The length of the fields of one form, whose tags begin with `first`.
@@ -92,12 +83,9 @@ fn fields_length(first: u8, readings: Readings) -> usize
     requires { first ≤ 17 }
     ensures { result ≡ length (fields_from meanings first readings) }
 {
-    let end = first + MEANINGS as u8;
     let mut size = 0;
-    let mut tag = first;
-    while tag < end {
+    for tag in first..first + MEANINGS as u8 {
         size += stored_size(tag, stored_of(readings, meaning_of(tag)));
-        tag += 1;
     }
     size
 }
@@ -107,12 +95,9 @@ fn put_fields(out: &mut [u8], start: usize, first: u8, readings: Readings) -> us
     ensures value { result ≡ start + length (fields_from meanings first readings) }
     ensures out_after { out.new ≡ sets out.old start (fields_from meanings first readings) }
 {
-    let end = first + MEANINGS as u8;
     let mut at = start;
-    let mut tag = first;
-    while tag < end {
+    for tag in first..first + MEANINGS as u8 {
         at = put_stored(out, at, tag, stored_of(readings, meaning_of(tag)));
-        tag += 1;
     }
     at
 }

@@ -7,7 +7,7 @@ returns : tie.Need-returns
 returns c =
     let made = c.to_doubles.ensures in
     let put = c.put_length.ensures in
-    rw (← made.0) (put.0, (made.1.0, (put.1, refl)))
+    rw (← made.0) (put.0, (made.1, (put.1, refl)))
 
 pub station_air_to_doubles_spec : {M : Type 1} → statement M
 station_air_to_doubles_spec = tie.close (tie.spec (λ c κs. search rules)

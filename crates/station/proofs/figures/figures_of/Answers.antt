@@ -1,20 +1,18 @@
--- `station::figures::figures_of` meets its contract, figure by figure. Assumes nothing.
-use Rattle.arithmetic.proofs.Kit.{ap, ◌∙◌, rules}
+-- The figures are those of the definition, figure by figure.
+use Rattle.arithmetic.proofs.Kit.{ap, ◌∙◌}
 use Rattle.arithmetic.specs.Places.{places}
 use Rattle.atmosphere.specs.Altitudes.{pressure_altitude}
 use Rattle.air.specs.declared.figures.AirFigures.{AirFigures}
 use Rattle.station.specs.Figures.{in_cipm_range, figures_with}
-use Rattle.station.proofs.figures.figures_of.Statement.{statement}
-use Rattle.station.proofs.figures.figures_of.Tie as tie
+use Rattle.station.proofs.figures.figures_of.Goals as goal
 
-returns : tie.Need-returns
+pub returns : goal.returns
 unfolding figures_with
 returns c =
-    let found = c.before.before.before in
-    let e = found.air_figures-found.ensures in
+    let e = c.air_figures-found.ensures in
     λ i. record {
       figures = record {
-        altitude_m = found.args.resolved.altitude_m;
+        altitude_m = c.args.resolved.altitude_m;
         temperature_c = (e i).shown_c;
         pressure_hpa = (e i).shown_hpa;
         density_kg_m3 = (e i).air.density_kg_m3;
@@ -26,9 +24,3 @@ returns c =
       };
       uncapped_vapor_mole_fraction = (e i).uncapped_vapor_mole_fraction;
     }
-
-pub figures_of_spec : {M : Type 1} → statement M
-figures_of_spec = tie.close (tie.spec (λ c κs. search rules)
-    (λ c κs. search rules)
-    (λ c κs. search rules)
-    returns)
