@@ -1,15 +1,10 @@
 -- A number between two that round alike rounds as they do. Assumes nothing.
-use Rattle.arithmetic.proofs.Kit.{◌≡◌, refl, subst, sym, Bool, true, false, ℕ, ◌≤◌, Float, ap, ◌∙◌, w64}
+use Rattle.arithmetic.proofs.Kit.{◌≡◌, subst, sym, ℕ, ◌≤◌, Float, ap, ◌∙◌, w64}
 use Rattle.std.proofs.lemmas.Int.{to_z-of_z}
 use Rattle.arithmetic.specs.Nearest.{nearest_scaled}
 use Rattle.std.proofs.Common.{IfSome}
-use Rattle.std.specs.Bool.{then_some}
-use Rattle.antilog.proofs.Window.{alike}
+use Rattle.antilog.proofs.Window.{alike, if_true}
 use Rattle.antilog.proofs.antilog.alike.Goals as goal
-
-if_true : {X : Type 0} (P : X → Type 0) (b : Bool) (x : X) → (b ≡ true → P x) → IfSome (then_some b x) P
-if_true P true x holds = holds refl
-if_true P false x holds = tt
 
 pub returns : goal.returns
 returns c =

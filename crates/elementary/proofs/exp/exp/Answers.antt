@@ -1,5 +1,5 @@
--- `elementary::exp::exp` meets its contract, kind by kind of a double; what lies within its bounds is below 2^11 in size. Assumes nothing.
-use Rattle.arithmetic.proofs.Kit.{◌≡◌, refl, sym, ap, ap₂, ◌∙◌, subst, Bool, true, false, cond, true≢false, ℕ, suc, ◌*◌, ◌^◌, ◌<◌, le_trans, le_of_eq, lt_of_lt_of_le, lt_of_not-le, rules, ℤ, pos, ◌*ℤ◌, T, lit<, lit≤, Float, nan, inf, fin, binary64, of_bits, neg, odd, fits, le, is_nan, is_true}
+-- What lies within the bounds is below 2^11 in size, and of the rest each kind of double has its answer. Assumes nothing.
+use Rattle.arithmetic.proofs.Kit.{◌≡◌, refl, sym, ap, ap₂, ◌∙◌, subst, Bool, true, false, cond, true≢false, ℕ, suc, ◌*◌, ◌^◌, ◌<◌, le_trans, le_of_eq, lt_of_not-le, ℤ, pos, ◌*ℤ◌, T, lit≤, Float, nan, inf, fin, binary64, of_bits, neg, odd, fits, le, is_nan, is_true}
 use Rattle.arithmetic.specs.declared.double.Parts.TheVariants.{Finite}
 use Rattle.arithmetic.specs.declared.word.Word.{Word}
 use Rattle.arithmetic.specs.Whole.{signed, floor_div, word_value}
@@ -12,9 +12,8 @@ use Rattle.arithmetic.specs.Places.{places}
 use Rattle.arithmetic.proofs.Integers.{pos_le, opposites}
 use Rattle.arithmetic.proofs.Order.{le-of-count}
 use Rattle.arithmetic.proofs.Parts.{told, finite-of-parts, units_of-parts, parts-fit}
-use Rattle.arithmetic.proofs.Times.{word_value_lem, word-short}
-use Rattle.elementary.proofs.exp.exp.Statement.{statement}
-use Rattle.elementary.proofs.exp.exp.Tie as tie
+use Rattle.arithmetic.proofs.Times.{word_value_lem}
+use Rattle.elementary.proofs.exp.exp.Goals as goal
 
 -- ---- the size of what lies within the bounds
 within_bounds : (s : Bool) (q k : ℕ) → Digits q k → le exp_top (odd 53 s q k 1074) ≡ false → le (odd 53 s q k 1074) exp_bottom ≡ false → q * 2 ^ k < 2 ^ 1085
@@ -65,56 +64,29 @@ unfolding exp
 exp_zero true = refl
 exp_zero false = refl
 
--- ---- the function's answers, in the order of its code
-floor_word_requires : tie.Need-floor_word-requires
-floor_word_requires c κs =
-    let at = c.before.before in
-    let apart = told at.take_apart.ensures.1 at.in-Finite.is in
-    (apart.within, bounded apart c.if-x.false c.if-x-2.false)
+pub floor_word-requires : goal.floor_word-requires
+floor_word-requires c = bounded (told c.take_apart.ensures.apart c.in-Finite.is) c.if-x.false c.if-x-2.false
 
--- floor(x * 2^places), and floor of its product with 1 / ln 2
-abbrev floored : tie.After-floor_word → ℤ
-floored c = let a = c.in-Finite in floor_div (signed a.negative (a.q * 2 ^ a.k * 2 ^ places)) (2 ^ 1074)
+pub returns-in-NotANumber : goal.returns-in-NotANumber
+unfolding exp
+returns-in-NotANumber c = let e = (told c.take_apart.ensures.apart c.in-NotANumber.is).same in sym e ∙ ap (exp places) e
 
-returns : tie.Need-returns-then-x
-returns c =
-    let at = c.before.before in
-    c.infinity_or_zero-then-x.ensures ∙ at_top (told at.take_apart.ensures.1 at.in-Finite.is) c.if-x.true
+pub returns-in-Infinite : goal.returns-in-Infinite
+returns-in-Infinite c = c.infinity_or_zero.ensures ∙ exp_infinite _ ∙ ap (exp places) (told c.take_apart.ensures.apart c.in-Infinite.is).same
 
-returns_2 : tie.Need-returns-then-x-2
-returns_2 c =
-    let at = c.before.before.before in
-    c.infinity_or_zero-then-x-2.ensures ∙ at_bottom (told at.take_apart.ensures.1 at.in-Finite.is) c.if-x.false c.if-x-2.true
+pub returns-in-Zero : goal.returns-in-Zero
+returns-in-Zero c = exp_zero _ ∙ ap (exp places) (told c.take_apart.ensures.apart c.in-Zero.is).same
 
-returns_4 : tie.Need-returns-in-Infinite
-returns_4 c = let at = c.before in c.infinity_or_zero.ensures ∙ exp_infinite _ ∙ ap (exp places) (told at.take_apart.ensures.1 at.in-Infinite.is).same
+pub returns-in-Finite : goal.returns-in-Finite
+returns-in-Finite c = c.infinity_or_zero-in-Finite.ensures ∙ at_top (told c.take_apart.ensures.apart c.in-Finite.is) c.if-x.true
 
-returns_6 : tie.Need-returns-else-x-2
-returns_6 c =
-    let at_floor = c.before.before in
-    let at = at_floor.before.before.before in
+pub returns-in-Finite-2 : goal.returns-in-Finite-2
+returns-in-Finite-2 c = c.infinity_or_zero-in-Finite-2.ensures ∙ at_bottom (told c.take_apart.ensures.apart c.in-Finite.is) c.if-x.false c.if-x-2.true
+
+pub returns-in-Finite-3 : goal.returns-in-Finite-3
+returns-in-Finite-3 c =
     c.antilog.ensures
     ∙ ap (λ (w : Word). antilog places (word_value places w)) c.times.ensures
-    ∙ ap (antilog places) (word_value_lem places (floor_div (word_value places at_floor.floor_word.result *ℤ pos log2e) (2 ^ 62)))
-    ∙ ap (λ (z : ℤ). antilog places (floor_div (z *ℤ pos log2e) (2 ^ 62))) (ap (word_value places) at_floor.floor_word.ensures.0 ∙ word_value_lem places (floored at_floor))
-    ∙ between (told at.take_apart.ensures.1 at.in-Finite.is) at_floor.if-x.false at_floor.if-x-2.false
-
-pub exp_spec : {M : Type 1} → statement M
-exp_spec =
-    tie.close (tie.spec (λ c κs. search rules)
-    (λ c. search rules)
-    (λ c. search rules)
-    (λ c κs. search rules)
-    (λ c. search rules)
-    (λ c. search rules)
-    (λ c κs. search rules)
-    returns
-    (λ c κs. search rules)
-    returns_2
-    floor_word_requires
-    (λ c κs. (lt_of_lt_of_le c.floor_word.ensures.1 (lit≤ tt), word-short places (floored c) c.floor_word.ensures.0, lit< tt, lit≤ tt, lit≤ tt))
-    (λ c κs. search rules)
-    (λ c. unfold exp in let e = (told c.take_apart.ensures.1 c.in-NotANumber.is).same in sym e ∙ ap (exp places) e)
-    returns_4
-    (λ c. exp_zero _ ∙ ap (exp places) (told c.take_apart.ensures.1 c.in-Zero.is).same)
-    returns_6)
+    ∙ ap (antilog places) (word_value_lem places (floor_div (word_value places c.floor_word.result *ℤ pos log2e) (2 ^ 62)))
+    ∙ ap (λ (z : ℤ). antilog places (floor_div (z *ℤ pos log2e) (2 ^ 62))) (ap (word_value places) c.floor_word.ensures.0 ∙ word_value_lem places _)
+    ∙ between (told c.take_apart.ensures.apart c.in-Finite.is) c.if-x.false c.if-x-2.false

@@ -1,6 +1,5 @@
--- `elementary::exp::floor_word` meets its contract: the shifted words hold floor(x * 2^places), or for a negative x what -(a + 1) leaves of it (`Floor`).
--- Assumes nothing.
-use Rattle.arithmetic.proofs.Kit.{◌≡◌, refl, sym, ap, ◌∙◌, subst, Bool, true, false, ℕ, ◌+◌, ◌-◌, ◌*◌, ◌/◌, ◌%◌, ◌^◌, ◌<◌, le_refl, le_of_eq, lt_of_le_of_lt, lt_of_lt_of_le, add-zero, arith, rules, lit≤, ℤ}
+-- The shifted words hold floor(x * 2^places), or for a negative x what -(a + 1) leaves of it (`Floor`). Assumes nothing.
+use Rattle.arithmetic.proofs.Kit.{◌≡◌, refl, sym, ap, ◌∙◌, subst, inl, inr, ◌⊎◌, Bool, true, false, ℕ, zero, suc, ◌+◌, ◌-◌, ◌*◌, ◌/◌, ◌%◌, ◌^◌, ◌≤◌, ◌<◌, le_refl, le_of_eq, lt_of_le_of_lt, lt_of_lt_of_le, add-zero, arith, lit≤, ℤ}
 use Rattle.std.proofs.Common.{sub-le}
 use Rattle.arithmetic.specs.declared.wide.Wide.{Wide}
 use Rattle.arithmetic.specs.Value.{value}
@@ -11,9 +10,16 @@ use Rattle.arithmetic.specs.Places.{places}
 use Rattle.arithmetic.proofs.Carried.{low_word, low-remainder}
 use Rattle.arithmetic.proofs.Times.{same_word}
 use Rattle.arithmetic.proofs.Floor.{moved_by, floor_is, floor_below, opposite-is, quotient-lt, one_less}
-use Rattle.elementary.proofs.exp.floor_word.Statement.{statement}
-use Rattle.elementary.proofs.exp.floor_word.Tie as tie
-use Rattle.elementary.proofs.exp.floor_word.Lts.{then-negative, else-negative}
+use Rattle.elementary.specs.declared.log.Units.{Units}
+use Rattle.elementary.proofs.exp.floor_word.Goals as goal
+use Rattle.elementary.proofs.exp.floor_word.Goals.{then-negative, else-negative}
+
+some_place : (q k : ℕ) → (0 < k → 2 ^ 52 ≤ q) → (k ≡ 0) ⊎ (2 ^ 52 ≤ q)
+some_place q zero h = inl refl
+some_place q (suc k) h = inr (h (omega arith))
+
+digits_of : (u : Units) → Digits u.q u.k
+digits_of u = record { positive = u.positive; short = u.short; exponent = u.exponent; full = some_place u.q u.k u.full }
 
 -- what is shown of the answer
 abbrev Answer : Bool → ℕ → ℕ → ℕ → ℕ → Type 0
@@ -42,23 +48,31 @@ module _ (s : Bool) (q k : ℕ) (digits : Digits q k) (small : q * 2 ^ k < 2 ^ 1
       (quotient-lt places q k (lit≤ tt) digits small (q * 2 ^ k * 2 ^ places) (le_refl (q * 2 ^ k * 2 ^ places)))
       refl)
 
-made : (c : tie.After-shifted_right) → let a = c.args in Answer a.negative a.q a.k c.shifted_right.result.lo (c.if-negative.moved.lo % 2 ^ places)
-made c =
-    let joined = c.before in
-    let start = joined.before in
-    let a = start.args in
-    elim joined.if-negative.branch [
-      | then-negative w ↦ negative_answer a.negative a.q a.k start.requires.0 start.requires.1 joined.if-negative.moved c.shifted_right.result c.shifted_right.ensures w.if-negative.true (ap value w.moved-is ∙ w.shifted_right-moved.ensures)
-      | else-negative w ↦ positive_answer a.negative a.q a.k start.requires.0 start.requires.1 joined.if-negative.moved c.shifted_right.result c.shifted_right.ensures w.if-negative.false (ap value w.moved-is ∙ w.shifted_right-moved-else-negative.ensures)
-    ]
+-- the words that are shifted, by the sign
+Taken : Bool → ℕ → Wide → Type 0
+Taken s q d = ((s ≡ true) × (d ≡ record { hi = q - 1; lo = 0xffff_ffff_ffff_ffff })) ⊎ ((s ≡ false) × (d ≡ record { hi = q; lo = 0 }))
 
-pub floor_word_spec : {M : Type 1} → statement M
-floor_word_spec =
-    tie.close (tie.spec (λ c. search rules)
-    (λ c. moved_by places _ _ (lit≤ tt) c.requires.0 c.requires.1)
-    (λ c κs. search rules)
-    (λ c. moved_by places _ _ (lit≤ tt) c.requires.0 c.requires.1)
-    (λ c κs. search rules)
-    (λ c κs. search rules)
-    (λ c. omega (arith, (made c.before).1))
-    (λ c. made c.before.before))
+made : (s : Bool) (units : Units) → units.q * 2 ^ units.k < 2 ^ 1085 → (d w u : Wide) → Taken s units.q d → value w ≡ value d / 2 ^ (1138 - places - units.k) → value u ≡ value w / 2 ^ places
+    → Answer s units.q units.k u.lo (w.lo % 2 ^ places)
+unfolding Taken
+made s units small d w u (inl (sign, is)) moved above =
+    negative_answer s units.q units.k (digits_of units) small w u above sign (moved ∙ ap (λ (x : Wide). value x / 2 ^ (1138 - places - units.k)) is)
+made s units small d w u (inr (sign, is)) moved above =
+    positive_answer s units.q units.k (digits_of units) small w u above sign (moved ∙ ap (λ (x : Wide). value x / 2 ^ (1138 - places - units.k)) is)
+
+pub overflow_sub-units : goal.overflow_sub-units
+overflow_sub-units c = moved_by places _ _ (lit≤ tt) (digits_of c.args.units) c.requires
+
+pub overflow_cast-result : goal.overflow_cast-result
+unfolding Taken
+overflow_cast-result c =
+    let taken : Taken c.args.negative c.args.units.q c.if-negative.digits =
+    elim c.if-negative.branch [ then-negative w ↦ inl (w.if-negative.true, w.digits-is) | else-negative w ↦ inr (w.if-negative.false, w.digits-is) ] in
+    omega (arith, (made c.args.negative c.args.units c.requires _ _ _ taken c.shifted_right-moved.ensures c.shifted_right.ensures).1)
+
+pub returns : goal.returns
+unfolding Taken
+returns c =
+    let taken : Taken c.args.negative c.args.units.q c.if-negative.digits =
+    elim c.if-negative.branch [ then-negative w ↦ inl (w.if-negative.true, w.digits-is) | else-negative w ↦ inr (w.if-negative.false, w.digits-is) ] in
+    made c.args.negative c.args.units c.requires _ _ _ taken c.shifted_right-moved.ensures c.shifted_right.ensures
