@@ -8,7 +8,7 @@ pub mod LogDigits
 pub mod Ordered
 pub mod OneFraction
 mod LaterRoots
-mod Window
+pub mod Window
 mod Tested
 mod Nearly
 mod Entries

@@ -1,5 +1,7 @@
 -- Where the estimate puts the antilog's root, and that a number between two that round to one double rounds to it too. Assumes nothing.
-use Rattle.arithmetic.proofs.Kit.{◌≡◌, refl, sym, ap, ◌∙◌, subst, subst₂, Bool, true, false, cond, ℕ, ◌+◌, ◌*◌, ◌/◌, ◌%◌, ◌^◌, ◌≤◌, ◌<◌, le_trans, le_of_eq, lt_of_le_of_lt, le-add_right, mul-le-mul_right, mul-lt-mul_of_pos_right, mod-eq_of_lt, mul-one, arith, ℤ, pos, negsuc, ◌-ℤ◌, T, Float, pow_pos, pow-add, binary64, up, down, fits, le, round-fits}
+use Rattle.arithmetic.proofs.Kit.{◌≡◌, refl, sym, ap, ◌∙◌, subst, subst₂, Bool, true, false, ℕ, ◌+◌, ◌*◌, ◌/◌, ◌%◌, ◌^◌, ◌≤◌, ◌<◌, le_trans, le_of_eq, lt_of_le_of_lt, le-add_right, mul-le-mul_right, mul-lt-mul_of_pos_right, mod-eq_of_lt, mul-one, arith, ℤ, T, Float, pow_pos, pow-add, binary64, up, down, fits, le, round-fits}
+use Rattle.std.proofs.Common.{MatchOption, IfSome, Some, None}
+use Rattle.std.specs.Bool.{then_some}
 use Rattle.antilog.specs.Estimate.{estimate, moved}
 use Rattle.antilog.proofs.Near.{estimate-near, Estimates}
 use Rattle.arithmetic.proofs.Powers.{pow-scaled, lt-of-powers, le-of-powers}
@@ -89,6 +91,12 @@ alike e Y {from} {to} is-low is-high test below above =
     let ends : T (le (nearest_scaled to e) (nearest_scaled from e)) = subst₂ (λ (x y : Float). T (le x y)) is-high is-low (subst T (sym test) tt) in
     is-low ∙ rounds_alike e from Y to below above ends
 
--- the exponent of two that a root is scaled by
-abbrev pub exponent : Bool → ℕ → ℤ
-exponent negative whole = cond negative (negsuc whole) (pos whole) -ℤ pos 62
+-- what `unwrap_or_else` answers, where the value is v, and so is what is computed where there is none
+pub either : {A : Type 0} (o : _) {r v : Float} → MatchOption o A (λ x. r ≡ x) → IfSome o (λ x. x ≡ v) → (A → r ≡ v) → r ≡ v
+either None h g f = f h
+either (Some x) h g f = h ∙ g
+
+-- what holds of a value that is answered where a test holds
+pub if_true : {X : Type 0} (P : X → Type 0) (b : Bool) (x : X) → (b ≡ true → P x) → IfSome (then_some b x) P
+if_true P true x holds = holds refl
+if_true P false x holds = tt

@@ -1,9 +1,8 @@
 -- Document 01, "Log word", with any number of places for its 52. Definitions only.
-use Rattle.std.specs.Prelude.{ℕ, zero, suc, ◌+◌, ◌-◌, ◌*◌, ◌/◌, ◌^◌, true, false, cond, ℤ, pos, ◌+ℤ◌, ◌*ℤ◌, leb, Float}
+use Rattle.std.specs.Prelude.{ℕ, zero, suc, ◌+◌, ◌-◌, ◌*◌, ◌/◌, ◌^◌, true, false, cond, ℤ, pos, ◌+ℤ◌, ◌*ℤ◌, leb, Float, Option, Some, None}
 use Rattle.std.specs.Float.{nan, inf, fin}
 use Rattle.std.specs.Float.Ieee.{size, minus}
-use Rattle.arithmetic.specs.declared.word.Logarithm.{Logarithm}
-use Rattle.arithmetic.specs.declared.word.Logarithm.TheVariants.{Defined, Undefined}
+use Rattle.arithmetic.specs.declared.word.Word.{Word}
 use Rattle.arithmetic.specs.Whole.{as_word}
 use Rattle.arithmetic.specs.Nearest.{units_of}
 
@@ -45,10 +44,10 @@ abbrev pub log_word : ℕ → Float → ℤ
 log_word places x = word_of_units places (units_of x)
 
 -- what `log_word` answers: the word of a positive finite double
-unfoldable pub logarithm : ℕ → Float → Logarithm
+unfoldable pub logarithm : ℕ → Float → Option Word
 unfolding word_of_units
-logarithm places nan = Undefined
-logarithm places (inf s) = Undefined
-logarithm places (fin s zero e) = Undefined
-logarithm places (fin true (suc m) e) = Undefined
-logarithm places (fin false (suc m) e) = Defined (as_word places (log_word places (fin false (suc m) e)))
+logarithm places nan = None
+logarithm places (inf s) = None
+logarithm places (fin s zero e) = None
+logarithm places (fin true (suc m) e) = None
+logarithm places (fin false (suc m) e) = Some (as_word places (log_word places (fin false (suc m) e)))

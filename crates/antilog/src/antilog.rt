@@ -1,13 +1,13 @@
 // The antilog: 2 to the power of a word, by repeated square roots, as the nearest double.
-ghost use Rattle.std.specs.Prelude.{◌≡◌, cond, ◌-◌, ◌^◌, ◌≤◌, ◌<◌, pos, negsuc, ◌-ℤ◌};
-ghost use Rattle.arithmetic.specs.Whole.{word_value};
+ghost use Rattle.std.specs.Prelude.{◌≡◌, ℕ, ◌-◌, ◌^◌, ◌≤◌, ◌<◌, pos, ◌-ℤ◌, IfSome};
+ghost use Rattle.arithmetic.specs.Whole.{floor_div, floor_mod, word_value};
 ghost use Rattle.arithmetic.specs.Nearest.{nearest_scaled};
 ghost use Rattle.antilog.specs.Antilog.{antilog_root, later_roots, antilog};
 ghost use Rattle.antilog.specs.Among.{AntilogAmong, ScaledAmong};
 ghost use Rattle.arithmetic.specs.Places.{places};
 
 use crate::estimate::{estimate, moved};
-use arithmetic::nearest::{nearest_product, nearest_quotient};
+use arithmetic::nearest::nearest_scaled;
 use arithmetic::word::{ONES, PLACES, WHOLE, Word};
 use roots::quick::{Tables, quick_root};
 use roots::reciprocal_table::reciprocal_table;
@@ -29,115 +29,106 @@ fn later_roots(start: u64, first: u32, bits: u64, tables: Tables) -> u64
     y
 }
 
-// The double nearest to y * 2^(k - 62), k being `whole`, or -(whole + 1) where negative.
-fn scaled(y: u64, negative: bool, whole: u64) -> f64
-    requires { whole < 2 ^ 62 }
-    ensures { result ≡ nearest_scaled y (cond negative (negsuc whole) (pos whole) -ℤ pos 62) }
+// The double that every y * 2^scale from the least y to the most is nearest to, where both ends round
+// alike.
+fn alike(least: u64, most: u64, scale: i64) -> Option<f64>
+    ensures { IfSome result (λ double. (y : ℕ) → least ≤ y → y ≤ most → double ≡ nearest_scaled y scale) }
 {
-    if negative {
-        return nearest_quotient(y, whole + 63);
-    }
-    if whole < 62 {
-        return nearest_quotient(y, 62 - whole);
-    }
-    nearest_product(y, whole - 62)
+    let low = nearest_scaled(least, scale);
+    let high = nearest_scaled(most, scale);
+    (high <= low).then_some(low)
 }
 
-// The same of the root for f, by its roots. The first 54 are estimated, and the last six are taken of both
-// ends of what they can be: each root halves the distance, so that the ends mostly round alike. All sixty
-// are taken only where they do not.
-fn scaled_by_roots(f: u64, negative: bool, whole: u64) -> f64
-    requires { (f < 2 ^ places) × (whole < 2 ^ 62) }
-    ensures { result ≡ nearest_scaled (antilog_root places f) (cond negative (negsuc whole) (pos whole) -ℤ pos 62) }
-{
-    let roots = root_table();
-    let reciprocals = reciprocal_table();
-    let tables = Tables {
-        roots: &roots,
-        reciprocals: &reciprocals,
-    };
-    let early = estimate(f % 0x40_0000_0000_0000 * 64) / 2;
-    let last = f / 0x40_0000_0000_0000;
-    let least = later_roots(early - 3, 54, last, tables);
-    let most = later_roots(early + 2, 54, last, tables);
-    let low = scaled(least, negative, whole);
-    if scaled(most, negative, whole) <= low {
-        return low;
-    }
-    let y = later_roots(0x4000_0000_0000_0000, 0, f, tables);
-    scaled(y, negative, whole)
+// The root for a fraction of 60 bits, times 2 to the power `scale`.
+#[derive(Clone, Copy)]
+struct ScaledRoot {
+    fraction: u64,
+    scale: i64,
+    ghost below_one: { fraction < 2 ^ places },
 }
 
-// The same of the root for f. Half its estimate is at most 3 above it and at most 2 below it, and of
-// these bits the double keeps all but ten: where both ends round alike, as they mostly do, so does the
-// root, and only else are roots taken.
-fn scaled_root(f: u64, negative: bool, whole: u64) -> f64
-    requires { (f < 2 ^ places) × (whole < 2 ^ 62) }
-    ensures { result ≡ nearest_scaled (antilog_root places f) (cond negative (negsuc whole) (pos whole) -ℤ pos 62) }
-{
-    let half = estimate(f) / 2;
-    let low = scaled(half - 3, negative, whole);
-    let high = scaled(half + 2, negative, whole);
-    if high <= low {
-        return low;
+impl ScaledRoot {
+    // 2 to the power w: the digits below the point give the root, and those above it the scale, the root
+    // being in units of 2^-62.
+    fn of(w: Word) -> Self
+        ensures fraction { result.fraction ≡ floor_mod (word_value places w) (2 ^ places) }
+        ensures scale { result.scale ≡ floor_div (word_value places w) (2 ^ places) -ℤ pos 62 }
+    {
+        let whole = (w.whole as u64 + w.part / WHOLE) as i64;
+        let part = w.part % WHOLE;
+        if w.negative {
+            ScaledRoot {
+                fraction: ONES - part,
+                scale: -whole - 63,
+            }
+        } else {
+            ScaledRoot {
+                fraction: part,
+                scale: whole - 62,
+            }
+        }
     }
-    scaled_by_roots(f, negative, whole)
+
+    // The nearest double, by the roots. The first 54 are estimated, and the last six are taken of both
+    // ends of what they can be: each root halves the distance, so that the ends mostly round alike. All
+    // sixty are taken only where they do not.
+    fn nearest_by_roots(self) -> f64
+        ensures { result ≡ nearest_scaled (antilog_root places self.fraction) self.scale }
+    {
+        let roots = root_table();
+        let reciprocals = reciprocal_table();
+        let tables = Tables {
+            roots: &roots,
+            reciprocals: &reciprocals,
+        };
+        let early = estimate(self.fraction % 0x40_0000_0000_0000 * 64) / 2;
+        let last = self.fraction / 0x40_0000_0000_0000;
+        let least = later_roots(early - 3, 54, last, tables);
+        let most = later_roots(early + 2, 54, last, tables);
+        if let Some(double) = alike(least, most, self.scale) {
+            return double;
+        }
+        let y = later_roots(0x4000_0000_0000_0000, 0, self.fraction, tables);
+        nearest_scaled(y, self.scale)
+    }
+
+    // The nearest double. Half the estimate of the root is at most 3 above it and at most 2 below it, and
+    // of these bits the double keeps all but ten: where both ends round alike, as they mostly do, so does
+    // the root, and only else are roots taken.
+    fn nearest(self) -> f64
+        ensures { result ≡ nearest_scaled (antilog_root places self.fraction) self.scale }
+    {
+        let half = estimate(self.fraction) / 2;
+        let least = half - 3;
+        let most = half + 2;
+        alike(least, most, self.scale).unwrap_or_else(|| self.nearest_by_roots())
+    }
+
+    // The nearest double of the fractions to n more, where it is known to be one: the estimate for the
+    // fraction and, moved by n, that for n more enclose all their roots.
+    fn nearest_among(self, n: u64) -> Option<f64>
+        ensures { ScaledAmong self.fraction n self.scale result }
+    {
+        if n >= 0x1000_0000 || self.fraction + n >= WHOLE {
+            return None;
+        }
+        let a = estimate(self.fraction);
+        let from = a / 2 - 3;
+        let to = moved(a, n) / 2 + 3;
+        alike(from, to, self.scale)
+    }
 }
 
 // 2 to the power w, w being in units of 2^-60.
 pub fn antilog(w: Word) -> f64
     ensures { result ≡ antilog places (word_value places w) }
 {
-    let whole = w.whole as u64 + w.part / WHOLE;
-    let part = w.part % WHOLE;
-    if w.negative {
-        return scaled_root(ONES - part, true, whole);
-    }
-    scaled_root(part, false, whole)
+    ScaledRoot::of(w).nearest()
 }
 
-// The antilog of several words, where it is known to be one double.
-#[derive(Clone, Copy)]
-pub struct Among {
-    pub known: bool,
-    pub value: f64,
-}
-
-// Of the roots for f to n more, scaled likewise: the estimate for f and, moved by n, that for f + n
-// enclose them all.
-fn scaled_among(f: u64, n: u64, negative: bool, whole: u64) -> Among
-    requires { (f < 2 ^ places) × (whole < 2 ^ 62) }
-    ensures { ScaledAmong f n (cond negative (negsuc whole) (pos whole) -ℤ pos 62) result }
-{
-    if n >= 0x1000_0000 {
-        return Among {
-            known: false,
-            value: 0.0,
-        };
-    }
-    if f + n >= WHOLE {
-        return Among {
-            known: false,
-            value: 0.0,
-        };
-    }
-    let a = estimate(f);
-    let low = scaled(a / 2 - 3, negative, whole);
-    let high = scaled(moved(a, n) / 2 + 3, negative, whole);
-    Among {
-        known: high <= low,
-        value: low,
-    }
-}
-
-// 2 to the power w, and of each word to n more.
-pub fn antilog_among(w: Word, n: u64) -> Among
+// 2 to the power w, and of each word to n more, where they are known to be one double.
+pub fn antilog_among(w: Word, n: u64) -> Option<f64>
     ensures { AntilogAmong (word_value places w) n result }
 {
-    let whole = w.whole as u64 + w.part / WHOLE;
-    let part = w.part % WHOLE;
-    if w.negative {
-        return scaled_among(ONES - part, n, true, whole);
-    }
-    scaled_among(part, n, false, whole)
+    ScaledRoot::of(w).nearest_among(n)
 }

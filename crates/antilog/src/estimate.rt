@@ -30,9 +30,7 @@ pub fn estimate(f: u64) -> u64
 {
     let part = f % 0x1000_0000_0000_0000;
     let mut more = part % 0x1000_0000 * LAST_EXCESS;
-    let mut j = 8;
-    while 0 < j {
-        j -= 1;
+    for j in (0..8).rev() {
         let digit = (part >> (56 - 4 * j)) % 16;
         more = joined(excess(16 * j + digit), more, 4 * j);
     }

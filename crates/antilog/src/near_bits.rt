@@ -11,19 +11,10 @@ use arithmetic::word::ONES;
 pub fn within_two(m: u64, bits: u64) -> bool
     ensures { result ≡ true → WithinTwo m bits }
 {
-    if m < 0x4000_0000_0000_0000 {
-        return false;
-    }
-    if m >= 0x8000_0000_0000_0000 {
-        return false;
-    }
-    if ONES - 2 <= bits {
+    if !(0x4000_0000_0000_0000..0x8000_0000_0000_0000).contains(&m) || ONES - 2 <= bits {
         return false;
     }
     let twice = 2 * m;
     let least = estimate(bits + 1);
-    if twice - 3 < least {
-        return false;
-    }
-    twice < moved(least, 2)
+    least <= twice - 3 && twice < moved(least, 2)
 }

@@ -30,15 +30,12 @@ fn root_of_units(q: u64, k: u32) -> f64
 pub fn sqrt(x: f64) -> f64
     ensures { result ≡ sqrt x }
 {
-    let parts = take_apart(x);
-    match parts {
+    match take_apart(x) {
         Parts::NotANumber => x,
-        Parts::Infinite(negative) => if negative { 0.0 / 0.0 } else { x },
+        Parts::Infinite(false) => x,
+        Parts::Infinite(true) => 0.0 / 0.0,
         Parts::Zero(_) => x,
-        Parts::Finite(negative, q, k) => if negative {
-            0.0 / 0.0
-        } else {
-            root_of_units(q, k)
-        },
+        Parts::Finite(false, q, k) => root_of_units(q, k),
+        Parts::Finite(true, _, _) => 0.0 / 0.0,
     }
 }

@@ -1,6 +1,6 @@
 -- `closest`, a fraction rounded to the nearest whole number with a tie to the even one, by the comparisons that decide it; and its bounds.
 -- Assumes nothing.
-use Rattle.arithmetic.proofs.Kit.{◌≡◌, refl, sym, ap, ◌∙◌, subst, not, ℕ, suc, ◌+◌, ◌-◌, ◌*◌, ◌/◌, ◌%◌, ◌≤◌, ◌<◌, div-eq_of_lt, mod-eq_of_lt, le_trans, arith, T, eqb, leb→le, nleb→lt, eqb→eq, closest}
+use Rattle.arithmetic.proofs.Kit.{◌≡◌, refl, sym, ap, ◌∙◌, subst, not, ℕ, suc, ◌+◌, ◌*◌, ◌/◌, ◌%◌, ◌≤◌, ◌<◌, div-eq_of_lt, mod-eq_of_lt, le_trans, arith, T, eqb, leb→le, nleb→lt, eqb→eq, closest}
 use Prim.Native.Nat.{compare, Ordering}
 use lib.Dec.{is_le, compare_is_eq, eqb_refl}
 use lib.Arith.{lt_of_le-ne}
@@ -17,25 +17,12 @@ nearest-is q a b r less same more = go (compare a b) (leb→le a b) (nleb→lt a
     go Ordering.eq le gt eq is = same (eq tt)
     go Ordering.gt le gt eq is = more (gt tt)
 
--- ---- q + a / u, by how far it is from q and from the next number
-pub nearer_down : (q a u : ℕ) → a < u - a → q ≡ nearest q (compare (a * 2) u)
-nearer_down q a u h = nearest-is q (a * 2) u q (λ l. refl) (λ e. omega arith) (λ g. omega arith)
-
-pub nearer_up : (q a u : ℕ) → u - a < a → q + 1 ≡ nearest q (compare (a * 2) u)
-nearer_up q a u h = nearest-is q (a * 2) u (q + 1) (λ l. omega arith) (λ e. omega arith) (λ g. omega arith)
-
-pub nearer_even : (q a u : ℕ) → a ≡ u - a → a < u → q + q % 2 ≡ nearest q (compare (a * 2) u)
-nearer_even q a u h r = nearest-is q (a * 2) u (q + q % 2) (λ l. omega arith) (λ e. refl) (λ g. omega arith)
-
 -- ---- a fraction below 1
 proper : (y u r : ℕ) → y < u → r ≡ nearest 0 (compare (y * 2) u) → r ≡ closest y u
 proper y u r h e = e ∙ ap (λ (x : ℕ). nearest 0 (compare (x * 2) u)) (sym (mod-eq_of_lt h)) ∙ ap (λ (q : ℕ). nearest q (compare (y % u * 2) u)) (sym (div-eq_of_lt h))
 
 pub closest_none : (y u : ℕ) → y < u → y * 2 ≤ u → 0 ≡ closest y u
 closest_none y u h half = proper y u 0 h (nearest-is 0 (y * 2) u 0 (λ l. refl) (λ e. refl) (λ g. omega arith))
-
-pub closest_one : (y u : ℕ) → y < u → u < y * 2 → 1 ≡ closest y u
-closest_one y u h half = proper y u 1 h (nearest-is 0 (y * 2) u 1 (λ l. omega arith) (λ e. omega arith) (λ g. refl))
 
 -- ---- the bounds that the quotient has
 pub closest_at_most : (y u b : ℕ) → y / u < b → closest y u ≤ b

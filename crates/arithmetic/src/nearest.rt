@@ -5,14 +5,12 @@ ghost use Prim.Native.Nat.{compare};
 ghost use Rattle.std.specs.Float.{binary64};
 ghost use Rattle.std.specs.Float.Ieee.{round, nearest};
 ghost use Rattle.std.specs.Float.Ieee.Nearest.{closest};
-ghost use Rattle.arithmetic.specs.Value.{value};
 ghost use Rattle.arithmetic.specs.Nearest.{nearest_scaled, nearest_ratio};
 ghost use Rattle.arithmetic.specs.Normalised.{IsNormalised};
 ghost use Rattle.arithmetic.specs.Parts.{parts_of, TakenApart};
 ghost use Rattle.arithmetic.specs.Places.{places};
 
 use crate::double::Parts;
-use crate::wide::{Wide, shifted_right};
 use crate::word::{PLACES, WHOLE};
 
 const DIGITS: u64 = PLACES as u64;
@@ -134,17 +132,17 @@ pub fn nearest_quotient(m: u64, k: u64) -> f64
 
 // The double nearest to n / 2^k. Where n has more than 64 digits, 53 are kept and the other `dropped`
 // ones lie in the low word.
-fn nearest_wide_quotient(n: Wide, k: u64) -> f64
-    requires { (n.hi < 2 ^ 52) × (k ≤ 1085) }
-    ensures { result ≡ nearest_ratio (pos (value n)) (2 ^ k) }
+fn nearest_wide_quotient(n: u128, k: u64) -> f64
+    requires { (n < 2 ^ 116) × (k ≤ 1085) }
+    ensures { result ≡ nearest_ratio (pos n) (2 ^ k) }
 {
-    let Wide { hi, lo } = n;
-    if hi == 0 {
-        return nearest_quotient(lo, k);
+    let low = (n % 0x1_0000_0000_0000_0000) as u64;
+    if n < 0x1_0000_0000_0000_0000 {
+        return nearest_quotient(low, k);
     }
-    let dropped = 75 - hi.leading_zeros();
+    let dropped = 75 - n.leading_zeros();
     let unit = 1u64 << dropped;
-    let kept = nearer(shifted_right(n, dropped).lo, lo % unit, unit);
+    let kept = nearer((n >> dropped) as u64, low % unit, unit);
     f64::from_bits((1074 + dropped as u64 - k) * 0x10_0000_0000_0000 + kept)
 }
 
@@ -153,7 +151,7 @@ pub fn nearest_to_digits(whole: u32, part: u64) -> f64
     ensures { result ≡ nearest_ratio (pos (whole * 2 ^ places + part)) (2 ^ places) }
 {
     let digits = u128::from(whole) * u128::from(WHOLE) + u128::from(part);
-    nearest_wide_quotient(Wide::from(digits), DIGITS)
+    nearest_wide_quotient(digits, DIGITS)
 }
 
 // The double nearest to m * 2^e.

@@ -15,10 +15,3 @@ pub struct Word {
     pub whole: u32,
     pub part: u64,
 }
-
-// What `log_word` answers: the word of a positive finite double, and of no other.
-#[derive(Clone, Copy)]
-pub enum Logarithm {
-    Defined(Word),
-    Undefined,
-}

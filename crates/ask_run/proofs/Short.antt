@@ -2,9 +2,9 @@
 use Rattle.std.specs.Prelude.{None, Option, Some}
 use Rattle.trim.specs.declared.changes.Turn.{Turn}
 use Rattle.arithmetic.proofs.Kit.{◌≡◌, refl, Bool, true, false, ◌||◌, ◌&&◌, cond, List, [], ◌∷◌, ◌++◌, ℕ, zero, suc, ◌*◌, ◌≤◌, mul-suc, arith, leb-true, ltb-false, ltb, leb, eqb, lit≤, Float, binary64, to_bits, is_nan, length, get_or, length-append}
+use Rattle.std.proofs.Common.{Option, Some, None}
 use Rattle.arithmetic.specs.Places.{places}
-use Rattle.arithmetic.specs.declared.word.Logarithm.{Logarithm}
-use Rattle.arithmetic.specs.declared.word.Logarithm.TheVariants.{Defined, Undefined}
+use Rattle.arithmetic.specs.declared.word.Word.{Word}
 use Rattle.antilog.specs.Log.{logarithm}
 use Rattle.refusal.specs.Outcomes.{Outcome, accepted, refused}
 use Rattle.refusal.specs.declared.judge.Figures.{Figures}
@@ -135,13 +135,13 @@ inverse_line_lem (accepted s) few =
     up (both (both (both (both (pieces.whole (ascii "accepted")) (next s.altitude_m)) (next s.temperature_c)) (next s.pressure_hpa)) line) (lit≤ tt)
 inverse_line_lem (refused n values) few = up (refused-short n values few) (lit≤ tt)
 
-log_line_lem : (l : Logarithm) → length (log_line l) ≤ 4096
-log_line_lem (Defined w) = words-line _ _
-log_line_lem Undefined = lit≤ tt
+log_line_lem : (l : Option Word) → length (log_line l) ≤ 4096
+log_line_lem (Some w) = words-line _ _
+log_line_lem None = lit≤ tt
 
-word_line_lem : (l : Logarithm) → length (word_line l) ≤ 4096
-word_line_lem (Defined w) = value_line_lem _
-word_line_lem Undefined = lit≤ tt
+word_line_lem : (l : Option Word) → length (word_line l) ≤ 4096
+word_line_lem (Some w) = value_line_lem _
+word_line_lem None = lit≤ tt
 
 shown_line_lem : (t : List ℕ) → length (shown_line t) ≤ 4096
 unfolding shown_line

@@ -11,23 +11,11 @@ module _ (s : List ℕ) (i : ℕ) (within : i < length s) where
   head_at : drop i s ≡ get_or s i 0 ∷ drop (i + 1) s
   head_at = drop-cons s i 0 within ∙ ap (λ (k : ℕ). get_or s i 0 ∷ drop k s) (sym (add-one i))
 
-  pub one_more : is_digit (get_or s i 0) ≡ true → digits_in (drop i s) ≡ suc (digits_in (drop (i + 1) s))
-  unfolding digits_in
-  one_more is = ap digits_in head_at ∙ ap (λ (b : Bool). cond b (suc (digits_in (drop (i + 1) s))) 0) is
-
-  pub no_more : is_digit (get_or s i 0) ≡ false → digits_in (drop i s) ≡ 0
-  unfolding digits_in
-  no_more is = ap digits_in head_at ∙ ap (λ (b : Bool). cond b (suc (digits_in (drop (i + 1) s))) 0) is
-
   pub number_at : (n : ℕ) → number_from n (drop i s) ≡ number_from (n * 10 + (get_or s i 0 - 48)) (drop (i + 1) s)
   unfolding number_from
   number_at n = ap (number_from n) head_at
 
 -- at the text's end there is nothing left
-pub none_left : (s : List ℕ) (i : ℕ) → length s ≤ i → digits_in (drop i s) ≡ 0
-unfolding digits_in
-none_left s i h = ap digits_in (drop_of_length-le s h)
-
 pub all_spelt : (n : ℕ) (s : List ℕ) (i : ℕ) → length s ≤ i → number_from n (drop i s) ≡ n
 unfolding number_from
 all_spelt n s i h = ap (number_from n) (drop_of_length-le s h)

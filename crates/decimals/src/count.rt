@@ -9,13 +9,7 @@ pub(crate) fn power_of_ten(k: u32) -> u64
     requires { k ≤ 15 }
     ensures { result ≡ 10 ^ k }
 {
-    let mut power = 1;
-    let mut i = 0;
-    while i < k {
-        power *= 10;
-        i += 1;
-    }
-    power
+    10u64.pow(k)
 }
 
 // q * 2^k units of 2^-1074, times s, to the nearest whole number, a half up; 2^63 stands for every

@@ -17,6 +17,11 @@ pub infinite-positive : (p : ℕ) (e : Exponent) → infinity_or_zero e.negative
 unfolding power
 infinite-positive p e = refl
 
+-- where it is not both negative and to the power 3
+pub infinite-else : (p : ℕ) (e : Exponent) (s : Bool) → (s ≡ true → is_three e ≡ false) → infinity_or_zero e.negative ≡ power p e (inf s)
+infinite-else p e true h = infinite-other p e (h refl)
+infinite-else p e false h = infinite-positive p e
+
 zero-by : (b : Bool) → infinity_or_zero (not b) ≡ cond b (inf false) (fin false 0 (pos 0))
 zero-by true = refl
 zero-by false = refl
@@ -32,6 +37,10 @@ zero-other p e t = zero-by e.negative ∙ sym (ap (λ (b : Bool). cond b (fin tr
 pub zero-positive : (p : ℕ) (e : Exponent) → infinity_or_zero (not e.negative) ≡ power p e (fin false 0 (pos 0))
 unfolding power
 zero-positive p e = zero-by e.negative
+
+pub zero-else : (p : ℕ) (e : Exponent) (s : Bool) → (s ≡ true → is_three e ≡ false) → infinity_or_zero (not e.negative) ≡ power p e (fin s 0 (pos 0))
+zero-else p e true h = zero-other p e (h refl)
+zero-else p e false h = zero-positive p e
 
 module _ (p : ℕ) (e : Exponent) (q k : ℕ) (some : 0 < q) where
   pub finite-positive : positive_power p e (odd 53 false q k 1074) ≡ power p e (odd 53 false q k 1074)

@@ -2,11 +2,10 @@
 // check is what an answer may rest on.
 mod table;
 
-ghost use Rattle.std.specs.Prelude.{◌≡◌, ℕ, ◌*◌, ◌^◌, ◌<◌, true};
-ghost use Rattle.antilog.specs.Log.{mantissa_of};
-ghost use Rattle.antilog.specs.Among.{WithinTwo};
+ghost use Rattle.elementary.specs.Base.{Neared};
 
 use crate::guess::table::{logarithm, reciprocal};
+use crate::log::Units;
 use antilog::near_bits::within_two;
 use arithmetic::wide::product;
 use std::num::{wrapping_add_u64, wrapping_sub_u64};
@@ -50,22 +49,12 @@ fn guessed_logarithm(m: u64) -> u64 {
     wrapping_sub_u64(above, upper(upper(w, w), second) >> 12)
 }
 
-// Bits that the logarithm of a mantissa lies from to two more, where they are known to.
-#[derive(Clone, Copy)]
-pub(crate) struct Near {
-    pub known: bool,
-    pub bits: u64,
-}
-
-// Of q * 2^k units, for every k: mostly the bits lie a unit or so above those that are guessed.
-pub(crate) fn near_bits(q: u64) -> Near
-    requires { (0 < q) × (q < 2 ^ 53) }
-    ensures { result.known ≡ true → (k : ℕ) → WithinTwo (mantissa_of (q * 2 ^ k)) result.bits }
+// Bits that the log bits lie from to two more, where they are known to: mostly a unit or so above those
+// that are guessed.
+pub(crate) fn near_bits(units: Units) -> Option<u64>
+    ensures { Neared units.q units.k result }
 {
-    let m = q << (u64::leading_zeros(q) - 1);
+    let m = units.q << (u64::leading_zeros(units.q) - 1);
     let bits = wrapping_sub_u64(guessed_logarithm(2 * m), 23) >> 4;
-    Near {
-        known: within_two(m, bits),
-        bits,
-    }
+    within_two(m, bits).then_some(bits)
 }

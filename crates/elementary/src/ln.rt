@@ -3,11 +3,10 @@ ghost use Rattle.std.specs.Prelude.{◌≡◌, ◌+◌, ◌^◌, ◌<◌, false}
 ghost use Rattle.std.specs.Float.Ieee.{odd};
 ghost use Rattle.arithmetic.specs.Whole.{word_value};
 ghost use Rattle.arithmetic.specs.Nearest.{nearest_ratio};
-ghost use Rattle.arithmetic.specs.Parts.{Digits};
 ghost use Rattle.elementary.specs.Ln.{ln_positive, ln};
 ghost use Rattle.arithmetic.specs.Places.{places};
 
-use super::log::log_of_digits;
+use super::log::Units;
 use super::multiples::times;
 use arithmetic::double::Parts;
 use arithmetic::nearest::{nearest_to_digits, take_apart};
@@ -28,12 +27,11 @@ fn nearest_to_word(w: Word) -> f64
     }
 }
 
-// The logarithm of q * 2^k units of 2^-1074.
-fn positive_ln(q: u64, k: u32) -> f64
-    requires { Digits q k }
-    ensures { result ≡ ln_positive places (odd 53 false q k 1074) }
+// The logarithm of a positive double, by its units.
+fn positive_ln(units: Units) -> f64
+    ensures { result ≡ ln_positive places (odd 53 false units.q units.k 1074) }
 {
-    nearest_to_word(times(log_of_digits(q, k), LN_2, 62))
+    nearest_to_word(times(units.log(), LN_2, 62))
 }
 
 // The natural logarithm, by the whole-number rule.
@@ -42,14 +40,10 @@ pub fn ln(x: f64) -> f64
 {
     match take_apart(x) {
         Parts::NotANumber => x,
-        Parts::Infinite(negative) => { if negative { 0.0 / 0.0 } else { x } }
+        Parts::Infinite(false) => x,
+        Parts::Infinite(true) => 0.0 / 0.0,
         Parts::Zero(_) => f64::from_bits(0xFFF0_0000_0000_0000),
-        Parts::Finite(negative, q, k) => {
-            if negative {
-                0.0 / 0.0
-            } else {
-                positive_ln(q, k)
-            }
-        }
+        Parts::Finite(false, q, k) => positive_ln(Units { q, k }),
+        Parts::Finite(true, _, _) => 0.0 / 0.0,
     }
 }

@@ -3,13 +3,12 @@
 ghost use Rattle.std.specs.Prelude.{◌≡◌, ◌+◌, ◌*◌, ◌/◌, ◌^◌, ◌<◌, ◌≤◌};
 ghost use Rattle.arithmetic.specs.Whole.{as_word};
 ghost use Rattle.antilog.specs.Log.{log_bits, word_with, word_of_units, logarithm};
-ghost use Rattle.arithmetic.specs.Parts.{Digits};
 ghost use Rattle.arithmetic.specs.Places.{places};
 
 use arithmetic::double::Parts;
 use arithmetic::nearest::take_apart;
 use arithmetic::wide::product;
-use arithmetic::word::{Logarithm, ONES, PLACES, Word};
+use arithmetic::word::{ONES, PLACES, Word};
 
 // floor(m * m / 2^62): the upper word of the square of 2 m, with nothing to shift.
 fn squared(m: u64) -> u64
@@ -29,60 +28,65 @@ fn log_bits(m: u64) -> u64
 {
     let mut mantissa = m;
     let mut bits = 0u64;
-    let mut left = PLACES;
-    while 0 < left {
+    for _ in 0..PLACES {
         let square = squared(mantissa);
         let bit = square / 0x8000_0000_0000_0000;
         mantissa = square >> bit;
         bits = bits * 2 + bit;
-        left -= 1;
     }
     bits
 }
 
-// The word of a number of q * 2^k units of 2^-1074 with these bits for those of its logarithm.
-pub(crate) fn word_with(q: u64, k: u32, bits: u64) -> Word
-    requires { Digits q k × (bits < 2 ^ places) }
-    ensures { (result ≡ as_word places (word_with places (q * 2 ^ k) bits)) × (result.whole < 2 ^ 11) }
-{
-    let highest = 63 - u64::leading_zeros(q) + k;
-    if 1074 <= highest {
-        Word {
-            negative: false,
-            whole: highest - 1074,
-            part: bits,
+// The size of a finite double that is not zero: q * 2^k units of 2^-1074.
+#[derive(Clone, Copy)]
+pub(crate) struct Units {
+    pub q: u64,
+    pub k: u32,
+    ghost positive: { 0 < q },
+    ghost short: { q < 2 ^ 53 },
+    ghost exponent: { k ≤ 2045 },
+    ghost full: { 0 < k → 2 ^ 52 ≤ q },
+}
+
+impl Units {
+    // The word with these bits for those of the logarithm.
+    pub(crate) fn word_with(self, bits: u64) -> Word
+        requires { bits < 2 ^ places }
+        ensures { (result ≡ as_word places (word_with places (self.q * 2 ^ self.k) bits)) × (result.whole < 2 ^ 11) }
+    {
+        let highest = 63 - u64::leading_zeros(self.q) + self.k;
+        if 1074 <= highest {
+            Word {
+                negative: false,
+                whole: highest - 1074,
+                part: bits,
+            }
+        } else {
+            Word {
+                negative: true,
+                whole: 1073 - highest,
+                part: ONES - bits,
+            }
         }
-    } else {
-        Word {
-            negative: true,
-            whole: 1073 - highest,
-            part: ONES - bits,
-        }
+    }
+
+    // The log word.
+    pub(crate) fn log(self) -> Word
+        ensures { (result ≡ as_word places (word_of_units places (self.q * 2 ^ self.k))) × (result.whole < 2 ^ 11) }
+    {
+        self.word_with(log_bits(self.q << (u64::leading_zeros(self.q) - 1)))
     }
 }
 
-// The log word of q * 2^k units of 2^-1074.
-pub(crate) fn log_of_digits(q: u64, k: u32) -> Word
-    requires { Digits q k }
-    ensures { (result ≡ as_word places (word_of_units places (q * 2 ^ k))) × (result.whole < 2 ^ 11) }
-{
-    word_with(q, k, log_bits(q << (u64::leading_zeros(q) - 1)))
-}
-
 // The log word of x, or that it has none: x is not positive and finite.
-pub fn log_word(x: f64) -> Logarithm
+pub fn log_word(x: f64) -> Option<Word>
     ensures { result ≡ logarithm places x }
 {
     match take_apart(x) {
-        Parts::Finite(negative, q, k) => {
-            if negative {
-                Logarithm::Undefined
-            } else {
-                Logarithm::Defined(log_of_digits(q, k))
-            }
-        }
-        Parts::NotANumber => Logarithm::Undefined,
-        Parts::Infinite(_) => Logarithm::Undefined,
-        Parts::Zero(_) => Logarithm::Undefined,
+        Parts::Finite(false, q, k) => Some(Units { q, k }.log()),
+        Parts::Finite(true, _, _) => None,
+        Parts::NotANumber => None,
+        Parts::Infinite(_) => None,
+        Parts::Zero(_) => None,
     }
 }

@@ -11,41 +11,17 @@ pub(crate) fn opposite(w: Word) -> Word
     requires { (w.whole < 2 ^ 31) × (w.part < 2 ^ places) }
     ensures { result ≡ as_word places (neg_ℤ (word_value places w)) }
 {
-    let negative = w.negative;
-    let whole = w.whole;
-    let part = w.part;
-    if negative {
-        if part == ONES {
-            Word {
-                negative: false,
-                whole: whole + 1,
-                part: 0,
-            }
-        } else {
-            Word {
-                negative: false,
-                whole,
-                part: part + 1,
-            }
-        }
-    } else if 0 < part {
-        Word {
-            negative: true,
-            whole,
-            part: part - 1,
-        }
-    } else if 0 < whole {
-        Word {
-            negative: true,
-            whole: whole - 1,
-            part: ONES,
-        }
-    } else {
-        Word {
-            negative: false,
-            whole: 0,
-            part: 0,
-        }
+    let (negative, whole, part) = match (w.negative, w.whole, w.part) {
+        (true, whole, ONES) => (false, whole + 1, 0),
+        (true, whole, part) => (false, whole, part + 1),
+        (false, 0, 0) => (false, 0, 0),
+        (false, whole, 0) => (true, whole - 1, ONES),
+        (false, whole, part) => (true, whole, part - 1),
+    };
+    Word {
+        negative,
+        whole,
+        part,
     }
 }
 

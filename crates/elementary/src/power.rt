@@ -1,8 +1,7 @@
 // A double to the power of one of the source's exponents, which are picked by their numbers.
-ghost use Rattle.std.specs.Prelude.{◌≡◌, ◌*◌, ◌^◌, ◌<◌, true, false, [], ◌∷◌, pos};
+ghost use Rattle.std.specs.Prelude.{◌≡◌, ◌*◌, ◌^◌, ◌<◌, false, [], ◌∷◌, pos, IfSome};
 ghost use Rattle.std.specs.Float.{inf, fin};
 ghost use Rattle.std.specs.Float.Ieee.{odd};
-ghost use Rattle.arithmetic.specs.Parts.{Digits};
 ghost use Rattle.antilog.specs.Log.{mantissa_of};
 ghost use Rattle.antilog.specs.Among.{WithinTwo};
 ghost use Rattle.elementary.specs.Base.{Neared, IsBase};
@@ -10,10 +9,10 @@ ghost use Rattle.elementary.specs.Exponents.{exponent_at};
 ghost use Rattle.elementary.specs.Power.{infinity_or_zero, positive_power, power, power_at};
 ghost use Rattle.arithmetic.specs.Places.{places};
 
-use super::guess::{Near, near_bits};
-use super::log::{log_of_digits, word_with};
+use super::guess::near_bits;
+use super::log::Units;
 use super::multiples::{opposite, times};
-use antilog::antilog::{Among, antilog, antilog_among};
+use antilog::antilog::{antilog, antilog_among};
 use arithmetic::double::Parts;
 use arithmetic::nearest::take_apart;
 
@@ -84,14 +83,12 @@ fn is_negative(number: usize) -> bool
     NEGATIVE[number]
 }
 
-// A positive finite base, q * 2^k units of 2^-1074: the antilog of floor(L * exponent), L being its log
-// word.
-fn squared_power(q: u64, k: u32, number: usize) -> f64
-    requires digits { Digits q k }
-    requires number_bound { number < 27 }
-    ensures { result ≡ positive_power places (exponent_at number) (odd 53 false q k 1074) }
+// A positive finite base, by its units: the antilog of floor(L * exponent), L being its log word.
+fn squared_power(units: Units, number: usize) -> f64
+    requires { number < 27 }
+    ensures { result ≡ positive_power places (exponent_at number) (odd 53 false units.q units.k 1074) }
 {
-    let log = log_of_digits(q, k);
+    let log = units.log();
     let word = if is_negative(number) {
         opposite(log)
     } else {
@@ -100,35 +97,33 @@ fn squared_power(q: u64, k: u32, number: usize) -> f64
     antilog(times(word, magnitude(number), 58))
 }
 
-// The same from the log word's bits but for two units: two units of L move floor(L * exponent) by twice
-// the exponent and one at most.
-fn near_power(q: u64, k: u32, bits: u64, number: usize) -> Among
-    requires digits { Digits q k × WithinTwo (mantissa_of (q * 2 ^ k)) bits }
+// The same, where the bits near those of its logarithm decide it.
+fn near_power(units: Units, bits: u64, number: usize) -> Option<f64>
+    requires bits { WithinTwo (mantissa_of (units.q * 2 ^ units.k)) bits }
     requires number_bound { number < 27 }
-    ensures { result.known ≡ true → result.value ≡ positive_power places (exponent_at number) (odd 53 false q k 1074) }
+    ensures { IfSome result (λ value. value ≡ positive_power places (exponent_at number) (odd 53 false units.q units.k 1074)) }
 {
     let least = if is_negative(number) {
-        opposite(word_with(q, k, bits + 2))
+        opposite(units.word_with(bits + 2))
     } else {
-        word_with(q, k, bits)
+        units.word_with(bits)
     };
     let factor = magnitude(number);
     antilog_among(times(least, factor, 58), (factor >> 57) + 1)
 }
 
 // The same: sixty squarings are taken only where the bits, guessed and checked, leave the power open.
-fn positive_power(q: u64, k: u32, near: Near, number: usize) -> f64
-    requires digits { Digits q k × Neared q k near }
+fn positive_power(units: Units, near: Option<u64>, number: usize) -> f64
+    requires near { Neared units.q units.k near }
     requires number_bound { number < 27 }
-    ensures { result ≡ positive_power places (exponent_at number) (odd 53 false q k 1074) }
+    ensures { result ≡ positive_power places (exponent_at number) (odd 53 false units.q units.k 1074) }
 {
-    if near.known {
-        let quick = near_power(q, k, near.bits, number);
-        if quick.known {
-            return quick.value;
-        }
+    if let Some(bits) = near
+        && let Some(value) = near_power(units, bits, number)
+    {
+        return value;
     }
-    squared_power(q, k, number)
+    squared_power(units, number)
 }
 
 // An infinite base.
@@ -136,11 +131,8 @@ fn infinite_power(negative: bool, number: usize) -> f64
     requires { number < 27 }
     ensures { result ≡ power places (exponent_at number) (inf negative) }
 {
-    if negative {
-        if number == THREE {
-            return -infinity_or_zero(false);
-        }
-        return infinity_or_zero(is_negative(number));
+    if negative && number == THREE {
+        return -infinity_or_zero(false);
     }
     infinity_or_zero(is_negative(number))
 }
@@ -150,67 +142,44 @@ fn zero_power(negative: bool, number: usize) -> f64
     requires { number < 27 }
     ensures { result ≡ power places (exponent_at number) (fin negative 0 (pos 0)) }
 {
-    if negative {
-        if number == THREE {
-            return -infinity_or_zero(true);
-        }
-        return infinity_or_zero(!is_negative(number));
+    if negative && number == THREE {
+        return -infinity_or_zero(true);
     }
     infinity_or_zero(!is_negative(number))
 }
 
-// A finite base that is not zero, q * 2^k units of 2^-1074 in size.
-fn finite_power(negative: bool, q: u64, k: u32, near: Near, number: usize) -> f64
-    requires digits { Digits q k × Neared q k near }
+// A finite base that is not zero.
+fn finite_power(negative: bool, units: Units, near: Option<u64>, number: usize) -> f64
+    requires near { Neared units.q units.k near }
     requires number_bound { number < 27 }
-    ensures { result ≡ power places (exponent_at number) (odd 53 negative q k 1074) }
+    ensures { result ≡ power places (exponent_at number) (odd 53 negative units.q units.k 1074) }
 {
-    if negative {
-        if number == THREE {
-            return -positive_power(q, k, near, number);
-        }
-        if number == FOUR {
-            return positive_power(q, k, near, number);
-        }
-        return 0.0 / 0.0;
+    if !negative {
+        return positive_power(units, near, number);
     }
-    positive_power(q, k, near, number)
+    match number {
+        THREE => -positive_power(units, near, number),
+        FOUR => positive_power(units, near, number),
+        _ => 0.0 / 0.0,
+    }
 }
 
 // A double taken apart, with the bits near those of its size's logarithm where it is finite and not zero.
 #[derive(Clone, Copy)]
 struct Base {
     parts: Parts,
-    near: Near,
+    near: Option<u64>,
 }
-
-const UNKNOWN: Near = Near {
-    known: false,
-    bits: 0,
-};
 
 fn base_of(x: f64) -> Base
     ensures { IsBase x result }
 {
     let parts = take_apart(x);
-    match parts {
-        Parts::Finite(_, q, _) => Base {
-            parts,
-            near: near_bits(q),
-        },
-        Parts::NotANumber => Base {
-            parts,
-            near: UNKNOWN,
-        },
-        Parts::Infinite(_) => Base {
-            parts,
-            near: UNKNOWN,
-        },
-        Parts::Zero(_) => Base {
-            parts,
-            near: UNKNOWN,
-        },
-    }
+    let near = match parts {
+        Parts::Finite(_, q, k) => near_bits(Units { q, k }),
+        _ => None,
+    };
+    Base { parts, near }
 }
 
 // x to the power of the exponent of that number, x being taken apart.
@@ -221,13 +190,13 @@ fn base_power(x: f64, base: Base, number: usize) -> f64
     if number >= 27 {
         return 0.0 / 0.0;
     }
-    let parts = base.parts;
-    let near = base.near;
-    match parts {
+    match base.parts {
         Parts::NotANumber => x,
         Parts::Infinite(negative) => infinite_power(negative, number),
         Parts::Zero(negative) => zero_power(negative, number),
-        Parts::Finite(negative, q, k) => finite_power(negative, q, k, near, number),
+        Parts::Finite(negative, q, k) => {
+            finite_power(negative, Units { q, k }, base.near, number)
+        }
     }
 }
 
@@ -243,11 +212,5 @@ pub fn five_powers(x: f64, a: usize, b: usize, c: usize, d: usize, e: usize) -> 
     ensures { result ≡ power_at places a x ∷ power_at places b x ∷ power_at places c x ∷ power_at places d x ∷ power_at places e x ∷ [] }
 {
     let base = base_of(x);
-    [
-        base_power(x, base, a),
-        base_power(x, base, b),
-        base_power(x, base, c),
-        base_power(x, base, d),
-        base_power(x, base, e),
-    ]
+    [a, b, c, d, e].map(|number| base_power(x, base, number))
 }

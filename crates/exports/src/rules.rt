@@ -9,7 +9,7 @@ ghost use Rattle.elementary.specs.Power.{power_at};
 ghost use Rattle.exports.specs.Words.{word_of_numbers, is_defined, word_or};
 
 use antilog::antilog::antilog;
-use arithmetic::word::{Logarithm, Word};
+use arithmetic::word::Word;
 use elementary::log::log_word;
 use elementary::power::power;
 
@@ -20,13 +20,13 @@ pub fn station_air_log_word(x: f64, negative: &mut bool, whole: &mut u32, part: 
         ≡ word_or (word_of_numbers negative.old whole.old part.old) (logarithm places x) }
 {
     match log_word(x) {
-        Logarithm::Defined(w) => {
+        Some(w) => {
             *negative = w.negative;
             *whole = w.whole;
             *part = w.part;
             true
         }
-        Logarithm::Undefined => false,
+        None => false,
     }
 }
 

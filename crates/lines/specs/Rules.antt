@@ -1,11 +1,9 @@
 -- The functions by whole numbers alone, by the words of their line. A log word is two words: its whole part in two's complement, and what is left of it, below
 -- 2^60. Definitions only.
-use Rattle.std.specs.Prelude.{ℕ, ◌-◌, ◌^◌, true, false, cond, List, [], ltb, leb, get_or}
+use Rattle.std.specs.Prelude.{ℕ, ◌-◌, ◌^◌, true, false, cond, List, [], ltb, leb, get_or, Option, Some, None}
 use Rattle.arithmetic.specs.Places.{places}
 use Rattle.arithmetic.specs.Whole.{word_value}
 use Rattle.arithmetic.specs.declared.word.Word.{Word}
-use Rattle.arithmetic.specs.declared.word.Logarithm.{Logarithm}
-use Rattle.arithmetic.specs.declared.word.Logarithm.TheVariants.{Defined, Undefined}
 use Rattle.antilog.specs.Log.{logarithm}
 use Rattle.antilog.specs.Antilog.{antilog}
 use Rattle.arithmetic.specs.Value.{value}
@@ -25,23 +23,23 @@ whole_of w = cond w.negative (2 ^ 64 - 1 - w.whole) w.whole
 abbrev pub part_of : Word → ℕ
 part_of w = cond w.negative (2 ^ 60 - 1 - w.part) w.part
 
-abbrev pub log_line : Logarithm → List ℕ
-log_line (Defined w) = hex_pair_line (whole_of w) (part_of w)
-log_line Undefined = ascii "none\n"
+abbrev pub log_line : Option Word → List ℕ
+log_line (Some w) = hex_pair_line (whole_of w) (part_of w)
+log_line None = ascii "none\n"
 
 unfoldable pub log_answer : List (List ℕ) → List ℕ
 log_answer ws = log_line (logarithm places (double_in (get_or ws 1 [])))
 
 -- ---- and back
-abbrev pub log_word_of : ℕ → ℕ → Logarithm
+abbrev pub log_word_of : ℕ → ℕ → Option Word
 log_word_of k f =
-    cond (ltb (2 ^ 60 - 1) f) Undefined
-    (cond (ltb k (2 ^ 32)) (Defined (record { negative = false; whole = k; part = f }))
-    (cond (leb (2 ^ 64 - 2 ^ 32) k) (Defined (record { negative = true; whole = 2 ^ 64 - 1 - k; part = 2 ^ 60 - 1 - f })) Undefined))
+    cond (ltb (2 ^ 60 - 1) f) None
+    (cond (ltb k (2 ^ 32)) (Some (record { negative = false; whole = k; part = f }))
+    (cond (leb (2 ^ 64 - 2 ^ 32) k) (Some (record { negative = true; whole = 2 ^ 64 - 1 - k; part = 2 ^ 60 - 1 - f })) None))
 
-abbrev pub word_line : Logarithm → List ℕ
-word_line (Defined w) = value_line (antilog places (word_value places w))
-word_line Undefined = ascii "wrong arguments: expected antilog WORD WORD, FFFFFFFF00000000 to 00000000FFFFFFFF and below 1000000000000000\n"
+abbrev pub word_line : Option Word → List ℕ
+word_line (Some w) = value_line (antilog places (word_value places w))
+word_line None = ascii "wrong arguments: expected antilog WORD WORD, FFFFFFFF00000000 to 00000000FFFFFFFF and below 1000000000000000\n"
 
 unfoldable pub antilog_answer : List (List ℕ) → List ℕ
 antilog_answer ws = word_line (log_word_of (word_argument ws 1) (word_argument ws 2))

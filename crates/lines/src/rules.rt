@@ -7,7 +7,7 @@ ghost use Rattle.lines.specs.Rules.{whole_of, part_of, log_line, log_answer, log
 use crate::texts::{put_value_line, put_words};
 use antilog::antilog::antilog;
 use arithmetic::wide::Wide;
-use arithmetic::word::{Logarithm, ONES, Word};
+use arithmetic::word::{ONES, Word};
 use elementary::log::log_word;
 use pages::Page;
 use questions::arguments::{double_at, word_at};
@@ -35,16 +35,16 @@ fn part_of(w: Word) -> u64
     }
 }
 
-fn put_logarithm(page: &mut Page<'_>, logarithm: Logarithm)
+fn put_logarithm(page: &mut Page<'_>, logarithm: Option<Word>)
     ensures { page.new ≡ put page.old (log_line logarithm) }
 {
     match logarithm {
-        Logarithm::Defined(w) => {
+        Some(w) => {
             let whole = whole_of(w);
             let part = part_of(w);
             put_words(page, whole, part)
         }
-        Logarithm::Undefined => page.put(b"none\n"),
+        None => page.put(b"none\n"),
     }
 }
 
@@ -57,35 +57,35 @@ pub(crate) fn put_log_word(page: &mut Page<'_>, line: &[u8])
 
 // A word by its whole part in two's complement and what is left of it; none where the one is past 32 bits or
 // the other past 60.
-fn word_of(k: u64, f: u64) -> Logarithm
+fn word_of(k: u64, f: u64) -> Option<Word>
     ensures { result ≡ log_word_of k f }
 {
     if f > ONES {
-        return Logarithm::Undefined;
+        return None;
     }
     if k < 0x1_0000_0000 {
-        return Logarithm::Defined(Word {
+        return Some(Word {
             negative: false,
             whole: k as u32,
             part: f,
         });
     }
     if k >= 0xffff_ffff_0000_0000 {
-        return Logarithm::Defined(Word {
+        return Some(Word {
             negative: true,
             whole: (0xffff_ffff_ffff_ffff - k) as u32,
             part: ONES - f,
         });
     }
-    Logarithm::Undefined
+    None
 }
 
-fn put_power_of_two(page: &mut Page<'_>, word: Logarithm)
+fn put_power_of_two(page: &mut Page<'_>, word: Option<Word>)
     ensures { page.new ≡ put page.old (word_line word) }
 {
     match word {
-        Logarithm::Defined(w) => put_value_line(page, antilog(w)),
-        Logarithm::Undefined => page.put(
+        Some(w) => put_value_line(page, antilog(w)),
+        None => page.put(
             b"wrong arguments: expected antilog WORD WORD, FFFFFFFF00000000 to 00000000FFFFFFFF and below 1000000000000000\n",
         ),
     }

@@ -53,7 +53,7 @@ unfolding of_bits
 dry = record { zero = λ t p. fraction false _ _ _; minus-zero = λ t p. fraction true _ _ _ }
 
 -- ---- 14 is not answered with 06
-pub absent : (e : (Option Float)) → is_some e ≡ false → e ≡ None
+pub absent : (e : Option Float) → is_some e ≡ false → e ≡ None
 absent None h = refl
 absent (Some x) h = absurd (true≢false h)
 
@@ -67,7 +67,7 @@ without-append n (r ∷ xs) ys = go (eqb r.number n) (without-append n xs ys)
     go false e = ap (λ (l : List Row). r ∷ l) e
 
 -- neither the inverse nor a humidity has a row 14
-way_rows_lem : (r : Readings) (d : Float) (t h : (Option Float)) → let rows = station_rows places d (given_temperature t) ++ present humidity_rows h in without 14 rows ≡ rows
+way_rows_lem : (r : Readings) (d : Float) (t h : Option Float) → let rows = station_rows places d (given_temperature t) ++ present humidity_rows h in without 14 rows ≡ rows
 way_rows_lem r d None None = refl
 way_rows_lem r d None (Some h) = refl
 way_rows_lem r d (Some t) None = refl
@@ -76,7 +76,7 @@ way_rows_lem r d (Some t) (Some h) = refl
 air : (a : Resolved) (o : Outcome Figures) → a.humidity_percent ≡ value_or_zero None → (air_rows a then o) ≡ (without 14 (air_rows a) then o)
 air a o none = ap (λ (b : Bool). cond b (refused 14 []) (without 14 (air_rows a) then o)) (ap (λ (h : Float). lt one (mole_fraction_celsius places (shown_temperature a) (shown_pressure a) h)) none ∙ dry.zero _ _)
 
-by-entry : (r : Readings) (e : (Option Float)) → is_some e ≡ true → has r humidity ≡ false
+by-entry : (r : Readings) (e : Option Float) → is_some e ≡ true → has r humidity ≡ false
     → let rows = way_rows r e ++ air_rows (resolved_by r e) in let o = accepted (figures_of (resolved_by r e)) in (rows then o) ≡ (without 14 rows then o)
 by-entry r None h none = absurd (false≢true h)
 by-entry r (Some d) h none =

@@ -9,12 +9,12 @@ module _ (r q : Readings) (same : SameEntries r q) where
   same-clash : is_clash r ≡ is_clash q
   same-clash = rw (same altitude (omega arith), same station_pressure (omega arith), same qnh (omega arith), same density_altitude (omega arith), same measured_pressure (omega arith))
 
-  same_way : (e : (Option Float)) → way_rows r e ≡ way_rows q e
+  same_way : (e : Option Float) → way_rows r e ≡ way_rows q e
   same_way (Some d) = rw (same temperature (omega arith), same humidity (omega arith))
   same_way None =
       rw (same altitude (omega arith), same temperature (omega arith), same station_pressure (omega arith), same qnh (omega arith), same humidity (omega arith), same measured_pressure (omega arith))
 
-  same-resolved : (e : (Option Float)) → resolved_by r e ≡ resolved_by q e
+  same-resolved : (e : Option Float) → resolved_by r e ≡ resolved_by q e
   unfolding ordinary
   same-resolved (Some d) = rw (same temperature (omega arith), same humidity (omega arith))
   same-resolved None =
@@ -37,11 +37,11 @@ judged-by_entries r q same = ap₂ (λ (rows : List Row) (a : Resolved). rows th
 abbrev TestsFinite : (Float → List Row) → Type 0
 TestsFinite rows = (x : Float) → NoneHolds (rows x) → not (is_finite x) ≡ false
 
-finite_where : (rows : Float → List Row) → TestsFinite rows → (e : (Option Float)) → NoneHolds (present rows e) → FiniteEntry e
+finite_where : (rows : Float → List Row) → TestsFinite rows → (e : Option Float) → NoneHolds (present rows e) → FiniteEntry e
 finite_where rows test None h = tt
 finite_where rows test (Some x) h = not-false (is_finite x) (test x h)
 
-finite-absent : (e : (Option Float)) → is_some e ≡ false → FiniteEntry e
+finite-absent : (e : Option Float) → is_some e ≡ false → FiniteEntry e
 finite-absent None h = tt
 finite-absent (Some x) h = absurd (true≢false h)
 
@@ -98,13 +98,13 @@ module _ (r : Readings) (d : Float) (apart : is_clash r ≡ false) (none : NoneH
   up_to-station : (has r altitude || has r station_pressure) ≡ false
   up_to-station = (neither (has r altitude || has r station_pressure) (has r qnh) up_to-qnh).0
 
-  abbrev inverse-rows : (Option Float) → List Row
+  abbrev inverse-rows : Option Float → List Row
   inverse-rows t = station_rows places d (given_temperature t)
 
   none-inverse : NoneHolds (inverse-rows (entry_of r temperature))
   none-inverse = none_before (inverse-rows (entry_of r temperature)) (present humidity_rows (entry_of r humidity)) none
 
-  given-finite : (t : (Option Float)) → NoneHolds (inverse-rows t) → FiniteEntry t
+  given-finite : (t : Option Float) → NoneHolds (inverse-rows t) → FiniteEntry t
   given-finite None h = tt
   given-finite (Some t) h = not-false (is_finite t) h.1.0
 
@@ -120,7 +120,7 @@ module _ (r : Readings) (d : Float) (apart : is_clash r ≡ false) (none : NoneH
       finite-absent (entry_of r measured_pressure) (neither (has r altitude || has r station_pressure || has r qnh) (has r measured_pressure) others).1
   station-finite (suc (suc (suc (suc (suc (suc (suc m))))))) h = absurd (omega arith)
 
-by_way : (r : Readings) → is_clash r ≡ false → (e : (Option Float)) → entry_of r density_altitude ≡ e → NoneHolds (way_rows r e) → (m : ℕ) → m < meanings → FiniteEntry (entry_of r m)
+by_way : (r : Readings) → is_clash r ≡ false → (e : Option Float) → entry_of r density_altitude ≡ e → NoneHolds (way_rows r e) → (m : ℕ) → m < meanings → FiniteEntry (entry_of r m)
 by_way r apart None told none = ordinary-finite r none.1 told
 by_way r apart (Some d) told none = station-finite r d apart none told
 

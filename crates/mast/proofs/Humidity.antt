@@ -1,5 +1,5 @@
 -- Readings that differ only in humidity are shown as one station: nothing before the air looks at the humidity. Assumes nothing.
-use Rattle.mast.proofs.Kit.{◌≡◌, ap, ap₂, subst, subst₂, arith, places, accepted, exactly, Reading, resolve, Option, None, Some, Readings, altitude, temperature, station_pressure, qnh, density_altitude, measured_pressure, entry_of, Figures, Resolved, unmeasured_pressure, measured_or, pressure_of, resolved_temperature, resolved_pressure, given_temperature, ordinary, value_or_zero, shown_celsius, shown_hectopascals, figures_with, figures_of, reading_rows, resolved_by, resolved, judged}
+use Rattle.mast.proofs.Kit.{◌≡◌, ap, ap₂, subst, subst₂, arith, Float, places, accepted, exactly, Reading, resolve, Option, None, Some, Readings, altitude, temperature, station_pressure, qnh, density_altitude, measured_pressure, entry_of, Figures, Resolved, unmeasured_pressure, measured_or, pressure_of, resolved_temperature, resolved_pressure, given_temperature, ordinary, value_or_zero, shown_celsius, shown_hectopascals, figures_with, figures_of, reading_rows, resolved_by, resolved, judged}
 use Rattle.atmosphere.specs.declared.given.Reading.TheVariants.{Given}
 use Rattle.mast.proofs.Stated.{DifferOnlyInHumidity, SameStation}
 
@@ -19,7 +19,7 @@ module _ (r q : Readings) (same : DifferOnlyInHumidity r q) where
       let h = ap value_or_zero (same altitude (λ e. omega arith)) in
       record { altitudes = h; temperatures = ap₂ resolved_temperature (same temperature (λ e. omega arith)) h; pressures = ap₂ resolved_pressure same-pressure h }
 
-  by_way : (e : (Option Float)) → SameResolved (resolved_by r e) (resolved_by q e)
+  by_way : (e : Option Float) → SameResolved (resolved_by r e) (resolved_by q e)
   by_way None = same-ordinary
   by_way (Some d) =
       let given = ap given_temperature (same temperature (λ e. omega arith)) in
@@ -30,7 +30,7 @@ module _ (r q : Readings) (same : DifferOnlyInHumidity r q) where
       }
 
   same-resolved : SameResolved (resolved r) (resolved q)
-  same-resolved = subst (λ (e : (Option Float)). SameResolved (resolved r) (resolved_by q e)) (same density_altitude (λ e. omega arith)) (by_way (entry_of r density_altitude))
+  same-resolved = subst (λ (e : Option Float). SameResolved (resolved r) (resolved_by q e)) (same density_altitude (λ e. omega arith)) (by_way (entry_of r density_altitude))
 
 -- ---- the first three figures are those of what is resolved
 same-station : (a b : Resolved) → SameResolved a b → SameStation (figures_of a) (figures_of b)

@@ -5,14 +5,14 @@ pub use Rattle.arithmetic.proofs.Kit.{Bool, Float, List, [], ◌&&◌, ◌*◌, 
 pub use Rattle.arithmetic.specs.Decimals.{decimal, hundred, nought, one}
 pub use Rattle.arithmetic.specs.Places.{places}
 pub use Rattle.refusal.proofs.Rows.{Never, after_check, exactly, exactly-by, first-passed, never_both, never-refused, none_after, none_before, then_append, then_next, then-rows, then_same}
-pub use Rattle.refusal.specs.Outcomes.{Outcome, Row, ◌then◌, ◌⟫◌, accepted, numbers, passed, refused, row, outcome}
+pub use Rattle.refusal.specs.Outcomes.{Outcome, Row, ◌then◌, ◌⟫◌, accepted, numbers, outcome, passed, refusal, refused, row}
 pub use Rattle.refusal.specs.declared.judge.Figures.{Figures}
 pub use Rattle.atmosphere.specs.declared.given.Reading.{Reading}
 unfoldable pub use Rattle.density_altitude.specs.Inverse.{station}
 pub use Rattle.density_altitude.specs.Inverse.{resolve, station_rows, temperature_rows}
 pub use Rattle.fields.specs.Fields.{altitude, density_altitude, humidity, meanings, measured_pressure, qnh, size_of, station_pressure, temperature}
 pub use Rattle.record.specs.Entries.{entry_of, value_or_zero}
-pub use Rattle.record.specs.Readings.{outcome, read_record, read_rows, readings}
+pub use Rattle.record.specs.Readings.{read_record, read_rows, readings}
 pub use Rattle.record.specs.declared.entries.Readings.{Readings}
 unfoldable pub use Rattle.station.specs.Figures.{figures_with}
 pub use Rattle.station.specs.Figures.{figures_of, is_air, shown_celsius, shown_hectopascals, shown_pressure, shown_temperature, station_figures}

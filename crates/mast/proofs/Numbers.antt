@@ -5,7 +5,7 @@ use Rattle.record.proofs.Numbers.{fields-never}
 use Rattle.mast.proofs.Causes.{caused}
 
 module _ (k : ℕ) (h : 16 ≤ k) where
-  given : (rows : Float → List Row) → ((x : Float) → Never k (rows x)) → (e : (Option Float)) → Never k (present rows e)
+  given : (rows : Float → List Row) → ((x : Float) → Never k (rows x)) → (e : Option Float) → Never k (present rows e)
   given rows never None = tt
   given rows never (Some x) = never x
 
@@ -43,7 +43,7 @@ module _ (k : ℕ) (h : 16 ≤ k) where
       let five = never_both k (rows₁ ++ rows₂ ++ rows₃ ++ rows₄) rows₅ four (given humidity_rows humidity-never (entry_of r humidity)) in
       never_both k (rows₁ ++ rows₂ ++ rows₃ ++ rows₄ ++ rows₅) rows₇ five (pressures (entry_of r measured_pressure))
 
-  way_never : (r : Readings) (e : (Option Float)) → Never k (way_rows r e)
+  way_never : (r : Readings) (e : Option Float) → Never k (way_rows r e)
   way_never r (Some d) =
       let t = given_temperature (entry_of r temperature) in
       never_both k (station_rows places d t) (present humidity_rows (entry_of r humidity)) (station-never d t) (given humidity_rows humidity-never (entry_of r humidity))

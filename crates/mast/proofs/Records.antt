@@ -30,15 +30,15 @@ here-outside : (xs : List Row) (r : Row) (ys : List Row) → AllOutside (xs ++ r
 here-outside [] r ys h = h.0
 here-outside (x ∷ xs) r ys h = here-outside xs r ys h.1
 
-where_present : (rows : Float → List Row) → ((x : Float) → AllOutside (rows x)) → (e : (Option Float)) → AllOutside (present rows e)
+where_present : (rows : Float → List Row) → ((x : Float) → AllOutside (rows x)) → (e : Option Float) → AllOutside (present rows e)
 where_present rows h None = tt
 where_present rows h (Some x) = h x
 
-way_outside : (r : Readings) (e : (Option Float)) → AllOutside (way_rows r e)
+way_outside : (r : Readings) (e : Option Float) → AllOutside (way_rows r e)
 way_outside r (Some d) =
     both (station_rows places d (given_temperature (entry_of r temperature))) (present humidity_rows (entry_of r humidity)) (go (entry_of r temperature)) (where_present humidity_rows (λ x. omega arith) (entry_of r humidity))
   where
-    go : (t : (Option Float)) → AllOutside (station_rows places d (given_temperature t))
+    go : (t : Option Float) → AllOutside (station_rows places d (given_temperature t))
     go None = omega arith
     go (Some t) = omega arith
 way_outside r None =

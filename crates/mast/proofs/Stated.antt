@@ -24,7 +24,7 @@ AnyOrder = (s f g t : List ℕ) (r q : Readings) → read_record false s ≡ acc
 abbrev pub SameEntries : Readings → Readings → Type 0
 SameEntries r q = (m : ℕ) → m < meanings → entry_of r m ≡ entry_of q m
 
-abbrev pub FiniteEntry : (Option Float) → Type 0
+abbrev pub FiniteEntry : Option Float → Type 0
 FiniteEntry None = Unit {0}
 FiniteEntry (Some x) = is_finite x ≡ true
 

@@ -33,7 +33,7 @@ abbrev pub humidity_rows : Float → List Row
 humidity_rows h = finite_rows h ++ row (lt h nought || lt hundred h) 13 (h ∷ []) ∷ []
 
 -- ---- the values by rising tag, each where it is present: 01 to 05, and 07 after 05. 2 and 3 are those of a temperature
-abbrev pub present : (Float → List Row) → (Option Float) → List Row
+abbrev pub present : (Float → List Row) → Option Float → List Row
 present rows None = []
 present rows (Some x) = rows x
 

@@ -1,6 +1,6 @@
 -- The judge of a mast record, document 01: the figures, or the number of one refusal with its values, by a fixed order of checks. It takes any order of tags;
 -- document 02's strict one only rising tags. Definitions only.
-use Rattle.std.specs.Prelude.{ℕ, Bool, true, false, not, List, [], ◌∷◌, ◌++◌, None, Option, Some}
+use Rattle.std.specs.Prelude.{ℕ, Bool, true, false, not, List, [], ◌∷◌, ◌++◌, Float, None, Option, Some}
 use Rattle.std.specs.Float.Ieee.{lt}
 use Rattle.arithmetic.specs.Places.{places}
 use Rattle.arithmetic.specs.Decimals.{one}
@@ -29,11 +29,11 @@ unfoldable pub air_outcome : Resolved → Outcome Figures
 air_outcome a = air_rows a then accepted (figures_of a)
 
 -- ---- readings: with 06 they ask for a density altitude, where 1 to 4 are the inverse's and 05 is checked after them; without 06 for an altitude
-abbrev pub way_rows : Readings → (Option Float) → List Row
+abbrev pub way_rows : Readings → Option Float → List Row
 way_rows r (Some d) = station_rows places d (given_temperature (entry_of r temperature)) ++ present humidity_rows (entry_of r humidity)
 way_rows r None = ordinary_rows r
 
-abbrev pub resolved_by : Readings → (Option Float) → Resolved
+abbrev pub resolved_by : Readings → Option Float → Resolved
 resolved_by r (Some d) = at_station (resolve places d (given_temperature (entry_of r temperature))) r
 resolved_by r None = ordinary r
 

@@ -1,9 +1,8 @@
 // The judge: eight figures and their mark, or one refusal, by a fixed order of checks.
 ghost use Rattle.std.specs.Prelude.{None, Some, ◌≡◌};
 ghost use Rattle.fields.specs.Fields.{humidity};
-ghost use Rattle.refusal.specs.Outcomes.{◌⟫◌, ◌then◌, outcome};
+ghost use Rattle.refusal.specs.Outcomes.{◌then◌, outcome};
 ghost use Rattle.record.specs.Entries.{entry_of};
-ghost use Rattle.record.specs.Readings.{outcome};
 ghost use Rattle.mast.specs.Judge.{air_outcome, way_rows, resolved_by, judged, judge, judge_strictly};
 ghost use Rattle.mast.specs.Checks.{humidity_rows, present};
 ghost use Rattle.station.specs.Resolved.{at_station};
@@ -12,10 +11,10 @@ use crate::checks::{check_humidity, check_ordinary, is_clash};
 use density_altitude::inverse::station_for_density_altitude;
 use fields::fields::{DENSITY_ALTITUDE, HUMIDITY, TEMPERATURE};
 use record::entries::{Readings, entry_of};
-use record::readings::{Read, read_record, read_record_strictly};
+use record::readings::{read_record, read_record_strictly};
+use refusal::Refusal;
 use refusal::inverse::Station;
 use refusal::judge::Figures;
-use refusal::{Refusal, inverse};
 use station::figures::{figures_of, is_air};
 use station::resolved::{Resolved, at_station, given_temperature, ordinary};
 
@@ -39,20 +38,8 @@ pub fn answer_of(resolved: Resolved) -> Result<Figures, Refusal>
 fn ordinary_answer(readings: Readings) -> Result<Figures, Refusal>
     ensures { outcome result ≡ (way_rows readings None then air_outcome (resolved_by readings None)) }
 {
-    match check_ordinary(readings) {
-        Err(refusal) => Err(refusal),
-        Ok(()) => answer_of(ordinary(readings)),
-    }
-}
-
-// The inverse's station, with the humidity of the readings.
-fn humid_answer(station: Station, readings: Readings) -> Result<Figures, Refusal>
-    ensures { outcome result ≡ (present humidity_rows (entry_of readings humidity) then air_outcome (at_station station readings)) }
-{
-    match check_humidity(entry_of(readings, HUMIDITY)) {
-        Err(refusal) => Err(refusal),
-        Ok(()) => answer_of(at_station(station, readings)),
-    }
+    check_ordinary(readings)?;
+    answer_of(ordinary(readings))
 }
 
 // Readings with 06.
@@ -60,10 +47,9 @@ fn inverse_answer(density_altitude_m: f64, readings: Readings) -> Result<Figures
     ensures { outcome result ≡ (way_rows readings (Some density_altitude_m) then air_outcome (resolved_by readings (Some density_altitude_m))) }
 {
     let temperature = given_temperature(entry_of(readings, TEMPERATURE));
-    match station_for_density_altitude(density_altitude_m, temperature) {
-        Err(refusal) => Err(refusal),
-        Ok(station) => humid_answer(station, readings),
-    }
+    let station = station_for_density_altitude(density_altitude_m, temperature)?;
+    check_humidity(entry_of(readings, HUMIDITY))?;
+    answer_of(at_station(station, readings))
 }
 
 // What readings give: their figures and mark, or one refusal, a cause 1 to 4 or 9 to 15.
@@ -79,31 +65,18 @@ pub fn judge_readings(readings: Readings) -> Result<Figures, Refusal>
     }
 }
 
-// What was read of a record, judged: the reading's refusal, or what its readings give.
-fn judge_read(read: Read) -> Result<Figures, Refusal>
-    ensures { outcome result ≡ (outcome read ⟫ judged) }
-{
-    let check = read.check;
-    match check {
-        Err(refusal) => Err(refusal),
-        Ok(()) => judge_readings(read.readings),
-    }
-}
-
 // What the bytes of a record give, with its tags in any order: its figures and mark, or one refusal. The
 // record is left as it was.
 pub fn judge(bytes: &[u8]) -> Result<Figures, Refusal>
-    ensures judged { outcome result ≡ judge bytes.now }
-    ensures kept { bytes.now ≡ bytes.now }
+    ensures { outcome result ≡ judge bytes.now }
 {
-    judge_read(read_record(bytes))
+    judge_readings(read_record(bytes)?)
 }
 
 // What the bytes of a record give whose tags rise: its figures and mark, or one refusal, 19 where a tag is
 // below the one before it. The record is left as it was.
 pub fn judge_strictly(bytes: &[u8]) -> Result<Figures, Refusal>
-    ensures judged { outcome result ≡ judge_strictly bytes.now }
-    ensures kept { bytes.now ≡ bytes.now }
+    ensures { outcome result ≡ judge_strictly bytes.now }
 {
-    judge_read(read_record_strictly(bytes))
+    judge_readings(read_record_strictly(bytes)?)
 }

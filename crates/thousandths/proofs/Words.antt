@@ -1,5 +1,6 @@
 -- Two's complement: the counts from 0 up are their own words, and -(k + 1) has the word 2^32 - (k + 1). Assumes nothing.
-use Rattle.arithmetic.proofs.Kit.{◌≡◌, refl, ap, ◌∙◌, Bool, true, false, not, ℕ, zero, suc, ◌-◌, ◌%◌, ◌≤◌, ◌<◌, mod-eq_of_lt, arith, ℤ, pos, negsuc, T, leb, leb→le, le→leb, nleb→lt, w32, SFits, of_z, to_z, to_z-of_z, le-leb, lt-leb, lt-ltb}
+use Rattle.arithmetic.proofs.Kit.{◌≡◌, refl, sym, ap, subst, ◌∙◌, Bool, true, false, not, ℕ, zero, suc, ◌-◌, ◌≤◌, ◌<◌, arith, ℤ, pos, negsuc, T, leb, leb→le, le→leb, nleb→lt, w32, SFits, of_z, to_z, to_z-of_z, le-leb, lt-leb, lt-ltb}
+use mir.ValLaws.{to_z_pos, to_z-neg}
 use Rattle.arithmetic.specs.Whole.{signed}
 use Rattle.thousandths.specs.Thousandths.{in_range, count_of, twos_complement}
 use Rattle.thousandths.proofs.Sizes.{InRange}
@@ -28,14 +29,14 @@ by-halves P low high w h = go (leb w 2147483647) (leb→le w 2147483647) (nleb�
     go true l g = rw (count-below w (l tt)) (low w (l tt))
     go false l g = rw (count-above w (g tt) h) (high w (g tt) h)
 
--- ---- a size with a sign
-pub word-of_size : (n : ℕ) → n ≤ 2147483648 → count_of ((4294967296 - n) % 4294967296) ≡ signed true n
-unfolding count_of
-word-of_size zero h = refl
-word-of_size (suc n) h =
-    let w : (4294967296 - suc n) % 4294967296 ≡ 4294967296 - suc n = mod-eq_of_lt (omega arith) in
-    ap count_of w ∙ count-above (4294967296 - suc n) (omega arith) (omega arith) ∙ ap negsuc (omega arith)
+-- the machine reads a signed number from its bits as `count_of` does
+pub to_z-count : (w : ℕ) → w < 4294967296 → to_z w32 w ≡ count_of w
+to_z-count = by-halves (λ w n. to_z w32 w ≡ n) (λ w l. to_z_pos w32 w (omega arith)) high
+  where
+    high : (w : ℕ) → 2147483647 < w → w < 4294967296 → to_z w32 w ≡ negsuc (4294967295 - w)
+    high w g h = let bits : w ≡ 4294967296 - suc (4294967295 - w) = omega arith in ap (to_z w32) bits ∙ to_z-neg w32 (4294967295 - w) (omega arith)
 
+-- ---- a size with a sign
 pub too_high : (n : ℕ) → 2147483647 < n → in_range (signed false n) ≡ false
 too_high n h = lt-leb n 2147483647 h
 
@@ -55,6 +56,10 @@ in_range_lem = by-halves (λ w n. InRange n) (λ w l. le→leb w 2147483647 l) (
 pub fits-in_range : (z : ℤ) → SFits w32 z → InRange z
 fits-in_range (pos n) f = le→leb n 2147483647 (omega arith)
 fits-in_range (negsuc n) f = le→leb (suc n) 2147483648 f.sfits
+
+pub in_range-fits : (z : ℤ) → in_range z ≡ true → SFits w32 z
+in_range-fits (pos n) h = let l : n ≤ 2147483647 = leb→le n 2147483647 (subst T (sym h) tt) in record { sfits = omega arith }
+in_range-fits (negsuc n) h = let l : suc n ≤ 2147483648 = leb→le (suc n) 2147483648 (subst T (sym h) tt) in record { sfits = omega arith }
 
 pub reads-back : (w : ℕ) (z : ℤ) → w < 4294967296 → z ≡ count_of w → to_z w32 (of_z w32 z) ≡ count_of w
 reads-back w z h e = rw e (to_z-of_z w32 (count_of w) (by-halves (λ w n. SFits w32 n) (λ w l. record { sfits = omega arith }) (λ w g h. record { sfits = omega arith }) w h))

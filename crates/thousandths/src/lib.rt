@@ -6,33 +6,25 @@ ghost use Rattle.std.specs.Prelude.{◌≡◌, ◌*◌, ◌^◌, ◌<◌};
 ghost use Rattle.arithmetic.specs.Whole.{signed};
 ghost use Rattle.thousandths.specs.Thousandths.{count_of, twos_complement, thousandths, nearest_whole, counted, if_exact, count_for};
 
-// The count that a word stands for by two's complement. `!k` is -(k + 1).
+// The count that a word stands for by two's complement.
 fn count_from(word: u32) -> i32
     ensures { result ≡ count_of word }
 {
-    if word <= 2147483647 {
-        word as i32
-    } else {
-        !((4294967295 - word) as i32)
-    }
+    word.cast_signed()
 }
 
 // The word of a count by two's complement.
 pub fn word_from(count: i32) -> u32
     ensures { result ≡ twos_complement count }
 {
-    if count >= 0 {
-        count as u32
-    } else {
-        4294967295 - (!count) as u32
-    }
+    count.cast_unsigned()
 }
 
 // The double nearest to count / 1000.
 fn double_of(count: i32) -> f64
     ensures { result ≡ thousandths count }
 {
-    count as f64 / 1000.0
+    f64::from(count) / 1000.0
 }
 
 // The double that the count of a word means.
@@ -55,32 +47,16 @@ fn nearest_count(digits: u64, places: u64) -> u64
 pub fn signed_count(negative: bool, size: u64) -> Option<i32>
     ensures { result ≡ counted (signed negative size) }
 {
-    if negative {
-        if size > 2147483648 {
-            return None;
-        }
-        return Some(count_from(((4294967296 - size) % 4294967296) as u32));
-    }
-    if size > 2147483647 {
-        return None;
-    }
-    Some(count_from(size as u32))
+    let size = i128::from(size);
+    i32::try_from(if negative { -size } else { size }).ok()
 }
 
 // A count, if its double has the pattern.
 fn tried(pattern: u64, count: Option<i32>) -> Option<i32>
     ensures { result ≡ if_exact pattern count }
 {
-    match count {
-        Some(n) => {
-            if f64::to_bits(double_of(n)) == pattern {
-                count
-            } else {
-                None
-            }
-        }
-        None => None,
-    }
+    let n = count?;
+    (double_of(n).to_bits() == pattern).then_some(n)
 }
 
 // The count whose double is x, bit for bit. The exponent's field of x's pattern says how many binary
@@ -89,10 +65,10 @@ fn tried(pattern: u64, count: Option<i32>) -> Option<i32>
 pub fn count_of(x: f64) -> Option<i32>
     ensures { result ≡ count_for x }
 {
-    if x != x {
+    if x.is_nan() {
         return None;
     }
-    let pattern = f64::to_bits(x);
+    let pattern = x.to_bits();
     let field = pattern % 0x8000_0000_0000_0000 / 0x10_0000_0000_0000;
     if field >= 1045 {
         return None;

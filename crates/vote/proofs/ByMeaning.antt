@@ -3,19 +3,19 @@ use Rattle.vote.proofs.Kit.{◌≡◌, refl, sym, subst, ◌∙◌, ◌≢◌, �
 use Rattle.record.proofs.ByMeaning.{Whole, none-whole, with_whole, none-there, entry_set, entry-left}
 
 -- ---- one meaning more
-with_middle-whole : (r : Readings) (m : ℕ) (e f g : (Option Float)) → Whole r → Whole (with_middle r m e f g)
+with_middle-whole : (r : Readings) (m : ℕ) (e f g : Option Float) → Whole r → Whole (with_middle r m e f g)
 with_middle-whole r m (Some x) (Some y) (Some z) h = with_whole r m (middle x y z) h
 with_middle-whole r m (Some x) (Some y) None h = h
 with_middle-whole r m (Some x) None g h = h
 with_middle-whole r m None f g h = h
 
-here : (r : Readings) (m : ℕ) (e f g : (Option Float)) → Whole r → m < meanings → entry_of r m ≡ None → entry_of (with_middle r m e f g) m ≡ middle_entry e f g
+here : (r : Readings) (m : ℕ) (e f g : Option Float) → Whole r → m < meanings → entry_of r m ≡ None → entry_of (with_middle r m e f g) m ≡ middle_entry e f g
 here r m (Some x) (Some y) (Some z) h l none = entry_set r m (middle x y z) h l
 here r m (Some x) (Some y) None h l none = none
 here r m (Some x) None g h l none = none
 here r m None f g h l none = none
 
-elsewhere : (r : Readings) (m n : ℕ) (e f g : (Option Float)) → n ≢ m → entry_of (with_middle r m e f g) n ≡ entry_of r n
+elsewhere : (r : Readings) (m n : ℕ) (e f g : Option Float) → n ≢ m → entry_of (with_middle r m e f g) n ≡ entry_of r n
 elsewhere r m n (Some x) (Some y) (Some z) other = entry-left r m n (middle x y z) other
 elsewhere r m n (Some x) (Some y) None other = refl
 elsewhere r m n (Some x) None g other = refl

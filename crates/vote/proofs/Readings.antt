@@ -40,7 +40,7 @@ by-the-judge s = go (read_record false s)
     go (refused n vs) = refl
 
 -- ---- its values
-abbrev Number : (Option Float) → Type 0
+abbrev Number : Option Float → Type 0
 Number None = Unit {0}
 Number (Some x) = IsNumber x
 
@@ -50,26 +50,26 @@ Numbers r = (m : ℕ) → m < meanings → Number (entry_of r m)
 pub numbers : (s : List ℕ) (r : Readings) → accepted_readings s ≡ accepted r → Numbers r
 numbers s r e m h = let a = is_accepted_lem s r e in go a.read (entry_of r m) refl (accepted-is_finite r a.figures a.judged-so m h)
   where
-    go : read_record false s ≡ accepted r → (e : (Option Float)) → entry_of r m ≡ e → FiniteEntry e → Number e
+    go : read_record false s ≡ accepted r → (e : Option Float) → entry_of r m ≡ e → FiniteEntry e → Number e
     go read None told f = tt
     go read (Some x) told f = record { double = reads-doubles s r read m x told; number = is_number x f }
 
 -- ---- a field's vote, with the first two or the last two exchanged
-exchanged-first : (r : Readings) (m : ℕ) (e f g : (Option Float)) → Number e → Number f → Number g → with_middle r m f e g ≡ with_middle r m e f g
+exchanged-first : (r : Readings) (m : ℕ) (e f g : Option Float) → Number e → Number f → Number g → with_middle r m f e g ≡ with_middle r m e f g
 exchanged-first r m (Some x) (Some y) (Some z) p q s = ap (with_entry r m) (middle_in_every-order x y z p q s).first_two
 exchanged-first r m (Some x) (Some y) None p q s = refl
 exchanged-first r m (Some x) None g p q s = refl
 exchanged-first r m None (Some y) g p q s = refl
 exchanged-first r m None None g p q s = refl
 
-exchanged-last : (r : Readings) (m : ℕ) (e f g : (Option Float)) → Number e → Number f → Number g → with_middle r m e g f ≡ with_middle r m e f g
+exchanged-last : (r : Readings) (m : ℕ) (e f g : Option Float) → Number e → Number f → Number g → with_middle r m e g f ≡ with_middle r m e f g
 exchanged-last r m (Some x) (Some y) (Some z) p q s = ap (with_entry r m) (middle_in_every-order x y z p q s).last-two
 exchanged-last r m (Some x) (Some y) None p q s = refl
 exchanged-last r m (Some x) None (Some z) p q s = refl
 exchanged-last r m (Some x) None None p q s = refl
 exchanged-last r m None f g p q s = refl
 
-some_first : (e f g : (Option Float)) → is_not_in_all f e g ≡ is_not_in_all e f g
+some_first : (e f g : Option Float) → is_not_in_all f e g ≡ is_not_in_all e f g
 some_first e f g = go (is_some e) (is_some f) (is_some g)
   where
     go : (p q s : Bool) → ((q || p || s) && not (q && p && s)) ≡ ((p || q || s) && not (p && q && s))
@@ -78,7 +78,7 @@ some_first e f g = go (is_some e) (is_some f) (is_some g)
     go false true s = refl
     go false false s = refl
 
-some-last : (e f g : (Option Float)) → is_not_in_all e g f ≡ is_not_in_all e f g
+some-last : (e f g : Option Float) → is_not_in_all e g f ≡ is_not_in_all e f g
 some-last e f g = go (is_some e) (is_some f) (is_some g)
   where
     go : (p q s : Bool) → ((p || s || q) && not (p && s && q)) ≡ ((p || q || s) && not (p && q && s))
@@ -121,7 +121,7 @@ exchange-last a b c p q r =
     same_outcome a b c a c b (λ m h. record { takes = λ v. exchanged-last v m (entry_of a m) (entry_of b m) (entry_of c m) (p m h) (q m h) (r m h); misses = some-last (entry_of a m) (entry_of b m) (entry_of c m) })
 
 -- ---- two equal readings outvote a third with the same fields
-the-two : (e f : (Option Float)) → is_some e ≡ is_some f → middle_entry e e f ≡ e
+the-two : (e f : Option Float) → is_some e ≡ is_some f → middle_entry e e f ≡ e
 the-two (Some x) (Some z) h = ap Some (two_equal x z)
 the-two (Some x) None h = absurd (false≢true (sym h))
 the-two None f h = refl

@@ -7,7 +7,7 @@ use Rattle.record.specs.Entries.{no_readings, entry_of, with_entry}
 use Rattle.arithmetic.specs.Middle.{middle}
 
 -- ---- 21: a field is in one or two of the three records
-abbrev pub is_not_in_all : (Option Float) → (Option Float) → (Option Float) → Bool
+abbrev pub is_not_in_all : Option Float → Option Float → Option Float → Bool
 is_not_in_all a b c = (is_some a || is_some b || is_some c) && not (is_some a && is_some b && is_some c)
 
 -- one of the first n meanings
@@ -22,7 +22,7 @@ abbrev pub shared_rows : Readings → Readings → Readings → List Row
 shared_rows a b c = row (any_not_in_all a b c) 21 [] ∷ []
 
 -- ---- a meaning that is in all three takes the middle
-abbrev pub with_middle : Readings → ℕ → (Option Float) → (Option Float) → (Option Float) → Readings
+abbrev pub with_middle : Readings → ℕ → Option Float → Option Float → Option Float → Readings
 with_middle r m (Some x) (Some y) (Some z) = with_entry r m (middle x y z)
 with_middle r m (Some x) (Some y) None = r
 with_middle r m (Some x) None c = r

@@ -18,7 +18,7 @@ abbrev pub in_how_many : List ℕ → List ℕ → List ℕ → ℕ → ℕ
 in_how_many a b c m = one_if (is_some (entry_of (readings a) m)) + one_if (is_some (entry_of (readings b) m)) + one_if (is_some (entry_of (readings c) m))
 
 -- ---- each meaning that is in all three takes the middle of the three values, and no other is there
-abbrev pub middle_entry : (Option Float) → (Option Float) → (Option Float) → (Option Float)
+abbrev pub middle_entry : Option Float → Option Float → Option Float → Option Float
 middle_entry (Some x) (Some y) (Some z) = Some (middle x y z)
 middle_entry (Some x) (Some y) None = None
 middle_entry (Some x) None c = None

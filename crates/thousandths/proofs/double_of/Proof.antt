@@ -19,6 +19,7 @@ by_thousand z fits = ap (λ (y : Float). div binary64 (of_int binary64 z) y) (sy
 returns : tie.Need-returns
 returns c =
     let z : ℤ = c.args.count in
+    ap (λ (y : Float). div binary64 y thousand) c.from.ensures ∙
     ap (λ (y : ℤ). div binary64 (of_int binary64 y) thousand) (to_z-of_z w32 z c.ranges.count) ∙ by_thousand z c.ranges.count
 
 pub double_of_spec : {M : Type 1} → statement M

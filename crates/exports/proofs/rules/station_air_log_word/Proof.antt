@@ -8,5 +8,5 @@ station_air_log_word_spec =
     tie.close (tie.spec (λ c κs. search rules)
     (λ c. search rules)
     (λ c. search rules)
-    (λ c. rw (← c.log_word.ensures, c.in-Defined.is) (refl, refl))
-    (λ c. rw (← c.log_word.ensures, c.in-Undefined.is) (refl, refl)))
+    (λ c. rw (← c.log_word.ensures, c.in-Some.is) (refl, refl))
+    (λ c. rw (← c.log_word.ensures, c.in-None.is) (refl, refl)))

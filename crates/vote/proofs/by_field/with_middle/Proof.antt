@@ -3,7 +3,7 @@ use Rattle.vote.proofs.Kit.{◌≡◌, ap, ◌∙◌, ℕ, Float, rules, Option,
 use Rattle.vote.proofs.by_field.with_middle.Statement.{statement}
 use Rattle.vote.proofs.by_field.with_middle.Tie as tie
 
-in_all : (r : Readings) (m : ℕ) {a b c : (Option Float)} {x y z : Float} → a ≡ Some x → b ≡ Some y → c ≡ Some z → with_entry r m (middle x y z) ≡ with_middle r m a b c
+in_all : (r : Readings) (m : ℕ) {a b c : Option Float} {x y z : Float} → a ≡ Some x → b ≡ Some y → c ≡ Some z → with_entry r m (middle x y z) ≡ with_middle r m a b c
 in_all r m p q s = rw (p, q, s)
 
 returns_4 : tie.Need-returns

@@ -12,11 +12,11 @@ use Rattle.vote.proofs.masts.accepted_readings.Tie as tie
 abbrev where_accepted : Readings → Outcome Readings
 where_accepted r = judged r ⟫ (λ _. accepted r)
 
-by_read : (s : List ℕ) (r : Read) {k : (Result (Unit {0}) Refusal)} → r.check ≡ k → parts r ≡ read_parts (read_record false s) → ((outcome k ⟫ (λ _. accepted r.readings)) ⟫ where_accepted) ≡ accepted_readings s
+by_read : (s : List ℕ) (r : Read) {k : Result (Unit {0}) Refusal} → r.check ≡ k → parts r ≡ read_parts (read_record false s) → ((outcome k ⟫ (λ _. accepted r.readings)) ⟫ where_accepted) ≡ accepted_readings s
 unfolding accepted_readings
-by_read s r told e = ap (λ (o : Outcome Readings). o ⟫ where_accepted) (ap (λ (k : (Result (Unit {0}) Refusal)). outcome k ⟫ (λ _. accepted r.readings)) (sym told) ∙ outcome-of-parts r (read_record false s) e)
+by_read s r told e = ap (λ (o : Outcome Readings). o ⟫ where_accepted) (ap (λ (k : Result (Unit {0}) Refusal). outcome k ⟫ (λ _. accepted r.readings)) (sym told) ∙ outcome-of-parts r (read_record false s) e)
 
-by_answer : (r : Readings) {a a' : (Result Figures Refusal)} → a ≡ a' → outcome a ≡ judged r → (outcome a' ⟫ (λ _. accepted r)) ≡ where_accepted r
+by_answer : (r : Readings) {a a' : Result Figures Refusal} → a ≡ a' → outcome a ≡ judged r → (outcome a' ⟫ (λ _. accepted r)) ≡ where_accepted r
 by_answer r told e = ap (λ (o : Outcome Figures). o ⟫ (λ _. accepted r)) (ap outcome (sym told) ∙ e)
 
 returns : tie.Need-returns-in-Err
@@ -24,10 +24,10 @@ returns c =
     let read = c.before in
     let told = c.in-Err.is in
     let s = read.args.bytes.now in
-    (ap (λ (k : (Result (Unit {0}) Refusal)). outcome k ⟫ (λ _. accepted read.read_record-read.result.readings)) told ∙ by_read s read.read_record-read.result told read.read_record-read.ensures.0, refl)
+    (ap (λ (k : Result (Unit {0}) Refusal). outcome k ⟫ (λ _. accepted read.read_record-read.result.readings)) told ∙ by_read s read.read_record-read.result told read.read_record-read.ensures.0, refl)
 
 -- past the reading
-passed : (c : tie.After-judge_readings) {a : (Result Figures Refusal)} → c.judge_readings.result ≡ a → let read = c.before.before.before in
+passed : (c : tie.After-judge_readings) {a : Result Figures Refusal} → c.judge_readings.result ≡ a → let read = c.before.before.before in
     (outcome a ⟫ (λ _. accepted read.read_record-read.result.readings)) ≡ accepted_readings read.args.bytes.now
 passed c told =
     let read = c.before.before.before in
