@@ -1,12 +1,12 @@
--- `decimals::shown::with_digits` meets its contract. The loop's invariant: the digits that stand before the text are the last ones of n, and those of the
+-- `decimals::shown::DecimalText::with_digits` meets its contract. The loop's invariant: the digits that stand before the text are the last ones of n, and those of the
 -- rest are the others. Assumes nothing.
 use Rattle.arithmetic.proofs.Kit.{◌≡◌, sym, ap, ◌∙◌, List, [], ◌∷◌, ◌++◌, append-nil, append_assoc, ℕ, ◌+◌, ◌/◌, ◌%◌, arith, rules}
 use Rattle.decimals.specs.Decimal.{digits}
 use Rattle.decimals.specs.Places.{Before}
 use Rattle.decimals.proofs.Digits.{one-digit, more-digits}
 use Rattle.decimals.proofs.Standing.{no_more, and_before, same_more}
-use Rattle.decimals.proofs.shown.with_digits.Statement.{statement}
-use Rattle.decimals.proofs.shown.with_digits.Tie as tie
+use Rattle.decimals.proofs.shown.DecimalText.with_digits.Statement.{statement}
+use Rattle.decimals.proofs.shown.DecimalText.with_digits.Tie as tie
 
 abbrev invariant_loop : tie.invariant-loop-rest
 invariant_loop n longer₀ rest₀ longer rest = (last : List ℕ) × (digits rest ++ last ≡ digits n) × Before longer₀ last longer
@@ -36,7 +36,7 @@ pub with_digits_spec : {M : Type 1} → statement M
 with_digits_spec =
     tie.close (tie.spec invariant_loop
     decreases_loop
-    (λ c. ([], append-nil (digits c.args.n), no_more c.args.text))
+    (λ c. ([], append-nil (digits c.args.n), no_more c.args.self))
     (λ c. omega arith)
     (λ c. omega arith)
     (λ c κs. search rules)
