@@ -1,5 +1,5 @@
 // The decimal text of a double, written from its last digit to its first.
-ghost use Rattle.std.specs.Prelude.{◌≡◌, [], ◌∷◌, ◌≤◌};
+ghost use Rattle.std.specs.Prelude.{◌≡◌, [], ◌∷◌, ◌≤◌, ◌<◌, ◌-◌, drop, MatchOption};
 ghost use Rattle.decimals.specs.Decimal.{last_digits, digits, pointed, count_text, decimal_text};
 ghost use Rattle.decimals.specs.Places.{in_sixteen, Before};
 
@@ -16,6 +16,14 @@ pub struct DecimalText {
 }
 
 impl DecimalText {
+    // The text without the blanks before it, or nothing where it is too long.
+    pub fn as_bytes(&self) -> Option<&[u8]>
+        ensures { MatchOption result (16 < self.now.len) (λ text. (self.now.len ≤ 16) × (text.now ≡ drop (16 - self.now.len) self.now.bytes)) }
+    {
+        let start = 16_usize.checked_sub(self.len)?;
+        Some(&self.bytes[start..])
+    }
+
     fn empty() -> DecimalText
         ensures { result ≡ in_sixteen [] }
     {
