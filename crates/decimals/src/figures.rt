@@ -20,9 +20,8 @@ pub fn put_shown(page: &mut Page<'_>, x: f64, decimals: u32)
     ensures { page.new ≡ put page.old (shown decimals x) }
 {
     let text = decimal_text(x, decimals);
-    if text.len > 16 {
-        page.put(b"too wide");
-    } else {
-        put_last(page, &text.bytes, text.len);
+    match text.as_bytes() {
+        Some(bytes) => page.put(bytes),
+        None => page.put(b"too wide"),
     }
 }

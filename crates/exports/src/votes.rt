@@ -8,26 +8,26 @@ ghost use Rattle.exports.specs.Votes.{mast_in};
 use crate::lent::{TOO_SHORT, put_answer, wide};
 use refusal::Refusal;
 use refusal::judge::Figures;
-use vote::answer::Vote;
+use vote::answer::VoteRefusal;
 use vote::masts::vote;
 
-fn refused_mast(voted: Vote) -> u8
+fn refused_mast(voted: Result<Figures, VoteRefusal>) -> u8
     ensures { result ≡ (vote_outcome voted).mast }
 {
     match voted {
-        Vote::Figures(_) => 0,
-        Vote::Mast(mast, _) => mast,
-        Vote::Refused(_) => 0,
+        Ok(_) => 0,
+        Err(VoteRefusal::Mast(mast, _)) => mast,
+        Err(VoteRefusal::Together(_)) => 0,
     }
 }
 
-fn answer_of(voted: Vote) -> Result<Figures, Refusal>
+fn answer_of(voted: Result<Figures, VoteRefusal>) -> Result<Figures, Refusal>
     ensures { outcome result ≡ (vote_outcome voted).outcome }
 {
     match voted {
-        Vote::Figures(figures) => Ok(figures),
-        Vote::Mast(_, refusal) => Err(refusal),
-        Vote::Refused(refusal) => Err(refusal),
+        Ok(figures) => Ok(figures),
+        Err(VoteRefusal::Mast(_, refusal)) => Err(refusal),
+        Err(VoteRefusal::Together(refusal)) => Err(refusal),
     }
 }
 

@@ -10,7 +10,7 @@ use crate::value_lines::put_whole;
 use pages::Page;
 use refusal::Refusal;
 use text::answer_lines::{put_figures, put_refusal};
-use vote::answer::Vote;
+use vote::answer::VoteRefusal;
 use vote::masts::vote;
 
 // The mast whose record is refused, where there is one, and the refusal.
@@ -34,8 +34,8 @@ pub(crate) fn put_vote(page: &mut Page<'_>, a: &[u8], b: &[u8], c: &[u8])
     ensures third_kept { c.now ≡ c.now }
 {
     match vote(a, b, c) {
-        Vote::Figures(figures) => put_figures(page, figures),
-        Vote::Mast(mast, refusal) => put_mast(page, mast, refusal),
-        Vote::Refused(refusal) => put_refusal(page, refusal),
+        Ok(figures) => put_figures(page, figures),
+        Err(VoteRefusal::Mast(mast, refusal)) => put_mast(page, mast, refusal),
+        Err(VoteRefusal::Together(refusal)) => put_refusal(page, refusal),
     }
 }

@@ -3,3 +3,5 @@ pub mod Found
 pub mod Names
 pub mod Split
 pub mod Passed
+pub mod Ends
+pub mod Shapes

@@ -1,12 +1,14 @@
 -- A text is passed byte by byte: what is left to look at after one byte more. Assumes nothing.
-use Rattle.arithmetic.proofs.Kit.{◌≡◌, ◌&&◌, List, ℕ, ◌+◌, ◌*◌, ◌%◌, ◌<◌, ◌^◌, pow-suc, pow-le-pow_right, lt_of_lt_of_le, mod-lt, add-one, arith, digits_lt, ltb, lit<, length, get_or, drop, drop-cons}
+use Rattle.arithmetic.proofs.Kit.{◌≡◌, refl, ap, Bool, ◌&&◌, List, [], ◌∷◌, ℕ, ◌+◌, ◌*◌, ◌%◌, ◌<◌, ◌^◌, pow-suc, pow-le-pow_right, lt_of_lt_of_le, mod-lt, add-one, arith, digits_lt, ltb, lit<, length, get_or, drop, drop-cons}
+use Rattle.std.specs.List.{list_all}
 use Rattle.questions.specs.Digits.{digit_of, are_hex, hex_from, ◌⟫◌, with_digit, decimal_from}
 
-module _ (s : List ℕ) (i : ℕ) (h : i < length s) where
-  pub hex-passed : are_hex (drop i s) ≡ (ltb (digit_of (get_or s i 0)) 16 && are_hex (drop (i + 1) s))
-  unfolding are_hex
-  hex-passed = rw (add-one, drop-cons s i 0)
+pub all_hex : (s : List ℕ) → list_all (λ b. ltb (digit_of b) 16) s ≡ are_hex s
+unfolding are_hex
+all_hex [] = refl
+all_hex (b ∷ s) = ap (λ (t : Bool). ltb (digit_of b) 16 && t) (all_hex s)
 
+module _ (s : List ℕ) (i : ℕ) (h : i < length s) where
   pub word-passed : (v : ℕ) → hex_from v (drop i s) ≡ hex_from (v * 16 + digit_of (get_or s i 0) % 16) (drop (i + 1) s)
   unfolding hex_from
   word-passed v = rw (add-one, drop-cons s i 0)

@@ -1,5 +1,5 @@
 -- The words of a line: what stands between its blanks, 32. A line without a blank is one word. And a word's place among names. Definitions only.
-use Rattle.std.specs.Prelude.{ℕ, suc, ◌≤◌, ◌≡◌, Bool, true, false, cond, List, [], ◌∷◌, eqb, length, get_or, drop}
+use Rattle.std.specs.Prelude.{ℕ, suc, Bool, true, false, cond, List, [], ◌∷◌, eqb}
 use Rattle.pages.specs.Characters.{same}
 
 -- words with a byte before them: a blank ends a word of no bytes
@@ -11,11 +11,6 @@ before_part false b (w ∷ ws) = (b ∷ w) ∷ ws
 unfoldable pub line_parts : List ℕ → List (List ℕ)
 line_parts [] = [] ∷ []
 line_parts (b ∷ s) = before_part (eqb b 32) b (line_parts s)
-
--- word i begins at position `at` of s, or s ends there where it has no such word
-pub record PartStarts (s : List ℕ) (i at : ℕ) : Type 0 where
-  pub within : at ≤ length s
-  pub first : get_or (line_parts (drop at s)) 0 [] ≡ get_or (line_parts s) i []
 
 -- ---- names
 -- the place of a name in a list, and the list's length where it is not there

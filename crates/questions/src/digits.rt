@@ -7,20 +7,11 @@ ghost use Rattle.pages.specs.Pages.{Holds};
 fn digit(b: u8) -> u8
     ensures { result ≡ digit_of b }
 {
-    if b < b'0' {
-        16
-    } else if b <= b'9' {
-        b - 48
-    } else if b < b'A' {
-        16
-    } else if b <= b'F' {
-        b - 55
-    } else if b < b'a' {
-        16
-    } else if b <= b'f' {
-        b - 87
-    } else {
-        16
+    match b {
+        b'0'..=b'9' => b - b'0',
+        b'A'..=b'F' => b - b'A' + 10,
+        b'a'..=b'f' => b - b'a' + 10,
+        _ => 16,
     }
 }
 
@@ -29,20 +20,7 @@ pub fn are_hex(text: &[u8]) -> bool
     ensures answered { result ≡ are_hex text.now }
     ensures kept { text.now ≡ text.now }
 {
-    let mut i = 0;
-    while i < text.len() {
-        if digit(text[i]) >= 16 {
-            return false;
-        }
-        i += 1;
-    }
-    true
-}
-
-fn wide(x: u8) -> u64
-    ensures { result ≡ x }
-{
-    x as u64
+    text.iter().all(|&b| digit(b) < 16)
 }
 
 // The number that sixteen hex digits at most spell, and 0 where there are more. The text is left as it
@@ -55,20 +33,10 @@ pub fn word_in(text: &[u8]) -> u64
         return 0;
     }
     let mut value = 0;
-    let mut i = 0;
-    while i < text.len() {
-        value = value * 16 + wide(digit(text[i]) % 16);
-        i += 1;
+    for &b in text {
+        value = value * 16 + u64::from(digit(b) % 16);
     }
     value
-}
-
-// How many bytes have room.
-fn bytes_in(digits: usize, room: usize) -> usize
-    ensures { result ≡ min (digits / 2) room }
-{
-    let bytes = digits / 2;
-    if bytes < room { bytes } else { room }
 }
 
 // The bytes that a text spells, two hex digits each, at the start of the buffer, as many as it has room
@@ -77,11 +45,9 @@ pub fn read_bytes(text: &[u8], out: &mut [u8]) -> usize
     ensures read { Holds (bytes_in (length out.old) text.now) out.new result }
     ensures kept { text.now ≡ text.now }
 {
-    let count = bytes_in(text.len(), out.len());
-    let mut i = 0;
-    while i < count {
+    let count = (text.len() / 2).min(out.len());
+    for i in 0..count {
         out[i] = digit(text[2 * i]) % 16 * 16 + digit(text[2 * i + 1]) % 16;
-        i += 1;
     }
     count
 }
@@ -90,17 +56,10 @@ pub fn read_bytes(text: &[u8], out: &mut [u8]) -> usize
 fn with_digit(value: u64, b: u8) -> Option<u64>
     ensures { result ≡ with_digit value b }
 {
-    if b < b'0' {
+    if !b.is_ascii_digit() {
         return None;
     }
-    if b > b'9' {
-        return None;
-    }
-    let last = wide(b - 48);
-    if value > (0xffff_ffff_ffff_ffff - last) / 10 {
-        return None;
-    }
-    Some(value * 10 + last)
+    value.checked_mul(10)?.checked_add(u64::from(b - b'0'))
 }
 
 // The decimal number that a text spells, if it is one below 2^64. The text is left as it was.
@@ -108,17 +67,12 @@ pub fn number_in(text: &[u8]) -> Option<u64>
     ensures answered { result ≡ number_in text.now }
     ensures kept { text.now ≡ text.now }
 {
-    if text.len() == 0 {
+    if text.is_empty() {
         return None;
     }
     let mut value = 0;
-    let mut i = 0;
-    while i < text.len() {
-        match with_digit(value, text[i]) {
-            Some(longer) => value = longer,
-            None => return None,
-        }
-        i += 1;
+    for &b in text {
+        value = with_digit(value, b)?;
     }
     Some(value)
 }

@@ -2,8 +2,6 @@
 ghost use Rattle.std.specs.Prelude.{◌≡◌, ◌≤◌, length};
 ghost use Rattle.questions.specs.Lines.{before_return, found_line};
 
-use pages::scan::find;
-
 // Where the line at the head of some input ends, its end not counted, and where the next begins.
 #[derive(Clone, Copy)]
 pub struct Line {
@@ -16,13 +14,10 @@ fn before_return(input: &[u8], newline: usize) -> usize
     requires { newline ≤ length input.now }
     ensures { result ≡ before_return input.now newline }
 {
-    if newline == 0 {
-        return 0;
+    match input[..newline].last() {
+        Some(&b'\r') => newline - 1,
+        _ => newline,
     }
-    if input[newline - 1] == b'\r' {
-        return newline - 1;
-    }
-    newline
 }
 
 // The line at the head of the input, where a newline ends it or where the input has ended and it is the
@@ -31,20 +26,15 @@ pub fn first_line(input: &[u8], ended: bool) -> Option<Line>
     ensures answered { result ≡ found_line ended input.now }
     ensures kept { input.now ≡ input.now }
 {
-    let newline = find(input, 0, input.len(), b'\n');
-    if newline < input.len() {
-        return Some(Line {
+    match input.iter().position(|&b| b == b'\n') {
+        Some(newline) => Some(Line {
             end: before_return(input, newline),
             next: newline + 1,
-        });
+        }),
+        None if ended && !input.is_empty() => Some(Line {
+            end: before_return(input, input.len()),
+            next: input.len(),
+        }),
+        None => None,
     }
-    if ended {
-        if 0 < newline {
-            return Some(Line {
-                end: before_return(input, newline),
-                next: newline,
-            });
-        }
-    }
-    None
 }

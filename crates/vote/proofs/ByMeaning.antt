@@ -1,5 +1,5 @@
 -- The voted readings by meaning: each meaning that is in all three has the middle, and no other is there. Assumes nothing.
-use Rattle.vote.proofs.Kit.{◌≡◌, refl, sym, subst, ◌∙◌, ◌≢◌, ◌⊎◌, inl, inr, ℕ, zero, suc, ◌≤◌, ◌<◌, eq-or-lt_of_le, le_of_suc-le-suc, arith, Option, None, Some, Readings, meanings, entry_of, middle, with_middle, voted_of, middle_entry, voted}
+use Rattle.vote.proofs.Kit.{◌≡◌, refl, sym, subst, Float, ◌∙◌, ◌≢◌, ◌⊎◌, inl, inr, ℕ, zero, suc, ◌≤◌, ◌<◌, eq-or-lt_of_le, le_of_suc-le-suc, arith, Option, None, Some, Readings, meanings, entry_of, middle, with_middle, voted_of, middle_entry, voted}
 use Rattle.record.proofs.ByMeaning.{Whole, none-whole, with_whole, none-there, entry_set, entry-left}
 
 -- ---- one meaning more

@@ -1,5 +1,5 @@
 -- What is known of the readings of accepted records: each value is a double that is not NaN. So the vote on them is the same in every order. Assumes nothing.
-use Rattle.vote.proofs.Kit.{◌≡◌, refl, sym, ap, ap₂, ◌∙◌, Bool, true, false, not, ◌&&◌, ◌||◌, cond, false≢true, List, [], ℕ, zero, suc, ◌≤◌, ◌<◌, arith, Outcome, accepted, refused, ◌⟫◌, Option, None, Some, Readings, meanings, read_record, entry_of, with_entry, is_some, Figures, judged, judge, is_not_in_all, not_in_all_of, with_middle, voted_of, voted, accepted_readings, voted_outcome, middle_entry, SameFields}
+use Rattle.vote.proofs.Kit.{◌≡◌, refl, sym, ap, ap₂, Float, ◌∙◌, Bool, true, false, not, ◌&&◌, ◌||◌, cond, false≢true, List, [], ℕ, zero, suc, ◌≤◌, ◌<◌, arith, Outcome, accepted, refused, ◌⟫◌, Option, None, Some, Readings, meanings, read_record, entry_of, with_entry, is_some, Figures, judged, judge, is_not_in_all, not_in_all_of, with_middle, voted_of, voted, accepted_readings, voted_outcome, middle_entry, SameFields}
 use Rattle.record.proofs.ByMeaning.{reads-doubles}
 use Rattle.mast.proofs.Stated.{FiniteEntry}
 use Rattle.mast.proofs.Entries.{judged-by_entries, accepted-is_finite}

@@ -1,13 +1,13 @@
 -- The vote of three masts, document 02: the first mast whose record is not accepted by itself gives its refusal and its number; then a field that is not in
 -- all three records is refused; then the voted readings are judged. Definitions only.
-use Rattle.std.specs.Prelude.{ℕ, false, List}
+use Rattle.std.specs.Prelude.{ℕ, false, List, Err, Ok, Result}
 use Rattle.refusal.specs.Outcomes.{Outcome, accepted, refused, refusal, ◌then◌, ◌⟫◌}
 use Rattle.record.specs.declared.entries.Readings.{Readings}
 use Rattle.record.specs.Readings.{read_record}
 use Rattle.refusal.specs.declared.judge.Figures.{Figures}
 use Rattle.mast.specs.Judge.{judged}
-use Rattle.vote.specs.declared.answer.Vote.{Vote}
-use Rattle.vote.specs.declared.answer.Vote.TheVariants as answer
+use Rattle.vote.specs.declared.answer.VoteRefusal.{VoteRefusal}
+use Rattle.vote.specs.declared.answer.VoteRefusal.TheVariants.{Mast, Together}
 use Rattle.vote.specs.Fields.{shared_rows, voted}
 
 -- ---- an outcome with the mast whose record is refused, 1 to 3, and 0 where there is none
@@ -22,10 +22,10 @@ abbrev pub by_no_mast : Outcome Figures → VoteOutcome
 by_no_mast o = by_mast 0 o
 
 -- what each case of the code's answer stands for
-abbrev pub vote_outcome : Vote → VoteOutcome
-vote_outcome (answer.Figures f) = by_no_mast (accepted f)
-vote_outcome (answer.Mast n c) = by_mast n (refusal c)
-vote_outcome (answer.Refused c) = by_no_mast (refusal c)
+abbrev pub vote_outcome : Result Figures VoteRefusal → VoteOutcome
+vote_outcome (Ok f) = by_no_mast (accepted f)
+vote_outcome (Err (Mast n c)) = by_mast n (refusal c)
+vote_outcome (Err (Together c)) = by_no_mast (refusal c)
 
 -- ---- the vote
 -- the readings of a record that the judge accepts

@@ -1,12 +1,10 @@
-// The answer of a vote.
+// Why a vote is refused.
 use refusal::Refusal;
-use refusal::judge::Figures;
 
 #[derive(Clone, Copy)]
-pub enum Vote {
-    Figures(Figures),
+pub enum VoteRefusal {
     // a mast, 1 to 3, and the refusal of its record
     Mast(u8, Refusal),
-    // the refusal of the vote or of the voted readings
-    Refused(Refusal),
+    // the refusal of the three records together, or of the voted readings
+    Together(Refusal),
 }

@@ -20,31 +20,24 @@ fn is_not_in_all(a: Option<f64>, b: Option<f64>, c: Option<f64>) -> bool
 pub(crate) fn any_not_in_all(a: Readings, b: Readings, c: Readings) -> bool
     ensures { result ≡ any_not_in_all a b c }
 {
-    let mut found = false;
-    let mut meaning = 0;
-    while meaning < MEANINGS {
-        let here = is_not_in_all(
-            entry_of(a, meaning),
-            entry_of(b, meaning),
-            entry_of(c, meaning),
-        );
-        found = found | here;
-        meaning += 1;
-    }
-    found
+    (0..MEANINGS).any(|meaning| is_not_in_all(
+        entry_of(a, meaning),
+        entry_of(b, meaning),
+        entry_of(c, meaning),
+    ))
 }
 
 // The readings with the middle of three entries.
-fn with_middle(readings: Readings, meaning: usize, a: Option<f64>, b: Option<f64>, c: Option<f64>) -> Readings
+fn with_middle(
+    readings: Readings,
+    meaning: usize,
+    a: Option<f64>,
+    b: Option<f64>,
+    c: Option<f64>,
+) -> Readings
     ensures { result ≡ with_middle readings meaning a b c }
 {
-    let Some(x) = a else {
-        return readings;
-    };
-    let Some(y) = b else {
-        return readings;
-    };
-    let Some(z) = c else {
+    let (Some(x), Some(y), Some(z)) = (a, b, c) else {
         return readings;
     };
     with_entry(readings, meaning, middle(x, y, z))
@@ -55,8 +48,7 @@ pub fn voted(a: Readings, b: Readings, c: Readings) -> Readings
     ensures { result ≡ voted a b c }
 {
     let mut readings = no_readings();
-    let mut meaning = 0;
-    while meaning < MEANINGS {
+    for meaning in 0..MEANINGS {
         readings = with_middle(
             readings,
             meaning,
@@ -64,7 +56,6 @@ pub fn voted(a: Readings, b: Readings, c: Readings) -> Readings
             entry_of(b, meaning),
             entry_of(c, meaning),
         );
-        meaning += 1;
     }
     readings
 }
