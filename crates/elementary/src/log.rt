@@ -2,7 +2,7 @@
 // repeated squaring.
 ghost use Rattle.std.specs.Prelude.{◌≡◌, ◌+◌, ◌*◌, ◌/◌, ◌^◌, ◌<◌, ◌≤◌};
 ghost use Rattle.arithmetic.specs.Whole.{as_word};
-ghost use Rattle.antilog.specs.Log.{log_bits, word_with, word_of_units, logarithm};
+ghost use Rattle.antilog.specs.Log.{log_bits, mantissa_of, word_with, word_of_units, logarithm};
 ghost use Rattle.arithmetic.specs.Places.{places};
 
 use arithmetic::double::Parts;
@@ -22,7 +22,7 @@ fn squared(m: u64) -> u64
 
 // The 60 bits of the logarithm of m / 2^62, which lies from 1 up to 2. A square of 2 or more gives
 // the bit 1 and is halved; it has its highest digit set, so that digit is the bit.
-fn log_bits(m: u64) -> u64
+pub(crate) fn log_bits(m: u64) -> u64
     requires { (2 ^ 62 ≤ m) × (m < 2 ^ 63) }
     ensures { result ≡ log_bits places m }
 {
@@ -49,6 +49,15 @@ pub(crate) struct Units {
 }
 
 impl Units {
+    // The mantissa, from 1 to 2, times 2^62.
+    pub(crate) fn mantissa(self) -> u64
+        ensures value { result ≡ mantissa_of (self.q * 2 ^ self.k) }
+        ensures at_least { 2 ^ 62 ≤ result }
+        ensures below { result < 2 ^ 63 }
+    {
+        self.q << (u64::leading_zeros(self.q) - 1)
+    }
+
     // The word with these bits for those of the logarithm.
     pub(crate) fn word_with(self, bits: u64) -> Word
         requires { bits < 2 ^ places }
@@ -74,7 +83,7 @@ impl Units {
     pub(crate) fn log(self) -> Word
         ensures { (result ≡ as_word places (word_of_units places (self.q * 2 ^ self.k))) × (result.whole < 2 ^ 11) }
     {
-        self.word_with(log_bits(self.q << (u64::leading_zeros(self.q) - 1)))
+        self.word_with(log_bits(self.mantissa()))
     }
 }
 

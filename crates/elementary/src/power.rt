@@ -112,18 +112,13 @@ fn near_power(units: Units, bits: u64, number: usize) -> Option<f64>
     antilog_among(times(least, factor, 58), (factor >> 57) + 1)
 }
 
-// The same: sixty squarings are taken only where the bits, guessed and checked, leave the power open.
-fn positive_power(units: Units, near: Option<u64>, number: usize) -> f64
+// The same: sixty squarings are taken only where the bits leave the power open.
+fn positive_power(units: Units, near: u64, number: usize) -> f64
     requires near { Neared units.q units.k near }
     requires number_bound { number < 27 }
     ensures { result ≡ positive_power places (exponent_at number) (odd 53 false units.q units.k 1074) }
 {
-    if let Some(bits) = near
-        && let Some(value) = near_power(units, bits, number)
-    {
-        return value;
-    }
-    squared_power(units, number)
+    near_power(units, near, number).unwrap_or_else(|| squared_power(units, number))
 }
 
 // An infinite base.
@@ -149,7 +144,7 @@ fn zero_power(negative: bool, number: usize) -> f64
 }
 
 // A finite base that is not zero.
-fn finite_power(negative: bool, units: Units, near: Option<u64>, number: usize) -> f64
+fn finite_power(negative: bool, units: Units, near: u64, number: usize) -> f64
     requires near { Neared units.q units.k near }
     requires number_bound { number < 27 }
     ensures { result ≡ power places (exponent_at number) (odd 53 negative units.q units.k 1074) }
@@ -164,11 +159,12 @@ fn finite_power(negative: bool, units: Units, near: Option<u64>, number: usize) 
     }
 }
 
-// A double taken apart, with the bits near those of its size's logarithm where it is finite and not zero.
+// A double taken apart, with the bits near those of its size's logarithm, and 0 where it is not finite or
+// is zero.
 #[derive(Clone, Copy)]
 struct Base {
     parts: Parts,
-    near: Option<u64>,
+    near: u64,
 }
 
 fn base_of(x: f64) -> Base
@@ -177,7 +173,7 @@ fn base_of(x: f64) -> Base
     let parts = take_apart(x);
     let near = match parts {
         Parts::Finite(_, q, k) => near_bits(Units { q, k }),
-        _ => None,
+        _ => 0,
     };
     Base { parts, near }
 }
@@ -212,5 +208,12 @@ pub fn five_powers(x: f64, a: usize, b: usize, c: usize, d: usize, e: usize) -> 
     ensures { result ≡ power_at places a x ∷ power_at places b x ∷ power_at places c x ∷ power_at places d x ∷ power_at places e x ∷ [] }
 {
     let base = base_of(x);
-    [a, b, c, d, e].map(|number| base_power(x, base, number))
+    // written out, so that each is compiled for its number: `map` made a loop, which took a tenth longer
+    [
+        base_power(x, base, a),
+        base_power(x, base, b),
+        base_power(x, base, c),
+        base_power(x, base, d),
+        base_power(x, base, e),
+    ]
 }
