@@ -1,5 +1,5 @@
 -- Readings as items, `TAG=DATA`, in hex digits: a tag's two, and as many as its form has for the data. Definitions only.
-use Rattle.std.specs.Prelude.{ℕ, ◌+◌, ◌*◌, ◌%◌, ◌^◌, Bool, true, false, not, ◌&&◌, cond, List, [], ◌∷◌, leb, eqb, length, get_or, take, drop, is_some}
+use Rattle.std.specs.Prelude.{ℕ, ◌+◌, ◌*◌, ◌%◌, ◌^◌, Bool, true, false, not, ◌&&◌, cond, List, [], ◌∷◌, leb, eqb, length, get_or, take, drop, Option, Some, None, is_some, option_and_then}
 use Rattle.std.specs.Float.{binary64}
 use Rattle.std.specs.Float.Ieee.{of_bits}
 use Rattle.refusal.specs.Outcomes.{accepted}
@@ -12,7 +12,6 @@ use Rattle.writer.specs.Records.{record_of}
 use Rattle.arithmetic.specs.Ascii.{ascii}
 use Rattle.questions.specs.Digits.{are_hex, hex_number}
 use Rattle.lines.specs.Written.{written_text}
-use Rattle.lines.specs.declared.item_answers.Items.{Items}
 
 -- ---- one item; `=` is 61
 unfoldable pub item_tag : List ℕ → ℕ
@@ -26,36 +25,22 @@ is_item w =
 unfoldable pub value_in : List ℕ → Value
 value_in w = cond (is_count_tag (item_tag w)) (Count (hex_number (drop 3 w) % 2 ^ 32)) (Double (of_bits binary64 (hex_number (drop 3 w))))
 
--- ---- all items: the readings, or that one is not understood or comes twice
-pub data Read : Type 0 where
-  given : Readings → Read
-  wrong : Read
+-- ---- all items: the readings, or none where one is not understood or comes twice
+unfoldable pub with_item : Readings → List ℕ → Option Readings
+with_item r w = cond (is_item w && not (is_some (entry_of r (meaning_of (item_tag w))))) (Some (with_value r (meaning_of (item_tag w)) (value_in w))) None
 
-infixr 20 ◌⟫◌
-abbrev pub ◌⟫◌ : Read → (Readings → Read) → Read
-given r ⟫ next = next r
-wrong ⟫ next = wrong
-
-unfoldable pub with_item : Readings → List ℕ → Read
-with_item r w = cond (is_item w && not (is_some (entry_of r (meaning_of (item_tag w))))) (given (with_value r (meaning_of (item_tag w)) (value_in w))) wrong
-
-unfoldable pub read_from : Readings → List (List ℕ) → Read
-read_from r [] = given r
-read_from r (w ∷ ws) = with_item r w ⟫ (λ q. read_from q ws)
+unfoldable pub read_from : Readings → List (List ℕ) → Option Readings
+read_from r [] = Some r
+read_from r (w ∷ ws) = option_and_then (λ q. read_from q ws) (with_item r w)
 
 -- the words of a line after the first
-abbrev pub items_in : List (List ℕ) → Read
+abbrev pub items_in : List (List ℕ) → Option Readings
 items_in ws = read_from no_readings (drop 1 ws)
 
--- the code's answer
-abbrev pub items_of : Read → Items
-items_of (given r) = record { good = true; readings = r }
-items_of wrong = record { good = false; readings = no_readings }
-
 -- ---- the record that is written
-abbrev pub items_text : Read → List ℕ
-items_text (given r) = written_text (accepted (record_of r))
-items_text wrong = ascii "wrong arguments: expected write TAG=DATA .., 01 to 07 with 16 hex digits or 11 to 17 with 8, no reading twice\n"
+abbrev pub items_text : Option Readings → List ℕ
+items_text (Some r) = written_text (accepted (record_of r))
+items_text None = ascii "wrong arguments: expected write TAG=DATA .., 01 to 07 with 16 hex digits or 11 to 17 with 8, no reading twice\n"
 
 unfoldable pub write_answer : List (List ℕ) → List ℕ
 write_answer ws = items_text (items_in ws)

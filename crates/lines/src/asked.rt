@@ -1,4 +1,6 @@
 // A function by its name.
+#![tactic(auto, using(pages::proofs::Putting::puts), unfolding(crate::specs::Asked::value_answer, crate::specs::Asked::reading_answer, crate::specs::Asked::power_answer, crate::specs::Asked::other_answer, crate::specs::Asked::function_numbered, crate::specs::Asked::function_answer))]
+
 ghost use Rattle.std.specs.Prelude.{◌≡◌};
 ghost use Rattle.pages.specs.Pages.{put};
 ghost use Rattle.questions.specs.Words.{line_parts};
@@ -28,9 +30,10 @@ fn put_double(page: &mut Page<'_>, number: usize, line: &[u8])
     let z = double_at(line, 3);
     if number < 11 {
         let v = double_at(line, 4);
-        return put_value_line(page, air_value(number, x, y, z, v));
+        put_value_line(page, air_value(number, x, y, z, v));
+    } else {
+        put_value_line(page, height_value(number, x, y, z));
     }
-    put_value_line(page, height_value(number, x, y, z))
 }
 
 // The functions of one or two readings.
@@ -52,7 +55,7 @@ fn put_power(page: &mut Page<'_>, line: &[u8])
 {
     let number = number_at(line, 1);
     let x = double_at(line, 2);
-    put_value_line(page, power(x, number as usize))
+    put_value_line(page, power(x, number as usize));
 }
 
 fn put_other(page: &mut Page<'_>, number: usize, line: &[u8])
@@ -76,13 +79,11 @@ fn put_other(page: &mut Page<'_>, number: usize, line: &[u8])
 fn put_numbered(page: &mut Page<'_>, number: usize, line: &[u8])
     ensures { page.new ≡ put page.old (function_numbered number (line_parts line.now)) }
 {
-    if number < 22 {
-        return put_double(page, number, line);
+    match number {
+        0..=21 => put_double(page, number, line),
+        22..=25 => put_of_readings(page, number, line),
+        _ => put_other(page, number, line),
     }
-    if number < 26 {
-        return put_of_readings(page, number, line);
-    }
-    put_other(page, number, line)
 }
 
 // The answer to a line whose first word is a function's name, or what is said of a question that is not
@@ -94,17 +95,16 @@ pub(crate) fn put_function_answer(page: &mut Page<'_>, line: &[u8])
     let names =
         b"enhanced_saturation_vapor_pressure enhanced_enhancement_factor enhanced_compressibility_factor vapor_mole_fraction capped_vapor_mole_fraction water_vapor_mole_fraction_uncapped moist_air_vapor_mole_fraction moist_molar_mass_ratio calculate_air_density_cimp moist_sound_speed_at_mole_fraction moist_speed_of_sound geometric_to_geopotential_height_m reduce_qnh_to_station_pressure nws_pressure_altitude_ft pressure_altitude_m standard_pressure_altitude_m faa_rule_density_altitude_ft density_matched_altitude_m standard_altitude_above_tropopause_m exp ln sqrt in_legacy_default_pressure_band in_legacy_default_temperature_band resolve_station_pressure resolve_station_temperature calculate_icao_standard_atmosphere calculate_atmosphere resolve_atmosphere_for_density_altitude station_for_density_altitude power log_word antilog root decimal station_pressure_plausibility";
     let number = place(nth_word(line, 0), names);
+    let shapes =
+        b"x xx xxx xxxx x xxx xxx x xxx xx xxx x xx x x x xx xxx x x x x x x xx xx x xoox xo xo nx x ww ww nx xx";
+    let shape = nth_word(shapes, number);
     if number >= 36 {
         page.put(
             b"unknown question: expected judge, strict, judge-values, strict-values, vote, class, counts, doubles, report, write, sheet, load, park, power, log_word, antilog, exp, ln, sqrt, root, decimal or a function of the source\n",
         );
-        return;
+    } else if fits(line, shape) {
+        put_numbered(page, number, line);
+    } else {
+        put_wrong(page, nth_word(names, number), shape);
     }
-    let shapes =
-        b"x xx xxx xxxx x xxx xxx x xxx xx xxx x xx x x x xx xxx x x x x x x xx xx x xoox xo xo nx x ww ww nx xx";
-    let shape = nth_word(shapes, number);
-    if fits(line, shape) {
-        return put_numbered(page, number, line);
-    }
-    put_wrong(page, nth_word(names, number), shape)
 }

@@ -1,4 +1,6 @@
 // The trim class and the smallest change that gives another.
+#![tactic(auto, using(pages::proofs::Putting::puts), unfolding(crate::specs::Classes::turn_text))]
+
 ghost use Rattle.std.specs.Prelude.{◌≡◌, ◌++◌};
 ghost use Rattle.arithmetic.specs.Ascii.{ascii};
 ghost use Rattle.pages.specs.Pages.{put};
@@ -34,21 +36,19 @@ fn put_turn(page: &mut Page<'_>, turn: Turn)
     ensures { page.new ≡ put page.old (turn_text turn) }
 {
     let change = turn.change;
-    let quantity = change.quantity;
-    let direction = change.direction;
-    put_quantity(page, quantity);
-    put_direction(page, direction);
+    put_quantity(page, change.quantity);
+    put_direction(page, change.direction);
     put_whole(page, change.tenths);
     page.put(b" class ");
     put_whole(page, turn.class);
-    page.put(b"\n")
+    page.put(b"\n");
 }
 
 fn put_class(page: &mut Page<'_>, class: u8)
     ensures { page.new ≡ put page.old (ascii "class " ++ whole class) }
 {
     page.put(b"class ");
-    put_whole(page, class)
+    put_whole(page, class);
 }
 
 // The class of a record and the change, or the refusal. The record is left as it was.

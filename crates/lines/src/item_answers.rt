@@ -1,9 +1,11 @@
 // The question `write`: readings as items, `TAG=DATA`, and the record that is written of them.
+#![tactic(auto, using(pages::proofs::Putting::puts), unfolding(crate::specs::Items::write_answer))]
+
 ghost use Rattle.std.specs.Prelude.{◌≡◌, take, drop, ◌+◌, ◌*◌};
 ghost use Rattle.fields.specs.Fields.{is_tag, data_size};
 ghost use Rattle.pages.specs.Pages.{put};
 ghost use Rattle.questions.specs.Words.{line_parts};
-ghost use Rattle.lines.specs.Items.{item_tag, is_item, value_in, wrong, with_item, items_in, items_of, write_answer};
+ghost use Rattle.lines.specs.Items.{item_tag, is_item, value_in, with_item, items_in, write_answer};
 
 use crate::written::put_record;
 use fields::bits::double;
@@ -17,19 +19,13 @@ use record::entries::{Readings, entry_of, no_readings, with_value};
 fn tag_part(item: &[u8]) -> &[u8]
     ensures { result.now ≡ take 2 item.now }
 {
-    if item.len() <= 2 {
-        return item;
-    }
-    &item[..2]
+    &item[..item.len().min(2)]
 }
 
 fn data_part(item: &[u8]) -> &[u8]
     ensures { result.now ≡ drop 3 item.now }
 {
-    if item.len() <= 3 {
-        return &item[..0];
-    }
-    &item[3..]
+    &item[item.len().min(3)..]
 }
 
 fn tag_in(item: &[u8]) -> u8
@@ -54,23 +50,13 @@ fn item_size(tag: u8) -> usize
 fn is_item(item: &[u8]) -> bool
     ensures { result ≡ is_item item.now }
 {
-    if item.len() < 3 {
-        return false;
-    }
-    if !are_hex(tag_part(item)) {
-        return false;
-    }
-    if item[2] != b'=' {
-        return false;
-    }
     let tag = tag_in(item);
-    if !is_tag(tag) {
-        return false;
-    }
-    if item.len() != item_size(tag) {
-        return false;
-    }
-    are_hex(data_part(item))
+    item.len() >= 3
+        && are_hex(tag_part(item))
+        && item[2] == b'='
+        && is_tag(tag)
+        && item.len() == item_size(tag)
+        && are_hex(data_part(item))
 }
 
 fn value_in(item: &[u8]) -> Value
@@ -83,70 +69,38 @@ fn value_in(item: &[u8]) -> Value
     Value::Double(double(data))
 }
 
-// The readings of items; none where an item is not understood or a reading comes twice.
-#[derive(Clone, Copy)]
-struct Items {
-    good: bool,
-    readings: Readings,
-}
-
-fn wrong() -> Items
-    ensures { result ≡ items_of wrong }
-{
-    Items {
-        good: false,
-        readings: no_readings(),
-    }
-}
-
-// The readings with those of one item more.
-fn with_item(readings: Readings, item: &[u8]) -> Items
-    ensures { result ≡ items_of (with_item readings item.now) }
+// The readings with those of one item more; none where it is not understood or comes twice.
+fn with_item(readings: Readings, item: &[u8]) -> Option<Readings>
+    ensures { result ≡ with_item readings item.now }
 {
     if !is_item(item) {
-        return wrong();
+        return None;
     }
     let meaning = meaning_of(tag_in(item));
     if entry_of(readings, meaning).is_some() {
-        return wrong();
+        return None;
     }
-    Items {
-        good: true,
-        readings: with_value(readings, meaning, value_in(item)),
-    }
+    Some(with_value(readings, meaning, value_in(item)))
 }
 
-fn read_items(line: &[u8]) -> Items
-    ensures { result ≡ items_of (items_in (line_parts line.now)) }
+fn read_items(line: &[u8]) -> Option<Readings>
+    ensures { result ≡ items_in (line_parts line.now) }
 {
-    let count = word_count(line);
     let mut readings = no_readings();
-    let mut i = 1;
-    while i < count {
-        let read = with_item(readings, nth_word(line, i));
-        if !read.good {
-            return wrong();
-        }
-        readings = read.readings;
-        i += 1;
+    for i in 1..word_count(line) {
+        readings = with_item(readings, nth_word(line, i))?;
     }
-    Items {
-        good: true,
-        readings,
-    }
+    Some(readings)
 }
 
-// The record of the items of a line, its length before it, or what is expected, on the page from `at` on;
-// the position after it. The line is left as it was.
+// The record of the items of a line, its length before it, or what is expected. The line is left as it was.
 pub(crate) fn put_write(page: &mut Page<'_>, line: &[u8])
-    ensures put { page.new ≡ put page.old (write_answer (line_parts line.now)) }
-    ensures kept { line.now ≡ line.now }
+    ensures { page.new ≡ put page.old (write_answer (line_parts line.now)) }
 {
-    let items = read_items(line);
-    if items.good {
-        return put_record(page, items.readings);
+    match read_items(line) {
+        Some(readings) => put_record(page, readings),
+        None => page.put(
+            b"wrong arguments: expected write TAG=DATA .., 01 to 07 with 16 hex digits or 11 to 17 with 8, no reading twice\n",
+        ),
     }
-    page.put(
-        b"wrong arguments: expected write TAG=DATA .., 01 to 07 with 16 hex digits or 11 to 17 with 8, no reading twice\n",
-    )
 }

@@ -1,5 +1,5 @@
 // The answer to a line.
-#![tactic(auto)]
+#![tactic(auto, using(pages::proofs::Putting::puts), unfolding(crate::specs::Answers::record_answer, crate::specs::Answers::vote_answer, crate::specs::Answers::sheet_answer, crate::specs::Answers::load_answer, crate::specs::Answers::known_answer, crate::specs::Answers::question_answer, crate::specs::Answers::answer_line))]
 
 mod asked;
 mod classes;
@@ -39,7 +39,7 @@ fn put_record_answer(page: &mut Page<'_>, number: usize, line: &[u8])
 {
     let mut record = [0u8; ROOM];
     let n = record_at(line, 1, &mut record);
-    put_of_record(page, number, &record[..n])
+    put_of_record(page, number, &record[..n]);
 }
 
 fn put_vote_answer(page: &mut Page<'_>, line: &[u8])
@@ -51,7 +51,7 @@ fn put_vote_answer(page: &mut Page<'_>, line: &[u8])
     let b = record_at(line, 2, &mut second);
     let mut third = [0u8; ROOM];
     let c = record_at(line, 3, &mut third);
-    put_vote(page, &first[..a], &second[..b], &third[..c])
+    put_vote(page, &first[..a], &second[..b], &third[..c]);
 }
 
 fn put_sheet_answer(page: &mut Page<'_>, line: &[u8])
@@ -60,14 +60,14 @@ fn put_sheet_answer(page: &mut Page<'_>, line: &[u8])
     let altitude_m = double_at(line, 1);
     let pressure_hpa = double_at(line, 2);
     let humidity_percent = double_at(line, 3);
-    put_sheet(page, altitude_m, pressure_hpa, humidity_percent)
+    put_sheet(page, altitude_m, pressure_hpa, humidity_percent);
 }
 
 fn put_load_answer(page: &mut Page<'_>, line: &[u8])
     ensures { page.new ≡ put page.old (load_answer (line_parts line.now)) }
 {
     let number = number_at(line, 1);
-    put_load_record(page, number)
+    put_load_record(page, number);
 }
 
 // The answer to the question with a number, whose arguments fit its shape.
@@ -88,36 +88,32 @@ fn put_question(page: &mut Page<'_>, line: &[u8])
     let names =
         b"judge strict judge-values strict-values class counts doubles report vote sheet load write park";
     let number = place(nth_word(line, 0), names);
-    if number >= 13 {
-        return put_function_answer(page, line);
+    match number {
+        0..=10 => {
+            let shapes = b"r r r r r r r r rrr xxx n";
+            let shape = nth_word(shapes, number);
+            if fits(line, shape) {
+                put_known(page, number, line);
+            } else {
+                put_wrong(page, nth_word(names, number), shape);
+            }
+        }
+        11 => put_write(page, line),
+        12 => put_park(page, line),
+        _ => put_function_answer(page, line),
     }
-    if number == 12 {
-        return put_park(page, line);
-    }
-    if number == 11 {
-        return put_write(page, line);
-    }
-    let shapes = b"r r r r r r r r rrr xxx n";
-    let shape = nth_word(shapes, number);
-    if fits(line, shape) {
-        return put_known(page, number, line);
-    }
-    put_wrong(page, nth_word(names, number), shape)
 }
 
-// The answer to a line, its end not counted, on the page from `at` on, as much of it as there is room for;
-// the position after it. The line is left as it was.
+// The answer to a line, its end not counted, as much of it as there is room for. The line is left as it was.
 pub fn put_line_answer(page: &mut Page<'_>, line: &[u8])
     ensures put { page.new ≡ put page.old (answer_line line.now) }
     ensures kept { line.now ≡ line.now }
 {
     if line.len() > 4096 {
         page.put(b"line too long: expected 4096 bytes at most\n");
-        return;
-    }
-    if line.len() == 0 {
+    } else if line.is_empty() {
         page.put(b"\n");
-        return;
+    } else {
+        put_question(page, line);
     }
-    put_question(page, line)
 }

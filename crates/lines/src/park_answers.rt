@@ -1,6 +1,8 @@
 // The question `park`: what the program `park` prints for the words of a line.
-ghost use Rattle.std.specs.Prelude.{◌≡◌, min, length};
-ghost use Rattle.pages.specs.Pages.{Appended, Holds};
+#![tactic(auto, using(pages::proofs::Putting::puts), unfolding(crate::specs::Typed::park_answer))]
+
+ghost use Rattle.std.specs.Prelude.{◌≡◌, length};
+ghost use Rattle.pages.specs.Pages.{Holds, put};
 ghost use Rattle.lines.specs.Typed.{typed_byte, typed_at, typed_text, park_answer};
 
 use pages::scan::find;
@@ -13,29 +15,21 @@ const ROOM: usize = 4096;
 fn typed_byte(b: u8) -> u8
     ensures { result ≡ typed_byte b }
 {
-    if b == b' ' {
-        return b'\n';
+    match b {
+        b' ' => b'\n',
+        b'\t' => b' ',
+        _ => b,
     }
-    if b == b'\t' {
-        return b' ';
-    }
-    b
 }
 
 // The byte of a line at a position, and the newline that ends its last word past it.
 fn typed_at(line: &[u8], at: usize) -> u8
     ensures { result ≡ typed_at line.now at }
 {
-    if at < line.len() {
-        return typed_byte(line[at]);
+    match line.get(at) {
+        Some(&b) => typed_byte(b),
+        None => b'\n',
     }
-    b'\n'
-}
-
-fn least(a: usize, b: usize) -> usize
-    ensures { result ≡ min a b }
-{
-    if a < b { a } else { b }
 }
 
 // The words after the first, each ended by a newline, at the start of the buffer; how many bytes they are.
@@ -43,21 +37,19 @@ fn typed_text(line: &[u8], out: &mut [u8]) -> usize
     ensures { Holds (typed_text (length out.old) line.now) out.new result }
 {
     let blank = find(line, 0, line.len(), b' ');
-    let count = least(line.len() - blank, out.len());
-    let mut i = 0;
-    while i < count {
+    let count = (line.len() - blank).min(out.len());
+    for i in 0..count {
         out[i] = typed_at(line, blank + 1 + i);
-        i += 1;
     }
     count
 }
 
-// What is printed, on the page from `at` on; the position after it. The line is left as it was.
+// What is printed. The line is left as it was.
 pub(crate) fn put_park(page: &mut Page<'_>, line: &[u8])
     ensures put { page.new ≡ put page.old (park_answer line.now) }
     ensures kept { line.now ≡ line.now }
 {
     let mut typed = [0u8; ROOM];
     let n = typed_text(line, &mut typed);
-    put_park_text(page, &typed[..n])
+    put_park_text(page, &typed[..n]);
 }

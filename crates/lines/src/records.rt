@@ -1,4 +1,6 @@
 // The questions about one record, by number.
+#![tactic(auto, using(pages::proofs::Putting::puts), unfolding(crate::specs::Records::record_answer_text))]
+
 ghost use Rattle.std.specs.Prelude.{◌≡◌, false};
 ghost use Rattle.pages.specs.Pages.{put};
 ghost use Rattle.record.specs.Readings.{read_record};
@@ -19,11 +21,9 @@ use text::answer_lines::{put_answer, put_refusal};
 fn put_report(page: &mut Page<'_>, record: &[u8])
     ensures { page.new ≡ put page.old (read_text (read_record false «record».now)) }
 {
-    let read = read_record(record);
-    let check = read.check;
-    match check {
+    match read_record(record) {
+        Ok(readings) => report::put_report(page, readings, Origin::Record),
         Err(refusal) => put_refusal(page, refusal),
-        Ok(()) => report::put_report(page, read.readings, Origin::Record),
     }
 }
 

@@ -1,4 +1,6 @@
 // The functions by whole numbers alone: log word, antilog, root, and the decimal text of a double.
+#![tactic(auto, using(pages::proofs::Putting::puts), unfolding(crate::specs::Rules::log_answer, crate::specs::Rules::antilog_answer, crate::specs::Rules::root_line, crate::specs::Rules::root_answer))]
+
 ghost use Rattle.std.specs.Prelude.{◌≡◌};
 ghost use Rattle.pages.specs.Pages.{put};
 ghost use Rattle.questions.specs.Words.{line_parts};
@@ -39,11 +41,7 @@ fn put_logarithm(page: &mut Page<'_>, logarithm: Option<Word>)
     ensures { page.new ≡ put page.old (log_line logarithm) }
 {
     match logarithm {
-        Some(w) => {
-            let whole = whole_of(w);
-            let part = part_of(w);
-            put_words(page, whole, part)
-        }
+        Some(w) => put_words(page, whole_of(w), part_of(w)),
         None => page.put(b"none\n"),
     }
 }
@@ -52,7 +50,7 @@ pub(crate) fn put_log_word(page: &mut Page<'_>, line: &[u8])
     ensures { page.new ≡ put page.old (log_answer (line_parts line.now)) }
 {
     let logarithm = log_word(double_at(line, 1));
-    put_logarithm(page, logarithm)
+    put_logarithm(page, logarithm);
 }
 
 // A word by its whole part in two's complement and what is left of it; none where the one is past 32 bits or
@@ -61,23 +59,22 @@ fn word_of(k: u64, f: u64) -> Option<Word>
     ensures { result ≡ log_word_of k f }
 {
     if f > ONES {
-        return None;
-    }
-    if k < 0x1_0000_0000 {
-        return Some(Word {
+        None
+    } else if k < 0x1_0000_0000 {
+        Some(Word {
             negative: false,
             whole: k as u32,
             part: f,
-        });
-    }
-    if k >= 0xffff_ffff_0000_0000 {
-        return Some(Word {
+        })
+    } else if k >= 0xffff_ffff_0000_0000 {
+        Some(Word {
             negative: true,
             whole: (0xffff_ffff_ffff_ffff - k) as u32,
             part: ONES - f,
-        });
+        })
+    } else {
+        None
     }
-    None
 }
 
 fn put_power_of_two(page: &mut Page<'_>, word: Option<Word>)
@@ -96,7 +93,7 @@ pub(crate) fn put_antilog(page: &mut Page<'_>, line: &[u8])
 {
     let k = word_at(line, 1);
     let f = word_at(line, 2);
-    put_power_of_two(page, word_of(k, f))
+    put_power_of_two(page, word_of(k, f));
 }
 
 pub(crate) fn put_root(page: &mut Page<'_>, line: &[u8])
@@ -105,5 +102,5 @@ pub(crate) fn put_root(page: &mut Page<'_>, line: &[u8])
     let hi = word_at(line, 1);
     let lo = word_at(line, 2);
     let roots = both_roots(u128::from(Wide { hi, lo }));
-    put_words(page, roots.first, roots.quick)
+    put_words(page, roots.first, roots.quick);
 }

@@ -1,4 +1,6 @@
 // The functions of the station that answer more than one double.
+#![tactic(auto, using(pages::proofs::Putting::puts), unfolding(crate::specs::Stations::standard_answer, crate::specs::Stations::atmosphere_answer, crate::specs::Stations::resolved_answer, crate::specs::Stations::accepted_line, crate::specs::Stations::station_answer, crate::specs::Stations::plausibility_answer))]
+
 ghost use Rattle.std.specs.Prelude.{◌≡◌, [], get_or};
 ghost use Rattle.pages.specs.Pages.{put};
 ghost use Rattle.questions.specs.Words.{line_parts};
@@ -42,7 +44,7 @@ pub(crate) fn put_standard(page: &mut Page<'_>, line: &[u8])
     ensures { page.new ≡ put page.old (standard_answer (line_parts line.now)) }
 {
     let air = calculate_icao_standard_atmosphere(double_at(line, 1));
-    put_pair(page, air.temperature_k, air.pressure_pa)
+    put_pair(page, air.temperature_k, air.pressure_pa);
 }
 
 pub(crate) fn put_atmosphere(page: &mut Page<'_>, line: &[u8])
@@ -53,7 +55,7 @@ pub(crate) fn put_atmosphere(page: &mut Page<'_>, line: &[u8])
     let pressure = reading_at(line, 3);
     let humidity_percent = double_at(line, 4);
     let air = calculate_atmosphere(altitude_m, temperature, pressure, humidity_percent);
-    put_pair(page, air.density_kg_m3, air.speed_of_sound_mps)
+    put_pair(page, air.density_kg_m3, air.speed_of_sound_mps);
 }
 
 pub(crate) fn put_resolved(page: &mut Page<'_>, line: &[u8])
@@ -77,7 +79,7 @@ fn put_accepted(page: &mut Page<'_>, station: Station)
     put_next_value(page, station.altitude_m);
     put_next_value(page, station.temperature_c);
     put_next_value(page, station.pressure_hpa);
-    page.put(b"\n")
+    page.put(b"\n");
 }
 
 fn put_found(page: &mut Page<'_>, answer: Result<Station, Refusal>)
@@ -95,7 +97,7 @@ pub(crate) fn put_station(page: &mut Page<'_>, line: &[u8])
     let density_altitude_m = double_at(line, 1);
     let temperature = reading_at(line, 2);
     let answer = station_for_density_altitude(density_altitude_m, temperature);
-    put_found(page, answer)
+    put_found(page, answer);
 }
 
 pub(crate) fn put_plausibility(page: &mut Page<'_>, line: &[u8])

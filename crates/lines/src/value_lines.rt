@@ -1,5 +1,7 @@
 // Values and refusals with their values as text on a page: each function puts its text from a position on,
 // as far as the page reaches, and answers the position after it.
+#![tactic(auto, using(pages::proofs::Putting::puts), unfolding(crate::specs::Values::value_text, crate::specs::Values::values_text, crate::specs::Values::refusal_values))]
+
 ghost use Rattle.std.specs.Prelude.{◌≡◌, ◌++◌};
 ghost use Rattle.refusal.specs.Refusals.{number_of, values_of, listed};
 ghost use Rattle.refusal.specs.Outcomes.{outcome};
@@ -17,12 +19,11 @@ use text::answer_lines::put_figures;
 pub(crate) fn put_value(page: &mut Page<'_>, x: f64)
     ensures { page.new ≡ put page.old (value_text x) }
 {
-    // only a NaN differs from itself
-    if x != x {
+    if x.is_nan() {
         page.put(b"nan");
-        return;
+    } else {
+        page.put_digits(pattern(x));
     }
-    page.put_digits(pattern(x))
 }
 
 // A number below 256.
@@ -31,10 +32,9 @@ pub(crate) fn put_whole(page: &mut Page<'_>, n: u8)
 {
     if n < 100 {
         page.put_number(n);
-        return;
+    } else {
+        page.put(&[b'0' + n / 100, b'0' + n / 10 % 10, b'0' + n % 10]);
     }
-    let digits = [48 + n / 100, 48 + n / 10 % 10, 48 + n % 10];
-    page.put(&digits)
 }
 
 // A blank and a value.
@@ -42,7 +42,7 @@ pub(crate) fn put_next_value(page: &mut Page<'_>, x: f64)
     ensures { page.new ≡ put page.old (ascii " " ++ value_text x) }
 {
     page.put(b" ");
-    put_value(page, x)
+    put_value(page, x);
 }
 
 fn put_handed_out(page: &mut Page<'_>, values: Values)
@@ -53,7 +53,7 @@ fn put_handed_out(page: &mut Page<'_>, values: Values)
         Values::One(x) => put_next_value(page, x),
         Values::Two(x, y) => {
             put_next_value(page, x);
-            put_next_value(page, y)
+            put_next_value(page, y);
         }
     }
 }
@@ -65,7 +65,7 @@ pub(crate) fn put_refusal_values(page: &mut Page<'_>, refusal: Refusal)
     page.put(b"refused ");
     page.put_number(number(refusal));
     put_handed_out(page, handed_out(refusal));
-    page.put(b"\n")
+    page.put(b"\n");
 }
 
 // The two lines of the figures, or the one of a refusal with its values.

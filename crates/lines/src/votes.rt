@@ -1,4 +1,6 @@
 // The vote of three masts.
+#![tactic(auto, using(pages::proofs::Putting::puts), unfolding(crate::specs::Votes::mast_text, crate::specs::Votes::vote_text))]
+
 ghost use Rattle.std.specs.Prelude.{◌≡◌, ◌++◌};
 ghost use Rattle.refusal.specs.Refusals.{number_of};
 ghost use Rattle.pages.specs.Characters.{refusal_line};
@@ -13,7 +15,7 @@ use text::answer_lines::{put_figures, put_refusal};
 use vote::answer::VoteRefusal;
 use vote::masts::vote;
 
-// The mast whose record is refused, where there is one, and the refusal.
+// The mast whose record is refused, and the refusal.
 fn put_mast(page: &mut Page<'_>, mast: u8, refusal: Refusal)
     ensures { page.new ≡ put page.old (mast_text mast ++ refusal_line (number_of refusal)) }
 {
@@ -23,7 +25,7 @@ fn put_mast(page: &mut Page<'_>, mast: u8, refusal: Refusal)
     page.put(b"mast ");
     put_whole(page, mast);
     page.put(b" ");
-    put_refusal(page, refusal)
+    put_refusal(page, refusal);
 }
 
 // What three records give together. They are left as they were.

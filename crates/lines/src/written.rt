@@ -1,4 +1,6 @@
 // The bytes of a record that is written or converted.
+#![tactic(auto, using(pages::proofs::Putting::puts), unfolding(crate::specs::Written::bytes_text, crate::specs::Written::length_text, crate::specs::Written::written_text))]
+
 ghost use Rattle.std.specs.Prelude.{◌≡◌, true, false, ◌≤◌, length};
 ghost use Rattle.pages.specs.Pages.{put};
 ghost use Rattle.writer.specs.Conversion.{converted};
@@ -21,11 +23,11 @@ const ROOM: usize = 154;
 fn put_bytes(page: &mut Page<'_>, bytes: &[u8])
     ensures { page.new ≡ put page.old (bytes_text bytes.now) }
 {
-    if bytes.len() == 0 {
+    if bytes.is_empty() {
         page.put(b"-");
-        return;
+    } else {
+        page.put_hex(bytes);
     }
-    page.put_hex(bytes)
 }
 
 fn put_length(page: &mut Page<'_>, bytes: &[u8])
@@ -35,7 +37,7 @@ fn put_length(page: &mut Page<'_>, bytes: &[u8])
     put_whole(page, bytes.len() as u8);
     page.put(b" ");
     put_bytes(page, bytes);
-    page.put(b"\n")
+    page.put(b"\n");
 }
 
 // What a writer has left at the start of its buffer, the length before it, or its refusal.
@@ -56,7 +58,7 @@ pub(crate) fn put_counts(page: &mut Page<'_>, record: &[u8])
 {
     let mut out = [0u8; ROOM];
     let answer = to_counts(record, &mut out);
-    put_written(page, answer, &out)
+    put_written(page, answer, &out);
 }
 
 // The record in doubles, likewise.
@@ -66,7 +68,7 @@ pub(crate) fn put_doubles(page: &mut Page<'_>, record: &[u8])
 {
     let mut out = [0u8; ROOM];
     let answer = to_doubles(record, &mut out);
-    put_written(page, answer, &out)
+    put_written(page, answer, &out);
 }
 
 // The record of readings, likewise.
@@ -75,5 +77,5 @@ pub(crate) fn put_record(page: &mut Page<'_>, readings: Readings)
 {
     let mut out = [0u8; ROOM];
     let answer = write(readings, &mut out);
-    put_written(page, answer, &out)
+    put_written(page, answer, &out);
 }
