@@ -15,8 +15,8 @@ abbrev pub in_slots : Bool → LoadCounts → Readings
 in_slots humid c =
     record {
       slots =
-          slot_of (stored c.altitude) ∷ slot_of (stored c.temperature) ∷ None ∷ None ∷ slot_of (cond humid (stored c.humidity) None) ∷ None ∷
-          slot_of (stored c.pressure) ∷ [];
+          stored c.altitude ∷ stored c.temperature ∷ None ∷ None ∷ cond humid (stored c.humidity) None ∷ None ∷
+          stored c.pressure ∷ [];
     }
 
 pub by_slots : (c : LoadCounts) → readings_of_counts c ≡ in_slots c.humid c
@@ -51,9 +51,9 @@ Held (Some v) = IsHeld v
 
 abbrev AllHeld : List (Option Value) → Type 0
 AllHeld [] = Unit {0}
-AllHeld (s ∷ slots) = Held s.stored × AllHeld slots
+AllHeld (s ∷ slots) = Held s × AllHeld slots
 
-one_of_all : (slots : List (Option Value)) → AllHeld slots → (m : ℕ) (v : Value) → (get_or slots m None).stored ≡ Some v → IsHeld v
+one_of_all : (slots : List (Option Value)) → AllHeld slots → (m : ℕ) (v : Value) → get_or slots m None ≡ Some v → IsHeld v
 one_of_all [] h m v e = let z : ◌≡◌ {A = ℕ} 0 1 = cc in absurd (omega arith)
 one_of_all (s ∷ slots) h zero v e = subst Held e h.0
 one_of_all (s ∷ slots) h (suc m) v e = one_of_all slots h.1 m v e

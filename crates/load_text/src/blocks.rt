@@ -1,15 +1,17 @@
 // The text of the load: of each record its bytes in hex digits on a line, then the two lines of its
-// figures. Each function that puts a text puts it from a position on and answers the position after it.
+// figures.
+#![tactic(auto, using(pages::proofs::Putting::puts), unfolding(crate::specs::Text::bytes_line, crate::specs::Text::judged_text, crate::specs::Text::load_record_text))]
+
 ghost use Rattle.std.specs.Prelude.{◌≡◌, length};
-ghost use Rattle.pages.specs.Pages.{Appended, Holds};
+ghost use Rattle.pages.specs.Pages.{put, Holds};
 ghost use Rattle.refusal.specs.Outcomes.{outcome};
 ghost use Rattle.load_text.specs.Records.{load_record};
 ghost use Rattle.load_text.specs.Text.{bytes_line, judged_text, load_record_text, records_in, length_taken, Fills};
 
-use refusal::Refusal;
 use crate::records::write_load_record;
 use mast::judge::judge;
-use pages::{put, put_hex};
+use pages::Page;
+use refusal::Refusal;
 use text::answer_lines::put_answer;
 
 // The bytes of the longest record: four fields of seven.
@@ -25,29 +27,26 @@ pub struct Block {
     pub length: usize,
 }
 
-fn put_bytes(page: &mut [u8], at: usize, record: &[u8]) -> usize
-    ensures appended { Appended page.old at (bytes_line «record».now) page.new result }
+fn put_bytes(page: &mut Page<'_>, record: &[u8])
+    ensures put { page.new ≡ put page.old (bytes_line «record».now) }
     ensures kept { «record».now ≡ «record».now }
 {
-    let digits = put_hex(page, at, record);
-    put(page, digits, b"\n")
+    page.put_hex(record);
+    page.put(b"\n");
 }
 
 // A record's bytes on a line, and the text of what the judge says of it.
-fn put_judged(page: &mut [u8], at: usize, record: &[u8]) -> usize
-    ensures { Appended page.old at (judged_text «record».now) page.new result }
+fn put_judged(page: &mut Page<'_>, record: &[u8])
+    ensures { page.new ≡ put page.old (judged_text «record».now) }
 {
-    let line = put_bytes(page, at, record);
-    put_answer(page, line, judge(record))
+    put_bytes(page, record);
+    put_answer(page, judge(record));
 }
 
 fn length_of(answer: Result<usize, Refusal>) -> usize
     ensures { result ≡ length_taken (outcome answer) }
 {
-    match answer {
-        Ok(n) => n,
-        Err(_) => 0,
-    }
+    answer.unwrap_or(0)
 }
 
 // A record at the start of the bytes, and its length.
@@ -66,33 +65,25 @@ fn record_numbered(number: u64) -> RecordBytes
 }
 
 // The bytes of the load's record with this number, on a line.
-pub fn put_load_record(page: &mut [u8], at: usize, number: u64) -> usize
-    ensures { Appended page.old at (bytes_line (load_record number)) page.new result }
+pub fn put_load_record(page: &mut Page<'_>, number: u64)
+    ensures { page.new ≡ put page.old (bytes_line (load_record number)) }
 {
-    let record = record_numbered(number);
-    let bytes = record.bytes;
-    let len = record.len;
-    put_bytes(page, at, &bytes[..len])
+    let RecordBytes { bytes, len } = record_numbered(number);
+    put_bytes(page, &bytes[..len]);
 }
 
-fn put_record(page: &mut [u8], at: usize, number: u64) -> usize
-    ensures { Appended page.old at (load_record_text number) page.new result }
+fn put_record(page: &mut Page<'_>, number: u64)
+    ensures { page.new ≡ put page.old (load_record_text number) }
 {
-    let record = record_numbered(number);
-    let bytes = record.bytes;
-    let len = record.len;
-    put_judged(page, at, &bytes[..len])
+    let RecordBytes { bytes, len } = record_numbered(number);
+    put_judged(page, &bytes[..len]);
 }
 
 // How many of so many records have room.
 fn records_in(count: u32, length: usize) -> u32
     ensures { result ≡ records_in count length }
 {
-    let room = length / ROOM;
-    if room < count as usize {
-        return room as u32;
-    }
-    count
+    (count as usize).min(length / ROOM) as u32
 }
 
 // The text of so many records from number `first` on, or of as many of them as a page has room for with
@@ -101,14 +92,12 @@ pub fn put_records(page: &mut [u8], first: u32, count: u32) -> Block
     ensures { Fills first (records_in count (length page.old)) page.old page.new result }
 {
     let records = records_in(count, page.len());
-    let mut at = 0;
-    let mut i = 0;
-    while i < records {
-        at = put_record(page, at, first as u64 + i as u64);
-        i += 1;
+    let mut page = Page::new(page);
+    for i in 0..records {
+        put_record(&mut page, first as u64 + i as u64);
     }
     Block {
         records,
-        length: at,
+        length: page.position(),
     }
 }

@@ -1,4 +1,6 @@
 // The counts of the load's records, five outputs of the generator for each record.
+#![tactic(auto, unfolding(crate::specs::Counts::counts_of, crate::specs::Counts::drawn))]
+
 ghost use Rattle.std.specs.Prelude.{◌≡◌, ◌^◌, ◌<◌, ◌≤◌};
 ghost use Rattle.std.specs.Int.Signed.{mag};
 ghost use Rattle.load_text.specs.Counts.{count_in, counts_of, drawn, load_counts};

@@ -1,13 +1,15 @@
 // The records of the load: readings of counts, and their bytes by the writer.
+#![tactic(auto, unfolding(crate::specs::Records::readings_of_counts, crate::specs::Records::load_readings, crate::specs::Records::load_record))]
+
 ghost use Rattle.std.specs.Prelude.{◌≡◌};
 ghost use Rattle.writer.specs.Written.{length_written, overwritten};
 ghost use Rattle.refusal.specs.Outcomes.{outcome};
 ghost use Rattle.load_text.specs.Records.{with_count, readings_of_counts, load_readings, load_record};
 
-use refusal::Refusal;
 use crate::counts::{LoadCounts, load_counts};
 use fields::fields::{ALTITUDE, HUMIDITY, MEASURED_PRESSURE, TEMPERATURE, Value};
 use record::entries::{Readings, no_readings, with_value};
+use refusal::Refusal;
 use thousandths::word_from;
 use writer::write;
 

@@ -1,5 +1,7 @@
 // SplitMix64, from state 0: a state that grows by a constant, and an output mixed from it, all modulo
 // 2^64.
+#![tactic(auto, unfolding(crate::specs::SplitMix::mixed, crate::specs::SplitMix::state_after))]
+
 ghost use Rattle.std.specs.Prelude.{◌≡◌, ◌*◌, ◌%◌, ◌^◌};
 ghost use Rattle.load_text.specs.SplitMix.{advanced, state_after, mixed};
 
