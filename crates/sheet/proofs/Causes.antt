@@ -5,7 +5,7 @@ use Rattle.sheet.proofs.Stated.{sheet_rows}
 use Rattle.refusal.specs.Causes.{ExactlyCaused}
 
 module _ (h p u : Float) where
-  by-line : (t : Float) → row_outcome h p u t ≡ (line_rows h p u t then accepted (line_text h p u t))
+  pub by-line : (t : Float) → row_outcome h p u t ≡ (line_rows h p u t then accepted (line_text h p u t))
   unfolding row_outcome air_outcome figures_outcome
   by-line t =
       let a = station_of_row h p u t in

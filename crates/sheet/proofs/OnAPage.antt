@@ -1,14 +1,14 @@
--- A text over a page that has room for it: the page's length, and what stands before the text's end. Assumes nothing.
-use Rattle.sheet.proofs.Kit.{◌≡◌, ap, ◌∙◌, List, ◌++◌, ℕ, ◌+◌, ◌≤◌, arith, length, take, drop, length-append, length-take-le, take_at, length-sets, sets-eq, over}
-use Rattle.pages.specs.Pages.{placed}
+-- A text that fills a buffer from its start, and the buffer put at the start of a page. Assumes nothing.
+use Rattle.sheet.proofs.Kit.{◌≡◌, ap, ◌∙◌, List, ◌++◌, ℕ, arith, length, sets-eq, over}
+use Rattle.std.specs.Borrow.{MutBor}
+use Rattle.arithmetic.proofs.Kit.{append-nil, drop_of_length-le}
+use Rattle.pages.specs.declared.Page.{Page}
+use Rattle.pages.specs.Pages.{placed, page_from, put}
 
-module _ (page : List ℕ) (at : ℕ) (text : List ℕ) (room : at + length text ≤ length page) where
-  pub over-length : length (over page at text) ≡ length page
-  unfolding placed
-  over-length = length-sets page at text
+pub fills : (text : List ℕ) {own : List ℕ} {b : MutBor (List ℕ)} {q : Page} → q ≡ page_from b 0 → length b.now ≡ length text → own ≡ placed b.now 0 text → own ≡ text
+unfolding placed
+fills text {own} {b} {q} begun size is =
+    is ∙ sets-eq text b.now 0 (omega arith) ∙ ap (λ (l : List ℕ). text ++ l) (drop_of_length-le b.now (omega arith)) ∙ append-nil text
 
-  pub over_front : take (at + length text) (over page at text) ≡ take at page ++ text
-  unfolding placed
-  over_front =
-      let long : length (take at page ++ text) ≡ at + length text = omega (arith, length-append (take at page) text, length-take-le at page (omega arith)) in
-      ap (take (at + length text)) (sets-eq text page at room) ∙ take_at (take at page ++ text) (drop (at + length text) page) (at + length text) long
+pub put_whole : (page text : List ℕ) {last : List ℕ} (own : List ℕ) (q : Page) {r : Page} → r ≡ put q own → own ≡ text → last ≡ placed page 0 own → last ≡ over page 0 text
+put_whole page text own q done is e = e ∙ ap (placed page 0) is

@@ -1,12 +1,13 @@
 // The page: all rows are judged on a page of its own before the first byte of the lent one is written.
-ghost use Rattle.std.specs.Prelude.{◌≡◌, ◌<◌, length};
-ghost use Rattle.refusal.specs.Outcomes.{passed, accepted, ◌⟫◌, outcome};
+ghost use Rattle.std.specs.Prelude.{ℕ, List, ◌≡◌, ◌<◌, length};
+ghost use Rattle.refusal.specs.Outcomes.{passed, accepted, outcome};
+ghost use Rattle.pages.specs.Pages.{put};
 ghost use Rattle.sheet.specs.Over.{over_or_left};
 ghost use Rattle.sheet.specs.Sheet.{celsius_of_row, rows, sheet_input_rows, setting_sheet, bare};
 
 use super::row::write_row;
 use mast::checks::{check_altitude, check_humidity, check_pressure};
-use pages::put;
+use pages::Page;
 use refusal::Refusal;
 
 fn check_inputs(altitude_m: f64, pressure_hpa: f64, humidity_percent: f64) -> Result<(), Refusal>
@@ -24,13 +25,18 @@ fn celsius(n: u32) -> f64
     (n as i32 - 10) as f64
 }
 
-fn write_rows(page: &mut [u8], altitude_m: f64, pressure_hpa: f64, humidity_percent: f64) -> Result<(), Refusal>
-    requires { length page.old ≡ 1530 }
-    ensures { rows altitude_m pressure_hpa humidity_percent 51 ≡ (outcome result ⟫ (λ _. accepted page.new)) }
+// All rows, or the refusal of the first that is refused.
+fn write_rows(
+    page: &mut Page<'_>,
+    altitude_m: f64,
+    pressure_hpa: f64,
+    humidity_percent: f64,
+) -> Result<(), Refusal>
+    ensures outcome { outcome result ≡ bare (rows altitude_m pressure_hpa humidity_percent 51) }
+    ensures written { (text : List ℕ) → rows altitude_m pressure_hpa humidity_percent 51 ≡ accepted text → page.new ≡ put page.old text }
 {
     for n in 0..51 {
-        let at = 30 * n as usize;
-        write_row(page, at, altitude_m, pressure_hpa, humidity_percent, celsius(n))?;
+        write_row(page, altitude_m, pressure_hpa, humidity_percent, celsius(n))?;
     }
     Ok(())
 }
@@ -52,7 +58,8 @@ pub fn setting_sheet(
     }
     check_inputs(altitude_m, pressure_hpa, humidity_percent)?;
     let mut own = [0u8; 1530];
-    write_rows(&mut own, altitude_m, pressure_hpa, humidity_percent)?;
-    put(page, 0, &own);
+    let mut rows = Page::new(&mut own);
+    write_rows(&mut rows, altitude_m, pressure_hpa, humidity_percent)?;
+    Page::new(page).put(&own);
     Ok(())
 }
