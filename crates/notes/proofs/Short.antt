@@ -3,6 +3,7 @@ use Rattle.arithmetic.proofs.Kit.{◌≡◌, Bool, true, false, List, [], ◌∷
 use Rattle.refusal.specs.Outcomes.{Outcome, accepted, refused}
 use Rattle.refusal.specs.declared.judge.Figures.{Figures}
 use Rattle.record.specs.declared.entries.Readings.{Readings}
+use Rattle.record.specs.Entries.{value_or_zero}
 use Rattle.mast.specs.Judge.{air_outcome}
 use Rattle.trim.specs.Classes.{trim_class}
 use Rattle.pages.proofs.Short.{Within, number_short}
@@ -10,10 +11,10 @@ use Rattle.decimals.proofs.Places.{shown-short}
 use Rattle.notes.specs.declared.given.Given.{Given}
 use Rattle.notes.specs.Given.{given_by, pressure_given}
 use Rattle.notes.specs.Words.{Note, when, printed}
-use Rattle.notes.specs.Used.{as_given, air_text, temperature_default, pressure_default, absent_notes, used_notes}
+use Rattle.notes.specs.Used.{as_given, air_text, default_line, temperature_default, pressure_default, absent_notes, used_notes}
 use Rattle.notes.specs.Pressures.{beside, meant_notes, unit_notes, notes_beside, pressure_notes}
 use Rattle.atmosphere.specs.declared.plausibility.StationPressurePlausibility.{StationPressurePlausibility}
-use Rattle.notes.specs.Ranges.{temperature_notes, altitude_notes, range_notes}
+use Rattle.notes.specs.Ranges.{feet_line, temperature_notes, altitude_notes, range_notes}
 use Rattle.notes.specs.Doubts.{limit_of, fraction, at_limit, doubt_notes}
 use Rattle.notes.specs.Notes.{notes_of, notes, note_lines}
 use Rattle.arithmetic.specs.Decimals.{hundred}
@@ -43,16 +44,15 @@ air-short (refused number values) = simp length-append (omega (arith, (number_sh
 
 -- ---- the rows
 used-short : (g : Given) (f : Figures) (air : Outcome Figures) → total (used_notes g f air) ≤ 650
-unfolding used_notes temperature_default pressure_default absent_notes
+unfolding used_notes temperature_default pressure_default default_line absent_notes
 used-short g f air =
     simp length-append
     (omega (
       arith,
       air-short air,
-      shown-short 3 g.temperature_c,
+      shown-short 3 (value_or_zero g.temperature_c),
       shown-short 3 f.temperature_c,
-      shown-short 3
-          g.station_pressure_hpa,
+      shown-short 3 (value_or_zero g.station_pressure_hpa),
       shown-short 3 f.pressure_hpa,
     ))
 
@@ -67,21 +67,21 @@ beside-short g f s =
       shown-short 1 f.altitude_m,
       shown-short 3 (s.icao_standard_pa ⊘ hundred),
       shown-short 3 (pressure_given g),
-      shown-short 3 g.qnh_hpa,
-      shown-short 3 g.altitude_m,
+      shown-short 3 (value_or_zero g.qnh_hpa),
+      shown-short 3 (value_or_zero g.altitude_m),
     ))
 
 range-short : (g : Given) (f : Figures) → total (range_notes g f) ≤ 440
-unfolding range_notes temperature_notes altitude_notes
+unfolding range_notes temperature_notes altitude_notes feet_line
 range-short g f =
     simp length-append
     (omega (
       arith,
       shown-short 3 f.temperature_c,
-      shown-short 3 g.temperature_c,
+      shown-short 3 (value_or_zero g.temperature_c),
       shown-short 1 f.altitude_m,
-      shown-short 3 g.altitude_m,
-      shown-short 3 g.density_altitude_m,
+      shown-short 3 (value_or_zero g.altitude_m),
+      shown-short 3 (value_or_zero g.density_altitude_m),
     ))
 
 doubt_short : (g : Given) (f : Figures) (point : Bool) → total (doubt_notes g f point) ≤ 420
@@ -92,8 +92,8 @@ doubt_short g f point =
     (omega (
       arith,
       shown-short 3 f.altitude_m,
-      shown-short 3 g.humidity_percent,
-      shown-short 3 (hundred ⊗ g.humidity_percent),
+      shown-short 3 (value_or_zero g.humidity_percent),
+      shown-short 3 (hundred ⊗ value_or_zero g.humidity_percent),
       shown-short 4 (limit_of (trim_class d)),
       (number_short (trim_class d)).bound,
     ))

@@ -1,6 +1,6 @@
 -- The notes on a point in the altitude, a humidity that may be a fraction, a density that its decimals show as a limit of the trim table, and what the next
 -- class is searched from. Definitions only.
-use Rattle.std.specs.Prelude.{ℕ, ◌%◌, Bool, not, ◌&&◌, ◌||◌, List, [], ◌∷◌, ◌++◌, ltb, Float, get_or}
+use Rattle.std.specs.Prelude.{ℕ, ◌%◌, Bool, ◌&&◌, ◌||◌, List, [], ◌∷◌, ◌++◌, ltb, Float, get_or, is_some, is_none}
 use Rattle.std.specs.Float.{nan}
 use Rattle.std.specs.Float.Ieee.{lt, le}
 use Rattle.arithmetic.specs.Ascii.{ascii}
@@ -9,6 +9,7 @@ use Rattle.arithmetic.specs.Operators.{◌⊗◌}
 use Rattle.decimals.specs.Decimal.{decimal_text}
 use Rattle.decimals.specs.Places.{in_sixteen}
 use Rattle.refusal.specs.declared.judge.Figures.{Figures}
+use Rattle.record.specs.Entries.{value_or_zero}
 use Rattle.trim.specs.Classes.{class_densities, trim_class}
 use Rattle.pages.specs.Characters.{number_text, same}
 use Rattle.notes.specs.declared.given.Given.{Given}
@@ -17,9 +18,9 @@ use Rattle.notes.specs.Words.{Note, note, figured}
 -- ---- humidity-fraction
 unfoldable pub fraction : Given → Note
 fraction g =
-    note (g.humidity && lt nought g.humidity_percent && le g.humidity_percent one)
-    (figured "note: humidity " 3 g.humidity_percent " percent is nearly dry air:"
-    ++ figured " type humidity=" 3 (hundred ⊗ g.humidity_percent) " if it was a fraction\n")
+    let percent = value_or_zero g.humidity_percent in
+    note (is_some g.humidity_percent && lt nought percent && le percent one)
+    (figured "note: humidity " 3 percent " percent is nearly dry air:" ++ figured " type humidity=" 3 (hundred ⊗ percent) " if it was a fraction\n")
 
 -- ---- at-limit: below the limit of the next class, and with the same four decimals. A class below 6 counts the limits at or below a density, so that the
 -- next limit is at its place in the table
@@ -45,5 +46,5 @@ doubt_notes g f point =
     (figured "note: the altitude was read as " 3 f.altitude_m " m: the point marks decimals, leave it out if it was meant for thousands\n") ∷
     fraction g ∷
     at_limit f.density_kg_m3 ∷
-    note (not g.temperature || not g.measured_pressure)
+    note (is_none g.temperature_c || is_none g.measured_pressure_hpa)
     (ascii "note: the next class is searched from the temperature and the station pressure above\n") ∷ []

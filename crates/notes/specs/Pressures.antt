@@ -1,9 +1,10 @@
 -- The notes on a pressure that does not belong to its altitude, and what else it may have been. Pressures in hPa, altitudes in m. Definitions only.
-use Rattle.std.specs.Prelude.{ℕ, Bool, not, ◌&&◌, ◌||◌, cond, List, [], ◌∷◌, ◌++◌, Float}
+use Rattle.std.specs.Prelude.{ℕ, Bool, not, ◌&&◌, ◌||◌, cond, List, [], ◌∷◌, ◌++◌, Float, is_some, is_none}
 use Rattle.arithmetic.specs.Decimals.{decimal, hundred}
 use Rattle.arithmetic.specs.Operators.{◌⊗◌, ◌⊘◌}
 use Rattle.arithmetic.specs.Places.{places}
 use Rattle.refusal.specs.declared.judge.Figures.{Figures}
+use Rattle.record.specs.Entries.{value_or_zero}
 use Rattle.atmosphere.specs.declared.plausibility.StationPressurePlausibility.{StationPressurePlausibility}
 use Rattle.atmosphere.specs.Plausibility.{plausibility}
 use Rattle.atmosphere.specs.Station.{reduced_qnh}
@@ -20,7 +21,7 @@ is_plausible p h = not (beside p h).implausible
 
 -- ---- pressure-altitude: no density altitude, a pressure that is given, and what it resolves to is implausible
 abbrev pub is_doubtful : Given → Bool → Bool
-is_doubtful g implausible = not g.density_altitude && (g.station_pressure || g.qnh || g.measured_pressure) && implausible
+is_doubtful g implausible = is_none g.density_altitude_m && (is_some g.station_pressure_hpa || is_some g.qnh_hpa || is_some g.measured_pressure_hpa) && implausible
 
 abbrev pub beside_line : Figures → StationPressurePlausibility → List ℕ
 beside_line f found =
@@ -36,20 +37,20 @@ reduced_given g h = reduced_qnh places (pressure_given g) h
 
 unfoldable pub meant_notes : Bool → Given → Figures → List Note
 meant_notes doubtful g f =
-    note (doubtful && (g.station_pressure || g.measured_pressure) && is_plausible (reduced_given g f.altitude_m) f.altitude_m)
+    note (doubtful && (is_some g.station_pressure_hpa || is_some g.measured_pressure_hpa) && is_plausible (reduced_given g f.altitude_m) f.altitude_m)
     (figured "try: qnh=" 3 (pressure_given g) " if it is a QNH\n") ∷
-    note (doubtful && g.qnh && is_plausible g.qnh_hpa f.altitude_m)
-    (figured "try: pressure=" 3 g.qnh_hpa " if it was measured at the station\n") ∷ []
+    note (doubtful && is_some g.qnh_hpa && is_plausible (value_or_zero g.qnh_hpa) f.altitude_m)
+    (figured "try: pressure=" 3 (value_or_zero g.qnh_hpa) " if it was measured at the station\n") ∷ []
 
 -- ---- try-feet, try-kpa, try-inhg
 -- a pressure, resolved as the one that is given is: a QNH is reduced
 unfoldable pub resolved_as : Given → Float → Float → Float
-resolved_as g p h = cond g.qnh (reduced_qnh places p h) p
+resolved_as g p h = cond (is_some g.qnh_hpa) (reduced_qnh places p h) p
 
 unfoldable pub unit_notes : Bool → Given → Figures → List Note
 unit_notes doubtful g f =
     note (doubtful && is_plausible f.pressure_hpa (decimal "0.3048" ⊗ f.altitude_m))
-    (figured "try: altitude=" 3 g.altitude_m "ft if the altitude is in feet\n") ∷
+    (figured "try: altitude=" 3 (value_or_zero g.altitude_m) "ft if the altitude is in feet\n") ∷
     note (doubtful && is_plausible (resolved_as g (decimal "10" ⊗ pressure_given g) f.altitude_m) f.altitude_m)
     (figured "try: " 3 (pressure_given g) "kPa if the pressure is in kPa\n") ∷
     note (doubtful && is_plausible (resolved_as g (decimal "33.8639" ⊗ pressure_given g) f.altitude_m) f.altitude_m)

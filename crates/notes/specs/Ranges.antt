@@ -1,9 +1,12 @@
 -- The notes on a temperature and an altitude outside the range over which the figures were compared with the source. t in °C, h in m. Definitions only.
-use Rattle.std.specs.Prelude.{Bool, ◌&&◌, ◌||◌, List, [], ◌∷◌, ◌++◌, Float}
+use Rattle.std.specs.Prelude.{ℕ, Bool, ◌&&◌, ◌||◌, List, [], ◌∷◌, ◌++◌, Float, Option, is_some}
 use Rattle.std.specs.Float.Ieee.{lt, le}
+use Rattle.arithmetic.specs.Ascii.{ascii}
 use Rattle.arithmetic.specs.Decimals.{decimal}
 use Rattle.arithmetic.specs.Operators.{◌⊖◌, ◌⊗◌, ◌⊘◌}
+use Rattle.decimals.specs.Shown.{shown}
 use Rattle.refusal.specs.declared.judge.Figures.{Figures}
+use Rattle.record.specs.Entries.{value_or_zero}
 use Rattle.notes.specs.declared.given.Given.{Given}
 use Rattle.notes.specs.Words.{Note, note, figured}
 
@@ -23,22 +26,30 @@ is_outside_altitudes h = lt h (decimal "-500") || lt (decimal "5000") h
 -- ---- temperature-range, try-fahrenheit, try-kelvin
 unfoldable pub temperature_notes : Given → Float → List Note
 temperature_notes g t =
+    let typed = value_or_zero g.temperature_c in
     note (is_outside_temperatures t)
     (figured "note: " 3 t " C is outside -40 to 50 C, over which the figures were compared with the source\n") ∷
-    note (is_outside_temperatures t && g.temperature && is_compared_temperature ((g.temperature_c ⊖ decimal "32") ⊗ decimal "5" ⊘ decimal "9"))
-    (figured "try: temperature=" 3 g.temperature_c "F if it is in degrees Fahrenheit\n") ∷
-    note (is_outside_temperatures t && g.temperature && is_compared_temperature (g.temperature_c ⊖ decimal "273.15"))
-    (figured "try: temperature=" 3 g.temperature_c "K if it is in kelvins\n") ∷ []
+    note (is_outside_temperatures t && is_some g.temperature_c && is_compared_temperature ((typed ⊖ decimal "32") ⊗ decimal "5" ⊘ decimal "9"))
+    (figured "try: temperature=" 3 typed "F if it is in degrees Fahrenheit\n") ∷
+    note (is_outside_temperatures t && is_some g.temperature_c && is_compared_temperature (typed ⊖ decimal "273.15"))
+    (figured "try: temperature=" 3 typed "K if it is in kelvins\n") ∷ []
 
 -- ---- altitude-range, try-altitude-feet
+-- an altitude, where it is given, that would lie in the range as feet
+unfoldable pub is_in_feet : Option Float → Bool
+is_in_feet m = is_some m && is_compared_altitude (decimal "0.3048" ⊗ value_or_zero m)
+
+unfoldable pub feet_line : List ℕ → Option Float → List ℕ
+feet_line before m = before ++ shown 3 (value_or_zero m) ++ ascii "ft if it is in feet\n"
+
 unfoldable pub altitude_notes : Given → Float → List Note
 altitude_notes g h =
     note (is_outside_altitudes h)
     (figured "note: " 1 h " m is outside -500 to 5000 m, over which the figures were compared with the source\n") ∷
-    note (is_outside_altitudes h && g.altitude && is_compared_altitude (decimal "0.3048" ⊗ g.altitude_m))
-    (figured "try: altitude=" 3 g.altitude_m "ft if it is in feet\n") ∷
-    note (is_outside_altitudes h && g.density_altitude && is_compared_altitude (decimal "0.3048" ⊗ g.density_altitude_m))
-    (figured "try: density-altitude=" 3 g.density_altitude_m "ft if it is in feet\n") ∷ []
+    note (is_outside_altitudes h && is_in_feet g.altitude_m)
+    (feet_line (ascii "try: altitude=") g.altitude_m) ∷
+    note (is_outside_altitudes h && is_in_feet g.density_altitude_m)
+    (feet_line (ascii "try: density-altitude=") g.density_altitude_m) ∷ []
 
 unfoldable pub range_notes : Given → Figures → List Note
 range_notes g f = temperature_notes g f.temperature_c ++ altitude_notes g f.altitude_m

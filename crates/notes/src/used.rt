@@ -1,32 +1,30 @@
 // The notes on what was used in place of readings: the standard atmosphere's temperature and pressure for
 // those of a mast that is not set up and for those that are absent, and dry air.
+#![tactic(auto, using(pages::proofs::Putting::puts), unfolding(crate::specs::Used::temperature_default, crate::specs::Used::pressure_default, crate::specs::Used::absent_notes))]
+
 ghost use Rattle.std.specs.Prelude.{◌≡◌};
-ghost use Rattle.pages.specs.Pages.{Appended};
+ghost use Rattle.pages.specs.Pages.{put};
 ghost use Rattle.refusal.specs.Outcomes.{outcome};
 ghost use Rattle.notes.specs.Words.{when, printed};
-ghost use Rattle.notes.specs.Used.{is_far, as_given, pressure_as_given, air_text, is_temperature_default, is_pressure_default, temperature_default, pressure_default, absent_notes, used_notes};
+ghost use Rattle.notes.specs.Used.{is_far, as_given, pressure_as_given, air_text, is_temperature_default, is_pressure_default, default_line, temperature_default, pressure_default, absent_notes, used_notes};
 
-use refusal::Refusal;
-use crate::given::Given;
-use crate::words::{put_figured, put_figured_if, put_if};
+use crate::given::{Given, Noted};
+use crate::words::put_figured;
 use arithmetic::doubles::abs;
 use atmosphere::given::Reading;
 use atmosphere::resolvers::{in_legacy_default_pressure_band, in_legacy_default_temperature_band};
 use fields::fields::{STATION_PRESSURE, TEMPERATURE};
-use pages::{put, put_number};
+use pages::Page;
 use record::entries::{Readings, entry_of};
 use refusal::judge::Figures;
-use refusal::number;
+use refusal::{Refusal, number};
 use station::resolved::{Resolved, given_temperature, ordinary};
 use trim::classes::trim_class;
 
 fn pressure_as_given(station_pressure: Option<f64>, otherwise: Reading) -> Reading
     ensures { result ≡ pressure_as_given station_pressure otherwise }
 {
-    match station_pressure {
-        Some(p) => Reading::Given(p),
-        None => otherwise,
-    }
+    station_pressure.map_or(otherwise, Reading::Given)
 }
 
 // The station of the readings without a default band.
@@ -34,11 +32,10 @@ pub(crate) fn as_given(readings: Readings) -> Resolved
     ensures { result ≡ as_given readings }
 {
     let station = ordinary(readings);
-    let otherwise = station.pressure;
     Resolved {
         altitude_m: station.altitude_m,
         temperature: given_temperature(entry_of(readings, TEMPERATURE)),
-        pressure: pressure_as_given(entry_of(readings, STATION_PRESSURE), otherwise),
+        pressure: pressure_as_given(entry_of(readings, STATION_PRESSURE), station.pressure),
         humidity_percent: station.humidity_percent,
     }
 }
@@ -49,145 +46,132 @@ fn is_far(altitude_m: f64) -> bool
     abs(altitude_m) > 1.0
 }
 
+#[tactic(auto, unfolding(crate::specs::Used::is_temperature_default))]
 fn is_temperature_default(given: Given, altitude_m: f64) -> bool
     ensures { result ≡ is_temperature_default given altitude_m }
 {
-    !given.density_altitude
-        & given.temperature
-        & in_legacy_default_temperature_band(given.temperature_c)
+    given.density_altitude_m.is_none()
+        & given
+            .temperature_c
+            .is_some_and(in_legacy_default_temperature_band)
         & is_far(altitude_m)
 }
 
+#[tactic(auto, unfolding(crate::specs::Used::is_pressure_default))]
 fn is_pressure_default(given: Given, altitude_m: f64) -> bool
     ensures { result ≡ is_pressure_default given altitude_m }
 {
-    !given.density_altitude
-        & given.station_pressure
-        & in_legacy_default_pressure_band(given.station_pressure_hpa)
+    given.density_altitude_m.is_none()
+        & given
+            .station_pressure_hpa
+            .is_some_and(in_legacy_default_pressure_band)
         & is_far(altitude_m)
 }
 
-// Each puts a note or a piece of it on the page from `at` on, where it holds, and answers the position
-// after it.
-fn put_air(page: &mut [u8], at: usize, air: Result<Figures, Refusal>) -> usize
-    ensures { Appended page.old at (air_text (outcome air)) page.new result }
+// Each puts a note or a piece of it on the page, where it holds.
+fn put_air(page: &mut Page<'_>, air: Result<Figures, Refusal>)
+    ensures { page.new ≡ put page.old (air_text (outcome air)) }
 {
     match air {
         Ok(figures) => {
             let density = figures.density_kg_m3;
-            let worded = put_figured(page, at, b"density ", density, 4, b" kg/m3, trim class ");
-            put_number(page, worded, trim_class(density))
+            put_figured(page, b"density ", density, 4, b" kg/m3, trim class ");
+            page.put_number(trim_class(density));
         }
         Err(refusal) => {
-            let worded = put(page, at, b"refused ");
-            put_number(page, worded, number(refusal))
+            page.put(b"refused ");
+            page.put_number(number(refusal));
         }
     }
 }
 
-fn put_temperature_default(
-    page: &mut [u8],
-    at: usize,
-    given: Given,
-    figures: Figures,
+// A reading that counts as that of a mast that is not set up, what is used in its place, and the air as
+// given.
+fn put_default(
+    page: &mut Page<'_>,
+    name: &[u8],
+    typed: f64,
+    band: &[u8],
+    used: f64,
+    unit: &[u8],
     air: Result<Figures, Refusal>,
-) -> usize
-    ensures { Appended page.old at (when (temperature_default given figures (outcome air)).holds (temperature_default given figures (outcome air)).line) page.new result }
+)
+    ensures { page.new ≡ put page.old (default_line name.now typed band.now used unit.now (outcome air)) }
 {
-    if is_temperature_default(given, figures.altitude_m) {
-        let typed = put_figured(
+    put_figured(page, name, typed, 3, band);
+    put_figured(page, b" the standard atmosphere's ", used, 3, unit);
+    put_air(page, air);
+    page.put(b"\n");
+}
+
+fn put_temperature_default(page: &mut Page<'_>, noted: Noted, air: Result<Figures, Refusal>)
+    ensures { page.new ≡ put page.old (when (temperature_default noted.given noted.figures (outcome air)).holds (temperature_default noted.given noted.figures (outcome air)).line) }
+{
+    if is_temperature_default(noted.given, noted.figures.altitude_m) {
+        put_default(
             page,
-            at,
             b"note: temperature ",
-            given.temperature_c,
-            3,
+            noted.given.temperature_c.unwrap_or(0.0),
             b" C counts as that of a mast that is not set up, 14.9 to 15.1 C:",
-        );
-        let used = put_figured(
-            page,
-            typed,
-            b" the standard atmosphere's ",
-            figures.temperature_c,
-            3,
+            noted.figures.temperature_c,
             b" C is used; as given: ",
+            air,
         );
-        let told = put_air(page, used, air);
-        return put(page, told, b"\n");
     }
-    at
 }
 
-fn put_pressure_default(
-    page: &mut [u8],
-    at: usize,
-    given: Given,
-    figures: Figures,
-    air: Result<Figures, Refusal>,
-) -> usize
-    ensures { Appended page.old at (when (pressure_default given figures (outcome air)).holds (pressure_default given figures (outcome air)).line) page.new result }
+fn put_pressure_default(page: &mut Page<'_>, noted: Noted, air: Result<Figures, Refusal>)
+    ensures { page.new ≡ put page.old (when (pressure_default noted.given noted.figures (outcome air)).holds (pressure_default noted.given noted.figures (outcome air)).line) }
 {
-    if is_pressure_default(given, figures.altitude_m) {
-        let typed = put_figured(
+    if is_pressure_default(noted.given, noted.figures.altitude_m) {
+        put_default(
             page,
-            at,
             b"note: station pressure ",
-            given.station_pressure_hpa,
-            3,
+            noted.given.station_pressure_hpa.unwrap_or(0.0),
             b" hPa counts as that of a mast that is not set up, 1012.75 to 1013.75 hPa:",
-        );
-        let used = put_figured(
-            page,
-            typed,
-            b" the standard atmosphere's ",
-            figures.pressure_hpa,
-            3,
+            noted.figures.pressure_hpa,
             b" hPa is used; as given: ",
+            air,
         );
-        let told = put_air(page, used, air);
-        return put(page, told, b"\n");
     }
-    at
 }
 
-fn put_absent(page: &mut [u8], at: usize, given: Given, figures: Figures) -> usize
-    ensures { Appended page.old at (printed (absent_notes given figures)) page.new result }
+fn put_absent(page: &mut Page<'_>, noted: Noted)
+    ensures { page.new ≡ put page.old (printed (absent_notes noted.given noted.figures)) }
 {
-    let temperature = put_figured_if(
-        page,
-        at,
-        !given.temperature,
-        b"note: no temperature is given: the standard atmosphere's ",
-        figures.temperature_c,
-        3,
-        b" C is used\n",
-    );
-    let pressure = put_figured_if(
-        page,
-        temperature,
-        !given.density_altitude & !given.station_pressure & !given.qnh & !given.measured_pressure,
-        b"note: no pressure is given: the standard atmosphere's ",
-        figures.pressure_hpa,
-        3,
-        b" hPa is used\n",
-    );
-    put_if(
-        page,
-        pressure,
-        !given.humidity,
-        b"note: no humidity is given: dry air is used\n",
-    )
+    let given = noted.given;
+    if given.temperature_c.is_none() {
+        put_figured(
+            page,
+            b"note: no temperature is given: the standard atmosphere's ",
+            noted.figures.temperature_c,
+            3,
+            b" C is used\n",
+        );
+    }
+    if given.density_altitude_m.is_none()
+        & given.station_pressure_hpa.is_none()
+        & given.qnh_hpa.is_none()
+        & given.measured_pressure_hpa.is_none()
+    {
+        put_figured(
+            page,
+            b"note: no pressure is given: the standard atmosphere's ",
+            noted.figures.pressure_hpa,
+            3,
+            b" hPa is used\n",
+        );
+    }
+    if given.humidity_percent.is_none() {
+        page.put(b"note: no humidity is given: dry air is used\n");
+    }
 }
 
-pub(crate) fn put_used(
-    page: &mut [u8],
-    at: usize,
-    given: Given,
-    figures: Figures,
-    air: Result<Figures, Refusal>,
-) -> usize
-    ensures { Appended page.old at (printed (used_notes given figures (outcome air))) page.new result }
+#[tactic(auto, using(pages::proofs::Putting::puts), unfolding(crate::specs::Used::used_notes))]
+pub(crate) fn put_used(page: &mut Page<'_>, noted: Noted, air: Result<Figures, Refusal>)
+    ensures { page.new ≡ put page.old (printed (used_notes noted.given noted.figures (outcome air))) }
 {
-    let temperature = put_temperature_default(page, at, given, figures, air);
-    let pressure = put_pressure_default(page, temperature, given, figures, air);
-    put_absent(page, pressure, given, figures)
+    put_temperature_default(page, noted, air);
+    put_pressure_default(page, noted, air);
+    put_absent(page, noted);
 }

@@ -1,55 +1,18 @@
 // The pieces of a note's line: a figure without blanks before it, with the words around it.
+#![tactic(auto, using(pages::proofs::Putting::puts))]
+
 ghost use Rattle.std.specs.Prelude.{◌≡◌, ◌++◌};
-ghost use Rattle.pages.specs.Pages.{Appended};
+ghost use Rattle.pages.specs.Pages.{put};
 ghost use Rattle.decimals.specs.Shown.{shown};
-ghost use Rattle.notes.specs.Words.{when};
 
 use decimals::figures::put_shown;
-use pages::put;
+use pages::Page;
 
-// Each puts a piece on the page from `at` on, and answers the position after it; the words are left as they
-// were.
-pub(crate) fn put_figured(
-    page: &mut [u8],
-    at: usize,
-    before: &[u8],
-    x: f64,
-    decimals: u32,
-    after: &[u8],
-) -> usize
-    ensures appended { Appended page.old at (before.now ++ shown decimals x ++ after.now) page.new result }
-    ensures kept { (before.now ≡ before.now) × (after.now ≡ after.now) }
+// A figure with so many decimals, between words. These are left as they were.
+pub(crate) fn put_figured(page: &mut Page<'_>, before: &[u8], x: f64, decimals: u32, after: &[u8])
+    ensures { page.new ≡ put page.old (before.now ++ shown decimals x ++ after.now) }
 {
-    let begun = put(page, at, before);
-    let figured = put_shown(page, begun, x, decimals);
-    put(page, figured, after)
-}
-
-// Where a test holds.
-pub(crate) fn put_figured_if(
-    page: &mut [u8],
-    at: usize,
-    holds: bool,
-    before: &[u8],
-    x: f64,
-    decimals: u32,
-    after: &[u8],
-) -> usize
-    ensures appended { Appended page.old at (when holds (before.now ++ shown decimals x ++ after.now)) page.new result }
-    ensures kept { (before.now ≡ before.now) × (after.now ≡ after.now) }
-{
-    if holds {
-        return put_figured(page, at, before, x, decimals, after);
-    }
-    at
-}
-
-pub(crate) fn put_if(page: &mut [u8], at: usize, holds: bool, words: &[u8]) -> usize
-    ensures appended { Appended page.old at (when holds words.now) page.new result }
-    ensures kept { words.now ≡ words.now }
-{
-    if holds {
-        return put(page, at, words);
-    }
-    at
+    page.put(before);
+    put_shown(page, x, decimals);
+    page.put(after);
 }

@@ -31,6 +31,11 @@ first_not_positive r =
     (cond (not_positive (entry_of r qnh)) qnh
     measured_pressure)
 
+-- the meaning that is named, and `meanings` where none is
+abbrev pub named : Option ℕ → ℕ
+named None = meanings
+named (Some m) = m
+
 unfoldable pub reading_about : Readings → ℕ → ℕ
 unfolding first_not_finite first_not_positive
 reading_about r n =

@@ -1,84 +1,57 @@
 // The reading that a refusal of readings is about.
 ghost use Rattle.std.specs.Prelude.{◌≡◌};
 ghost use Rattle.record.specs.Entries.{entry_of};
-ghost use Rattle.report.specs.Fault.{not_finite, not_positive, first_not_finite, first_not_positive, reading_about};
+ghost use Rattle.refusal.specs.Refusals.{number_of};
+ghost use Rattle.report.specs.Fault.{not_finite, not_positive, first_not_finite, first_not_positive, named, reading_about};
 
 use arithmetic::doubles::is_finite;
-use fields::fields::{ALTITUDE, DENSITY_ALTITUDE, HUMIDITY, MEANINGS, MEASURED_PRESSURE, QNH, STATION_PRESSURE, TEMPERATURE};
+use fields::fields::{ALTITUDE, DENSITY_ALTITUDE, HUMIDITY, MEASURED_PRESSURE, QNH, STATION_PRESSURE, TEMPERATURE};
 use record::entries::{Readings, entry_of};
+use refusal::Refusal;
 
 fn is_not_finite(readings: Readings, meaning: usize) -> bool
     ensures { result ≡ not_finite (entry_of readings meaning) }
 {
-    match entry_of(readings, meaning) {
-        None => false,
-        Some(x) => !is_finite(x),
-    }
+    entry_of(readings, meaning).is_some_and(|x| !is_finite(x))
 }
 
 fn is_not_positive(readings: Readings, meaning: usize) -> bool
     ensures { result ≡ not_positive (entry_of readings meaning) }
 {
-    match entry_of(readings, meaning) {
-        None => false,
-        Some(p) => p <= 0.0,
-    }
+    entry_of(readings, meaning).is_some_and(|p| p <= 0.0)
 }
 
+#[tactic(auto, unfolding(crate::specs::Fault::first_not_finite))]
 fn first_not_finite(readings: Readings) -> usize
     ensures { result ≡ first_not_finite readings }
 {
-    if is_not_finite(readings, ALTITUDE) {
-        return ALTITUDE;
-    }
-    if is_not_finite(readings, STATION_PRESSURE) {
-        return STATION_PRESSURE;
-    }
-    if is_not_finite(readings, QNH) {
-        return QNH;
-    }
-    if is_not_finite(readings, HUMIDITY) {
-        return HUMIDITY;
-    }
-    MEASURED_PRESSURE
+    [ALTITUDE, STATION_PRESSURE, QNH, HUMIDITY]
+        .into_iter()
+        .find(|&meaning| is_not_finite(readings, meaning))
+        .unwrap_or(MEASURED_PRESSURE)
 }
 
+#[tactic(auto, unfolding(crate::specs::Fault::first_not_positive))]
 fn first_not_positive(readings: Readings) -> usize
     ensures { result ≡ first_not_positive readings }
 {
-    if is_not_positive(readings, STATION_PRESSURE) {
-        return STATION_PRESSURE;
-    }
-    if is_not_positive(readings, QNH) {
-        return QNH;
-    }
-    MEASURED_PRESSURE
+    [STATION_PRESSURE, QNH]
+        .into_iter()
+        .find(|&meaning| is_not_positive(readings, meaning))
+        .unwrap_or(MEASURED_PRESSURE)
 }
 
-// The meaning of the reading that a refusal is about, and MEANINGS where there is not one.
-pub fn reading_of(readings: Readings, number: u8) -> usize
-    ensures { result ≡ reading_about readings number }
+// The meaning of the reading that a refusal is about, if it is about one.
+#[tactic(auto, unfolding(crate::specs::Fault::reading_about))]
+pub fn reading_of(readings: Readings, refusal: Refusal) -> Option<usize>
+    ensures { named result ≡ reading_about readings (number_of refusal) }
 {
-    if number == 1 {
-        return DENSITY_ALTITUDE;
+    match refusal {
+        Refusal::DensityAltitudeNotFinite(_) | Refusal::NoAir(_, _) => Some(DENSITY_ALTITUDE),
+        Refusal::TemperatureNotFinite(_) | Refusal::TemperatureTooLow(_) => Some(TEMPERATURE),
+        Refusal::NotFinite(_) => Some(first_not_finite(readings)),
+        Refusal::PressureNotPositive(_) => Some(first_not_positive(readings)),
+        Refusal::HumidityOutOfRange(_) => Some(HUMIDITY),
+        _ => None,
     }
-    if number == 2 {
-        return TEMPERATURE;
-    }
-    if number == 3 {
-        return TEMPERATURE;
-    }
-    if number == 4 {
-        return DENSITY_ALTITUDE;
-    }
-    if number == 11 {
-        return first_not_finite(readings);
-    }
-    if number == 12 {
-        return first_not_positive(readings);
-    }
-    if number == 13 {
-        return HUMIDITY;
-    }
-    MEANINGS
 }

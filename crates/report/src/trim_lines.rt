@@ -1,59 +1,56 @@
 // The lines of a report with the trim class and the change that turns it.
+#![tactic(auto, using(pages::proofs::Putting::puts), unfolding(crate::specs::TrimLines::trim_line, crate::specs::TrimLines::tenths_text, crate::specs::TrimLines::turn_line))]
+
 ghost use Rattle.std.specs.Prelude.{◌≡◌};
-ghost use Rattle.trim.specs.Search.{trim_outcome, next_of};
-ghost use Rattle.pages.specs.Pages.{Appended};
+ghost use Rattle.refusal.specs.Outcomes.{outcome};
+ghost use Rattle.trim.specs.Search.{next_of};
+ghost use Rattle.pages.specs.Pages.{put};
 ghost use Rattle.report.specs.TrimLines.{trim_line, tenths_text, change_words, turn_line, shown_station, or_from_shown, next_class_line};
 
 use fields::fields::{ALTITUDE, HUMIDITY, MEASURED_PRESSURE, TEMPERATURE};
-use pages::{put, put_number};
-use record::entries::{Readings, entry_of, no_readings, value_or_zero, with_entry};
+use pages::Page;
+use record::entries::{Readings, entry_of, no_readings, with_entry};
+use refusal::Refusal;
 use refusal::judge::Figures;
 use trim::changes::{Direction, Quantity, Turn};
-use trim::search::{Trim, next_trim_class_of_readings};
+use trim::search::{Next, next_trim_class_of_readings};
 
-// Each puts a piece on the page from `at` on, and answers the position after it.
-pub fn put_trim(page: &mut [u8], at: usize, class: u8) -> usize
-    ensures { Appended page.old at (trim_line class) page.new result }
+// The line of the trim class.
+pub fn put_trim(page: &mut Page<'_>, class: u8)
+    ensures { page.new ≡ put page.old (trim_line class) }
 {
-    let word = put(page, at, b"trim class ");
-    let numbered = put_number(page, word, class);
-    put(page, numbered, b"\n")
+    page.put(b"trim class ");
+    page.put_number(class);
+    page.put(b"\n");
 }
 
-fn put_tenths(page: &mut [u8], at: usize, tenths: u8) -> usize
-    ensures { Appended page.old at (tenths_text tenths) page.new result }
+fn put_tenths(page: &mut Page<'_>, tenths: u8)
+    ensures { page.new ≡ put page.old (tenths_text tenths) }
 {
-    let whole = put_number(page, at, tenths / 10);
-    let rest = [b'.', 48 + tenths % 10];
-    put(page, whole, &rest)
+    page.put_number(tenths / 10);
+    page.put(&[b'.', b'0' + tenths % 10]);
 }
 
-fn put_change_words(page: &mut [u8], at: usize, quantity: Quantity, direction: Direction) -> usize
-    ensures { Appended page.old at (change_words quantity direction) page.new result }
+fn change_words(quantity: Quantity, direction: Direction) -> &'static [u8]
+    ensures { result.now ≡ change_words quantity direction }
 {
-    match quantity {
-        Quantity::Temperature => match direction {
-            Direction::Up => put(page, at, b" C warmer\n"),
-            Direction::Down => put(page, at, b" C colder\n"),
-        },
-        Quantity::MeasuredPressure => match direction {
-            Direction::Up => put(page, at, b" hPa higher\n"),
-            Direction::Down => put(page, at, b" hPa lower\n"),
-        },
+    match (quantity, direction) {
+        (Quantity::Temperature, Direction::Up) => b" C warmer\n",
+        (Quantity::Temperature, Direction::Down) => b" C colder\n",
+        (Quantity::MeasuredPressure, Direction::Up) => b" hPa higher\n",
+        (Quantity::MeasuredPressure, Direction::Down) => b" hPa lower\n",
     }
 }
 
-fn put_turn(page: &mut [u8], at: usize, turn: Turn) -> usize
-    ensures { Appended page.old at (turn_line turn) page.new result }
+fn put_turn(page: &mut Page<'_>, turn: Turn)
+    ensures { page.new ≡ put page.old (turn_line turn) }
 {
     let change = turn.change;
-    let quantity = change.quantity;
-    let direction = change.direction;
-    let word = put(page, at, b"next class ");
-    let numbered = put_number(page, word, turn.class);
-    let by = put(page, numbered, b" at ");
-    let counted = put_tenths(page, by, change.tenths);
-    put_change_words(page, counted, quantity, direction)
+    page.put(b"next class ");
+    page.put_number(turn.class);
+    page.put(b" at ");
+    put_tenths(page, change.tenths);
+    page.put(change_words(change.quantity, change.direction));
 }
 
 // What the figures show, as if measured at sea level, where no default band acts.
@@ -62,29 +59,26 @@ fn shown_station(readings: Readings, figures: Figures) -> Readings
 {
     let high = with_entry(no_readings(), ALTITUDE, 0.0);
     let warm = with_entry(high, TEMPERATURE, figures.temperature_c);
-    let humid = with_entry(warm, HUMIDITY, value_or_zero(entry_of(readings, HUMIDITY)));
+    let humid = with_entry(warm, HUMIDITY, entry_of(readings, HUMIDITY).unwrap_or(0.0));
     with_entry(humid, MEASURED_PRESSURE, figures.pressure_hpa)
 }
 
 // What gives the next class, searched from the readings, or where one is wanting from what is shown.
-pub fn next_class(readings: Readings, figures: Figures) -> Trim
-    ensures { trim_outcome result ≡ or_from_shown readings figures (next_of readings) }
+pub fn next_class(readings: Readings, figures: Figures) -> Result<Next, Refusal>
+    ensures { outcome result ≡ or_from_shown readings figures (next_of readings) }
 {
-    let next = next_trim_class_of_readings(readings);
-    match next {
-        Trim::Turns(_, _) => next,
-        Trim::NoChange(_) => next,
-        Trim::Refused(_) => next_trim_class_of_readings(shown_station(readings, figures)),
-    }
+    next_trim_class_of_readings(readings)
+        .or_else(|_| next_trim_class_of_readings(shown_station(readings, figures)))
 }
 
-// What gives the next class, from `at` on; the position after it.
-pub fn put_next(page: &mut [u8], at: usize, trim: Trim) -> usize
-    ensures { Appended page.old at (next_class_line (trim_outcome trim)) page.new result }
+// What gives the next class.
+pub fn put_next(page: &mut Page<'_>, next: Result<Next, Refusal>)
+    ensures { page.new ≡ put page.old (next_class_line (outcome next)) }
 {
-    match trim {
-        Trim::Turns(_, turn) => put_turn(page, at, turn),
-        Trim::NoChange(_) => put(page, at, b"no other class within 20 C or 20 hPa\n"),
-        Trim::Refused(_) => at,
+    if let Ok(next) = next {
+        match next.turn {
+            Some(turn) => put_turn(page, turn),
+            None => page.put(b"no other class within 20 C or 20 hPa\n"),
+        }
     }
 }
