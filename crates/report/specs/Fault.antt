@@ -1,5 +1,5 @@
 -- The reading that a refusal of readings is about, by its meaning; `meanings` where there is not one. Definitions only.
-use Rattle.std.specs.Prelude.{ℕ, Bool, false, not, cond, eqb, None, Option, Some}
+use Rattle.std.specs.Prelude.{ℕ, Bool, false, not, cond, eqb, Float, None, Option, Some}
 use Rattle.std.specs.Float.Ieee.{le}
 use Rattle.arithmetic.specs.Decimals.{nought}
 use Rattle.arithmetic.specs.Doubles.{is_finite}

@@ -1,5 +1,5 @@
 // The reading that a refusal of readings is about.
-ghost use Rattle.std.specs.Prelude.{◌≡◌};
+ghost use Rattle.std.specs.Prelude.{◌≡◌, find};
 ghost use Rattle.record.specs.Entries.{entry_of};
 ghost use Rattle.refusal.specs.Refusals.{number_of};
 ghost use Rattle.report.specs.Fault.{not_finite, not_positive, first_not_finite, first_not_positive, named, reading_about};
@@ -21,14 +21,22 @@ fn is_not_positive(readings: Readings, meaning: usize) -> bool
     entry_of(readings, meaning).is_some_and(|p| p <= 0.0)
 }
 
+// The first of some meanings whose reading is not finite.
+fn not_finite_among(readings: Readings, meanings: &[usize]) -> Option<usize>
+    ensures { result ≡ find (λ meaning. not_finite (entry_of readings meaning)) meanings.now }
+{
+    meanings
+        .iter()
+        .copied()
+        .find(|&meaning| is_not_finite(readings, meaning))
+}
+
 #[tactic(auto, unfolding(crate::specs::Fault::first_not_finite))]
 fn first_not_finite(readings: Readings) -> usize
     ensures { result ≡ first_not_finite readings }
 {
-    [ALTITUDE, STATION_PRESSURE, QNH, HUMIDITY]
-        .into_iter()
-        .find(|&meaning| is_not_finite(readings, meaning))
-        .unwrap_or(MEASURED_PRESSURE)
+    let meanings = [ALTITUDE, STATION_PRESSURE, QNH, HUMIDITY];
+    not_finite_among(readings, &meanings).unwrap_or(MEASURED_PRESSURE)
 }
 
 #[tactic(auto, unfolding(crate::specs::Fault::first_not_positive))]
