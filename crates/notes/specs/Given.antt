@@ -1,6 +1,6 @@
 -- What readings give, by name, each where it is given. Definitions only.
 use Rattle.std.specs.Prelude.{Float}
-use Rattle.core.specs.Option.{option_or}
+use Rattle.std.specs.Option.{option_or}
 use Rattle.record.specs.declared.entries.Readings.{Readings}
 use Rattle.fields.specs.Fields.{altitude, temperature, station_pressure, qnh, humidity, density_altitude, measured_pressure}
 use Rattle.record.specs.Entries.{entry_of, value_or_zero}

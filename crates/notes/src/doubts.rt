@@ -1,14 +1,14 @@
 // The notes on a point in the altitude, a humidity that may be a fraction, a density that its decimals show
 // as a limit of the trim table, and what the next class is searched from.
-#![tactic(auto, using(pages::proofs::Putting::puts), unfolding(crate::specs::Doubts::fraction, crate::specs::Doubts::doubt_notes))]
+#![tactic(auto, using(pages::proofs::Putting::puts), unfolding(crate::specs::Doubts::fraction))]
 
-ghost use Rattle.std.specs.Prelude.{◌≡◌, cond, ltb, Some, None};
+ghost use Rattle.std.specs.Prelude.{◌≡◌, ◌×◌, ltb, true, false, MatchOption};
 ghost use Rattle.pages.specs.Pages.{put};
 ghost use Rattle.notes.specs.Words.{when, printed};
 ghost use Rattle.notes.specs.Doubts.{limit_of, are_alike, fraction, at_limit_of, at_limit, doubt_notes};
 
 use crate::given::{Given, Noted};
-use crate::words::put_figured;
+use crate::words::{put_figured, put_figured_if, put_if};
 use decimals::shown::decimal_text;
 use pages::Page;
 use trim::classes::trim_class;
@@ -19,7 +19,7 @@ const LIMITS: [f64; 6] = [1.0, 1.05, 1.1, 1.15, 1.2, 1.25];
 // The least density above those of a class, which the last class has not.
 #[tactic(auto, unfolding(crate::specs::Doubts::limit_of, trim::specs::Classes::class_densities))]
 fn limit_of(class: u8) -> Option<f64>
-    ensures { result ≡ cond (ltb class 6) (Some (limit_of class)) None }
+    ensures { MatchOption result (ltb class 6 ≡ false) (λ limit. (ltb class 6 ≡ true) × (limit ≡ limit_of class)) }
 {
     LIMITS.get(usize::from(class)).copied()
 }
@@ -81,24 +81,24 @@ fn put_at_limit(page: &mut Page<'_>, density_kg_m3: f64)
     put_limit(page, density_kg_m3, trim_class(density_kg_m3));
 }
 
+#[tactic(auto, using(pages::proofs::Putting::puts, crate::proofs::Absent::absent), unfolding(crate::specs::Doubts::doubt_notes))]
 pub(crate) fn put_doubts(page: &mut Page<'_>, noted: Noted, point: bool)
     ensures { page.new ≡ put page.old (printed (doubt_notes noted.given noted.figures point)) }
 {
     let given = noted.given;
-    if point {
-        put_figured(
-            page,
-            b"note: the altitude was read as ",
-            noted.figures.altitude_m,
-            3,
-            b" m: the point marks decimals, leave it out if it was meant for thousands\n",
-        );
-    }
+    put_figured_if(
+        page,
+        point,
+        b"note: the altitude was read as ",
+        noted.figures.altitude_m,
+        3,
+        b" m: the point marks decimals, leave it out if it was meant for thousands\n",
+    );
     put_fraction(page, given);
     put_at_limit(page, noted.figures.density_kg_m3);
-    if given.temperature_c.is_none() | given.measured_pressure_hpa.is_none() {
-        page.put(
-            b"note: the next class is searched from the temperature and the station pressure above\n",
-        );
-    }
+    put_if(
+        page,
+        given.temperature_c.is_none() | given.measured_pressure_hpa.is_none(),
+        b"note: the next class is searched from the temperature and the station pressure above\n",
+    );
 }

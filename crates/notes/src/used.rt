@@ -1,6 +1,6 @@
 // The notes on what was used in place of readings: the standard atmosphere's temperature and pressure for
 // those of a mast that is not set up and for those that are absent, and dry air.
-#![tactic(auto, using(pages::proofs::Putting::puts), unfolding(crate::specs::Used::temperature_default, crate::specs::Used::pressure_default, crate::specs::Used::absent_notes))]
+#![tactic(auto, using(pages::proofs::Putting::puts), unfolding(crate::specs::Used::default_line, crate::specs::Used::temperature_default, crate::specs::Used::pressure_default))]
 
 ghost use Rattle.std.specs.Prelude.{◌≡◌};
 ghost use Rattle.pages.specs.Pages.{put};
@@ -9,7 +9,7 @@ ghost use Rattle.notes.specs.Words.{when, printed};
 ghost use Rattle.notes.specs.Used.{is_far, as_given, pressure_as_given, air_text, is_temperature_default, is_pressure_default, default_line, temperature_default, pressure_default, absent_notes, used_notes};
 
 use crate::given::{Given, Noted};
-use crate::words::put_figured;
+use crate::words::{put_figured, put_figured_if, put_if};
 use arithmetic::doubles::abs;
 use atmosphere::given::Reading;
 use atmosphere::resolvers::{in_legacy_default_pressure_band, in_legacy_default_temperature_band};
@@ -46,7 +46,7 @@ fn is_far(altitude_m: f64) -> bool
     abs(altitude_m) > 1.0
 }
 
-#[tactic(auto, unfolding(crate::specs::Used::is_temperature_default))]
+#[tactic(auto, using(crate::proofs::Absent::absent), unfolding(crate::specs::Used::is_temperature_default))]
 fn is_temperature_default(given: Given, altitude_m: f64) -> bool
     ensures { result ≡ is_temperature_default given altitude_m }
 {
@@ -57,7 +57,7 @@ fn is_temperature_default(given: Given, altitude_m: f64) -> bool
         & is_far(altitude_m)
 }
 
-#[tactic(auto, unfolding(crate::specs::Used::is_pressure_default))]
+#[tactic(auto, using(crate::proofs::Absent::absent), unfolding(crate::specs::Used::is_pressure_default))]
 fn is_pressure_default(given: Given, altitude_m: f64) -> bool
     ensures { result ≡ is_pressure_default given altitude_m }
 {
@@ -136,35 +136,35 @@ fn put_pressure_default(page: &mut Page<'_>, noted: Noted, air: Result<Figures, 
     }
 }
 
+#[tactic(auto, using(pages::proofs::Putting::puts, crate::proofs::Absent::absent), unfolding(crate::specs::Used::absent_notes))]
 fn put_absent(page: &mut Page<'_>, noted: Noted)
     ensures { page.new ≡ put page.old (printed (absent_notes noted.given noted.figures)) }
 {
     let given = noted.given;
-    if given.temperature_c.is_none() {
-        put_figured(
-            page,
-            b"note: no temperature is given: the standard atmosphere's ",
-            noted.figures.temperature_c,
-            3,
-            b" C is used\n",
-        );
-    }
-    if given.density_altitude_m.is_none()
-        & given.station_pressure_hpa.is_none()
-        & given.qnh_hpa.is_none()
-        & given.measured_pressure_hpa.is_none()
-    {
-        put_figured(
-            page,
-            b"note: no pressure is given: the standard atmosphere's ",
-            noted.figures.pressure_hpa,
-            3,
-            b" hPa is used\n",
-        );
-    }
-    if given.humidity_percent.is_none() {
-        page.put(b"note: no humidity is given: dry air is used\n");
-    }
+    put_figured_if(
+        page,
+        given.temperature_c.is_none(),
+        b"note: no temperature is given: the standard atmosphere's ",
+        noted.figures.temperature_c,
+        3,
+        b" C is used\n",
+    );
+    put_figured_if(
+        page,
+        given.density_altitude_m.is_none()
+            & given.station_pressure_hpa.is_none()
+            & given.qnh_hpa.is_none()
+            & given.measured_pressure_hpa.is_none(),
+        b"note: no pressure is given: the standard atmosphere's ",
+        noted.figures.pressure_hpa,
+        3,
+        b" hPa is used\n",
+    );
+    put_if(
+        page,
+        given.humidity_percent.is_none(),
+        b"note: no humidity is given: dry air is used\n",
+    );
 }
 
 #[tactic(auto, using(pages::proofs::Putting::puts), unfolding(crate::specs::Used::used_notes))]

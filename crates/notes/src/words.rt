@@ -4,6 +4,7 @@
 ghost use Rattle.std.specs.Prelude.{◌≡◌, ◌++◌};
 ghost use Rattle.pages.specs.Pages.{put};
 ghost use Rattle.decimals.specs.Shown.{shown};
+ghost use Rattle.notes.specs.Words.{when};
 
 use decimals::figures::put_shown;
 use pages::Page;
@@ -15,4 +16,28 @@ pub(crate) fn put_figured(page: &mut Page<'_>, before: &[u8], x: f64, decimals: 
     page.put(before);
     put_shown(page, x, decimals);
     page.put(after);
+}
+
+// The same where a test holds.
+pub(crate) fn put_figured_if(
+    page: &mut Page<'_>,
+    holds: bool,
+    before: &[u8],
+    x: f64,
+    decimals: u32,
+    after: &[u8],
+)
+    ensures { page.new ≡ put page.old (when holds (before.now ++ shown decimals x ++ after.now)) }
+{
+    if holds {
+        put_figured(page, before, x, decimals, after);
+    }
+}
+
+pub(crate) fn put_if(page: &mut Page<'_>, holds: bool, words: &[u8])
+    ensures { page.new ≡ put page.old (when holds words.now) }
+{
+    if holds {
+        page.put(words);
+    }
 }

@@ -1,0 +1,7 @@
+use Rattle.arithmetic.proofs.Kit.{refl, neg, le, of_bits}
+use Rattle.notes.specs.Ranges.{is_compared_altitude}
+use Rattle.notes.proofs.ranges.is_compared_altitude.Goals as goal
+
+pub returns : goal.returns
+unfolding is_compared_altitude le neg of_bits
+returns c = refl
