@@ -6,5 +6,5 @@ not_not : (b : Bool) → not (not b) ≡ b
 not_not true = refl
 not_not false = refl
 
-pub absent : {A : Type 0} {o : Option A} {b : Bool} → is_some o ≡ not b → b ≡ is_none o
-absent {b = b} e = sym (ap not e ∙ not_not b)
+pub absent : {A : Type 0} (o : Option A) {b : Bool} → is_some o ≡ not b → b ≡ is_none o
+absent o {b} e = sym (ap not e ∙ not_not b)

@@ -1,9 +1,9 @@
 -- How long the notes of a report are at most. Assumes nothing.
+use Rattle.std.specs.Prelude.{unwrap_or}
 use Rattle.arithmetic.proofs.Kit.{◌≡◌, Bool, true, false, List, [], ◌∷◌, ◌++◌, ℕ, ◌+◌, ◌≤◌, arith, length, length-append}
 use Rattle.refusal.specs.Outcomes.{Outcome, accepted, refused}
 use Rattle.refusal.specs.declared.judge.Figures.{Figures}
 use Rattle.record.specs.declared.entries.Readings.{Readings}
-use Rattle.record.specs.Entries.{value_or_zero}
 use Rattle.mast.specs.Judge.{air_outcome}
 use Rattle.trim.specs.Classes.{trim_class}
 use Rattle.pages.proofs.Short.{Within, number_short}
@@ -17,7 +17,7 @@ use Rattle.atmosphere.specs.declared.plausibility.StationPressurePlausibility.{S
 use Rattle.notes.specs.Ranges.{feet_line, temperature_notes, altitude_notes, range_notes}
 use Rattle.notes.specs.Doubts.{limit_of, fraction, at_limit, doubt_notes}
 use Rattle.notes.specs.Notes.{notes_of, notes, note_lines}
-use Rattle.arithmetic.specs.Decimals.{hundred}
+use Rattle.arithmetic.specs.Decimals.{nought, hundred}
 use Rattle.arithmetic.specs.Operators.{◌⊗◌, ◌⊘◌}
 
 -- ---- all lines of some notes together
@@ -50,9 +50,9 @@ used-short g f air =
     (omega (
       arith,
       air-short air,
-      shown-short 3 (value_or_zero g.temperature_c),
+      shown-short 3 (unwrap_or g.temperature_c nought),
       shown-short 3 f.temperature_c,
-      shown-short 3 (value_or_zero g.station_pressure_hpa),
+      shown-short 3 (unwrap_or g.station_pressure_hpa nought),
       shown-short 3 f.pressure_hpa,
     ))
 
@@ -67,8 +67,8 @@ beside-short g f s =
       shown-short 1 f.altitude_m,
       shown-short 3 (s.icao_standard_pa ⊘ hundred),
       shown-short 3 (pressure_given g),
-      shown-short 3 (value_or_zero g.qnh_hpa),
-      shown-short 3 (value_or_zero g.altitude_m),
+      shown-short 3 (unwrap_or g.qnh_hpa nought),
+      shown-short 3 (unwrap_or g.altitude_m nought),
     ))
 
 range-short : (g : Given) (f : Figures) → total (range_notes g f) ≤ 440
@@ -78,10 +78,10 @@ range-short g f =
     (omega (
       arith,
       shown-short 3 f.temperature_c,
-      shown-short 3 (value_or_zero g.temperature_c),
+      shown-short 3 (unwrap_or g.temperature_c nought),
       shown-short 1 f.altitude_m,
-      shown-short 3 (value_or_zero g.altitude_m),
-      shown-short 3 (value_or_zero g.density_altitude_m),
+      shown-short 3 (unwrap_or g.altitude_m nought),
+      shown-short 3 (unwrap_or g.density_altitude_m nought),
     ))
 
 doubt_short : (g : Given) (f : Figures) (point : Bool) → total (doubt_notes g f point) ≤ 420
@@ -92,8 +92,8 @@ doubt_short g f point =
     (omega (
       arith,
       shown-short 3 f.altitude_m,
-      shown-short 3 (value_or_zero g.humidity_percent),
-      shown-short 3 (hundred ⊗ value_or_zero g.humidity_percent),
+      shown-short 3 (unwrap_or g.humidity_percent nought),
+      shown-short 3 (hundred ⊗ unwrap_or g.humidity_percent nought),
       shown-short 4 (limit_of (trim_class d)),
       (number_short (trim_class d)).bound,
     ))

@@ -1,6 +1,6 @@
 -- The notes on a point in the altitude, a humidity that may be a fraction, a density that its decimals show as a limit of the trim table, and what the next
 -- class is searched from. Definitions only.
-use Rattle.std.specs.Prelude.{ℕ, ◌%◌, Bool, ◌&&◌, ◌||◌, List, [], ◌∷◌, ◌++◌, ltb, Float, get_or, is_some, is_none}
+use Rattle.std.specs.Prelude.{ℕ, ◌%◌, Bool, ◌&&◌, ◌||◌, List, [], ◌∷◌, ◌++◌, ltb, Float, get_or, unwrap_or, is_some, is_none}
 use Rattle.std.specs.Float.{nan}
 use Rattle.std.specs.Float.Ieee.{lt, le}
 use Rattle.arithmetic.specs.Ascii.{ascii}
@@ -9,7 +9,6 @@ use Rattle.arithmetic.specs.Operators.{◌⊗◌}
 use Rattle.decimals.specs.Decimal.{decimal_text}
 use Rattle.decimals.specs.Places.{in_sixteen}
 use Rattle.refusal.specs.declared.judge.Figures.{Figures}
-use Rattle.record.specs.Entries.{value_or_zero}
 use Rattle.trim.specs.Classes.{class_densities, trim_class}
 use Rattle.pages.specs.Characters.{number_text, same}
 use Rattle.notes.specs.declared.given.Given.{Given}
@@ -18,7 +17,7 @@ use Rattle.notes.specs.Words.{Note, note, figured}
 -- ---- humidity-fraction
 unfoldable pub fraction : Given → Note
 fraction g =
-    let percent = value_or_zero g.humidity_percent in
+    let percent = unwrap_or g.humidity_percent nought in
     note (is_some g.humidity_percent && lt nought percent && le percent one)
     (figured "note: humidity " 3 percent " percent is nearly dry air:" ++ figured " type humidity=" 3 (hundred ⊗ percent) " if it was a fraction\n")
 

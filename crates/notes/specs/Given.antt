@@ -1,9 +1,10 @@
 -- What readings give, by name, each where it is given. Definitions only.
-use Rattle.std.specs.Prelude.{Float}
+use Rattle.std.specs.Prelude.{Float, unwrap_or}
 use Rattle.std.specs.Option.{option_or}
+use Rattle.arithmetic.specs.Decimals.{nought}
 use Rattle.record.specs.declared.entries.Readings.{Readings}
 use Rattle.fields.specs.Fields.{altitude, temperature, station_pressure, qnh, humidity, density_altitude, measured_pressure}
-use Rattle.record.specs.Entries.{entry_of, value_or_zero}
+use Rattle.record.specs.Entries.{entry_of}
 use Rattle.notes.specs.declared.given.Given.{Given}
 
 unfoldable pub given_by : Readings → Given
@@ -20,4 +21,4 @@ given_by r =
 
 -- the pressure that is given: that of 07, 03 or 04
 unfoldable pub pressure_given : Given → Float
-pressure_given g = value_or_zero (option_or (option_or g.measured_pressure_hpa g.station_pressure_hpa) g.qnh_hpa)
+pressure_given g = unwrap_or (option_or (option_or g.measured_pressure_hpa g.station_pressure_hpa) g.qnh_hpa) nought

@@ -1,10 +1,9 @@
 -- The notes on a pressure that does not belong to its altitude, and what else it may have been. Pressures in hPa, altitudes in m. Definitions only.
-use Rattle.std.specs.Prelude.{ℕ, Bool, not, ◌&&◌, ◌||◌, cond, List, [], ◌∷◌, ◌++◌, Float, is_some, is_none}
-use Rattle.arithmetic.specs.Decimals.{decimal, hundred}
+use Rattle.std.specs.Prelude.{ℕ, Bool, not, ◌&&◌, ◌||◌, cond, List, [], ◌∷◌, ◌++◌, Float, unwrap_or, is_some, is_none}
+use Rattle.arithmetic.specs.Decimals.{decimal, nought, hundred}
 use Rattle.arithmetic.specs.Operators.{◌⊗◌, ◌⊘◌}
 use Rattle.arithmetic.specs.Places.{places}
 use Rattle.refusal.specs.declared.judge.Figures.{Figures}
-use Rattle.record.specs.Entries.{value_or_zero}
 use Rattle.atmosphere.specs.declared.plausibility.StationPressurePlausibility.{StationPressurePlausibility}
 use Rattle.atmosphere.specs.Plausibility.{plausibility}
 use Rattle.atmosphere.specs.Station.{reduced_qnh}
@@ -39,8 +38,8 @@ unfoldable pub meant_notes : Bool → Given → Figures → List Note
 meant_notes doubtful g f =
     note (doubtful && (is_some g.station_pressure_hpa || is_some g.measured_pressure_hpa) && is_plausible (reduced_given g f.altitude_m) f.altitude_m)
     (figured "try: qnh=" 3 (pressure_given g) " if it is a QNH\n") ∷
-    note (doubtful && is_some g.qnh_hpa && is_plausible (value_or_zero g.qnh_hpa) f.altitude_m)
-    (figured "try: pressure=" 3 (value_or_zero g.qnh_hpa) " if it was measured at the station\n") ∷ []
+    note (doubtful && is_some g.qnh_hpa && is_plausible (unwrap_or g.qnh_hpa nought) f.altitude_m)
+    (figured "try: pressure=" 3 (unwrap_or g.qnh_hpa nought) " if it was measured at the station\n") ∷ []
 
 -- ---- try-feet, try-kpa, try-inhg
 -- a pressure, resolved as the one that is given is: a QNH is reduced
@@ -50,7 +49,7 @@ resolved_as g p h = cond (is_some g.qnh_hpa) (reduced_qnh places p h) p
 unfoldable pub unit_notes : Bool → Given → Figures → List Note
 unit_notes doubtful g f =
     note (doubtful && is_plausible f.pressure_hpa (decimal "0.3048" ⊗ f.altitude_m))
-    (figured "try: altitude=" 3 (value_or_zero g.altitude_m) "ft if the altitude is in feet\n") ∷
+    (figured "try: altitude=" 3 (unwrap_or g.altitude_m nought) "ft if the altitude is in feet\n") ∷
     note (doubtful && is_plausible (resolved_as g (decimal "10" ⊗ pressure_given g) f.altitude_m) f.altitude_m)
     (figured "try: " 3 (pressure_given g) "kPa if the pressure is in kPa\n") ∷
     note (doubtful && is_plausible (resolved_as g (decimal "33.8639" ⊗ pressure_given g) f.altitude_m) f.altitude_m)

@@ -1,12 +1,11 @@
 -- The notes on a temperature and an altitude outside the range over which the figures were compared with the source. t in °C, h in m. Definitions only.
-use Rattle.std.specs.Prelude.{ℕ, Bool, ◌&&◌, ◌||◌, List, [], ◌∷◌, ◌++◌, Float, Option, is_some}
+use Rattle.std.specs.Prelude.{ℕ, Bool, ◌&&◌, ◌||◌, List, [], ◌∷◌, ◌++◌, Float, Option, unwrap_or, is_some}
 use Rattle.std.specs.Float.Ieee.{lt, le}
 use Rattle.arithmetic.specs.Ascii.{ascii}
-use Rattle.arithmetic.specs.Decimals.{decimal}
+use Rattle.arithmetic.specs.Decimals.{decimal, nought}
 use Rattle.arithmetic.specs.Operators.{◌⊖◌, ◌⊗◌, ◌⊘◌}
 use Rattle.decimals.specs.Shown.{shown}
 use Rattle.refusal.specs.declared.judge.Figures.{Figures}
-use Rattle.record.specs.Entries.{value_or_zero}
 use Rattle.notes.specs.declared.given.Given.{Given}
 use Rattle.notes.specs.Words.{Note, note, figured}
 
@@ -26,7 +25,7 @@ is_outside_altitudes h = lt h (decimal "-500") || lt (decimal "5000") h
 -- ---- temperature-range, try-fahrenheit, try-kelvin
 unfoldable pub temperature_notes : Given → Float → List Note
 temperature_notes g t =
-    let typed = value_or_zero g.temperature_c in
+    let typed = unwrap_or g.temperature_c nought in
     note (is_outside_temperatures t)
     (figured "note: " 3 t " C is outside -40 to 50 C, over which the figures were compared with the source\n") ∷
     note (is_outside_temperatures t && is_some g.temperature_c && is_compared_temperature ((typed ⊖ decimal "32") ⊗ decimal "5" ⊘ decimal "9"))
@@ -37,10 +36,10 @@ temperature_notes g t =
 -- ---- altitude-range, try-altitude-feet
 -- an altitude, where it is given, that would lie in the range as feet
 unfoldable pub is_in_feet : Option Float → Bool
-is_in_feet m = is_some m && is_compared_altitude (decimal "0.3048" ⊗ value_or_zero m)
+is_in_feet m = is_some m && is_compared_altitude (decimal "0.3048" ⊗ unwrap_or m nought)
 
 unfoldable pub feet_line : List ℕ → Option Float → List ℕ
-feet_line before m = before ++ shown 3 (value_or_zero m) ++ ascii "ft if it is in feet\n"
+feet_line before m = before ++ shown 3 (unwrap_or m nought) ++ ascii "ft if it is in feet\n"
 
 unfoldable pub altitude_notes : Given → Float → List Note
 altitude_notes g h =

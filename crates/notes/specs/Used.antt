@@ -1,9 +1,9 @@
 -- The notes on what was used in place of readings: g are the readings as given, f their figures, and `air` is the judge's outcome for the air as given.
 -- Definitions only.
-use Rattle.std.specs.Prelude.{ℕ, Bool, ◌&&◌, List, [], ◌∷◌, ◌++◌, Float, None, Option, Some, is_some, is_none}
+use Rattle.std.specs.Prelude.{ℕ, Bool, ◌&&◌, List, [], ◌∷◌, ◌++◌, Float, None, Option, Some, unwrap_or, is_some, is_none}
 use Rattle.std.specs.Float.Ieee.{lt}
 use Rattle.arithmetic.specs.Ascii.{ascii}
-use Rattle.arithmetic.specs.Decimals.{one}
+use Rattle.arithmetic.specs.Decimals.{nought, one}
 use Rattle.arithmetic.specs.Doubles.{abs_double}
 use Rattle.refusal.specs.Outcomes.{Outcome, accepted, refused}
 use Rattle.refusal.specs.declared.judge.Figures.{Figures}
@@ -12,7 +12,7 @@ use Rattle.atmosphere.specs.declared.given.Reading.TheVariants as reading
 use Rattle.atmosphere.specs.Station.{in_pressure_band, in_temperature_band}
 use Rattle.fields.specs.Fields.{temperature, station_pressure}
 use Rattle.record.specs.declared.entries.Readings.{Readings}
-use Rattle.record.specs.Entries.{entry_of, value_or_zero}
+use Rattle.record.specs.Entries.{entry_of}
 use Rattle.station.specs.declared.resolved.Resolved.{Resolved}
 use Rattle.station.specs.Resolved.{ordinary, given_temperature}
 use Rattle.trim.specs.Classes.{trim_class}
@@ -45,10 +45,10 @@ abbrev pub is_far : Float → Bool
 is_far h = lt one (abs_double h)
 
 unfoldable pub is_temperature_default : Given → Float → Bool
-is_temperature_default g h = is_none g.density_altitude_m && is_some g.temperature_c && in_temperature_band (value_or_zero g.temperature_c) && is_far h
+is_temperature_default g h = is_none g.density_altitude_m && is_some g.temperature_c && in_temperature_band (unwrap_or g.temperature_c nought) && is_far h
 
 unfoldable pub is_pressure_default : Given → Float → Bool
-is_pressure_default g h = is_none g.density_altitude_m && is_some g.station_pressure_hpa && in_pressure_band (value_or_zero g.station_pressure_hpa) && is_far h
+is_pressure_default g h = is_none g.density_altitude_m && is_some g.station_pressure_hpa && in_pressure_band (unwrap_or g.station_pressure_hpa nought) && is_far h
 
 -- what is used in the reading's place, and the air as given
 unfoldable pub default_line : List ℕ → Float → List ℕ → Float → List ℕ → Outcome Figures → List ℕ
@@ -59,14 +59,14 @@ default_line name typed band used unit air =
 unfoldable pub temperature_default : Given → Figures → Outcome Figures → Note
 temperature_default g f air =
     note (is_temperature_default g f.altitude_m)
-    (default_line (ascii "note: temperature ") (value_or_zero g.temperature_c)
+    (default_line (ascii "note: temperature ") (unwrap_or g.temperature_c nought)
     (ascii " C counts as that of a mast that is not set up, 14.9 to 15.1 C:") f.temperature_c (ascii " C is used; as given: ") air)
 
 -- pressure-default
 unfoldable pub pressure_default : Given → Figures → Outcome Figures → Note
 pressure_default g f air =
     note (is_pressure_default g f.altitude_m)
-    (default_line (ascii "note: station pressure ") (value_or_zero g.station_pressure_hpa)
+    (default_line (ascii "note: station pressure ") (unwrap_or g.station_pressure_hpa nought)
     (ascii " hPa counts as that of a mast that is not set up, 1012.75 to 1013.75 hPa:") f.pressure_hpa (ascii " hPa is used; as given: ") air)
 
 -- ---- no-temperature, no-pressure, no-humidity

@@ -1,8 +1,8 @@
 // The notes on a point in the altitude, a humidity that may be a fraction, a density that its decimals show
 // as a limit of the trim table, and what the next class is searched from.
-#![tactic(auto, using(pages::proofs::Putting::puts), unfolding(crate::specs::Doubts::fraction))]
+#![tactic(auto, using(pages::proofs::Putting::puts, crate::proofs::Printed::printing), unfolding(crate::specs::Doubts::fraction))]
 
-ghost use Rattle.std.specs.Prelude.{◌≡◌, ◌×◌, ltb, true, false, MatchOption};
+ghost use Rattle.std.specs.Prelude.{◌≡◌, ltb, true, false, MatchOption};
 ghost use Rattle.pages.specs.Pages.{put};
 ghost use Rattle.notes.specs.Words.{when, printed};
 ghost use Rattle.notes.specs.Doubts.{limit_of, are_alike, fraction, at_limit_of, at_limit, doubt_notes};
@@ -81,7 +81,7 @@ fn put_at_limit(page: &mut Page<'_>, density_kg_m3: f64)
     put_limit(page, density_kg_m3, trim_class(density_kg_m3));
 }
 
-#[tactic(auto, using(pages::proofs::Putting::puts, crate::proofs::Absent::absent), unfolding(crate::specs::Doubts::doubt_notes))]
+#[tactic(auto, using(pages::proofs::Putting::puts, crate::proofs::Printed::printing, crate::proofs::Absent::absent), unfolding(crate::specs::Doubts::doubt_notes))]
 pub(crate) fn put_doubts(page: &mut Page<'_>, noted: Noted, point: bool)
     ensures { page.new ≡ put page.old (printed (doubt_notes noted.given noted.figures point)) }
 {

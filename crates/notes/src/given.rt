@@ -1,4 +1,6 @@
 // What readings give, by name.
+#![tactic(auto, unfolding(crate::specs::Given::given_by, crate::specs::Given::pressure_given))]
+
 ghost use Rattle.std.specs.Prelude.{◌≡◌};
 ghost use Rattle.notes.specs.Given.{given_by, pressure_given};
 

@@ -1,5 +1,5 @@
 // The notes of a report: what was used in place of what was given, and what can hardly have been meant.
-#![tactic(auto, using(pages::proofs::Putting::puts, crate::proofs::Printed::printed_append), unfolding(crate::specs::Notes::notes, crate::specs::Notes::note_lines))]
+#![tactic(auto, using(pages::proofs::Putting::puts, crate::proofs::Printed::printing), unfolding(crate::specs::Notes::notes, crate::specs::Notes::note_lines))]
 
 mod doubts;
 mod given;

@@ -1,5 +1,5 @@
 // The notes on a pressure that does not belong to the altitude, and what else it may have been.
-#![tactic(auto, using(pages::proofs::Putting::puts), unfolding(crate::specs::Pressures::meant_notes, crate::specs::Pressures::unit_notes))]
+#![tactic(auto, using(pages::proofs::Putting::puts, crate::proofs::Printed::printing), unfolding(crate::specs::Pressures::meant_notes, crate::specs::Pressures::unit_notes))]
 
 ghost use Rattle.std.specs.Prelude.{◌≡◌};
 ghost use Rattle.pages.specs.Pages.{put};
@@ -144,7 +144,7 @@ fn put_units(page: &mut Page<'_>, doubtful: bool, noted: Noted)
     );
 }
 
-#[tactic(auto, using(pages::proofs::Putting::puts, crate::proofs::Printed::printed_append), unfolding(crate::specs::Pressures::notes_beside))]
+#[tactic(auto, using(pages::proofs::Putting::puts, crate::proofs::Printed::printing), unfolding(crate::specs::Pressures::notes_beside))]
 pub(crate) fn put_pressures(page: &mut Page<'_>, noted: Noted)
     ensures { page.new ≡ put page.old (printed (pressure_notes noted.given noted.figures)) }
 {

@@ -1,6 +1,6 @@
 // The notes on a temperature and an altitude outside the range over which the figures were compared with
 // the source, and the unit that may have been meant.
-#![tactic(auto, using(pages::proofs::Putting::puts), unfolding(crate::specs::Ranges::temperature_notes, crate::specs::Ranges::altitude_notes))]
+#![tactic(auto, using(pages::proofs::Putting::puts, crate::proofs::Printed::printing), unfolding(crate::specs::Ranges::temperature_notes, crate::specs::Ranges::altitude_notes))]
 
 ghost use Rattle.std.specs.Prelude.{◌≡◌, ◌&&◌};
 ghost use Rattle.pages.specs.Pages.{put};
@@ -70,7 +70,7 @@ fn put_temperature_range(page: &mut Page<'_>, given: Given, temperature_c: f64)
 }
 
 // An altitude that was given, as feet, where it would lie in the range so.
-#[tactic(auto, using(pages::proofs::Putting::puts), unfolding(crate::specs::Ranges::is_in_feet, crate::specs::Ranges::feet_line))]
+#[tactic(auto, using(pages::proofs::Putting::puts, crate::proofs::Printed::printing), unfolding(crate::specs::Ranges::is_in_feet, crate::specs::Ranges::feet_line))]
 fn put_feet(page: &mut Page<'_>, outside: bool, before: &[u8], typed_m: Option<f64>)
     ensures { page.new ≡ put page.old (when (outside && is_in_feet typed_m) (feet_line before.now typed_m)) }
 {
@@ -102,7 +102,7 @@ fn put_altitude_range(page: &mut Page<'_>, given: Given, altitude_m: f64)
     put_feet(page, outside, b"try: density-altitude=", given.density_altitude_m);
 }
 
-#[tactic(auto, using(pages::proofs::Putting::puts, crate::proofs::Printed::printed_append), unfolding(crate::specs::Ranges::range_notes))]
+#[tactic(auto, using(pages::proofs::Putting::puts, crate::proofs::Printed::printing), unfolding(crate::specs::Ranges::range_notes))]
 pub(crate) fn put_ranges(page: &mut Page<'_>, noted: Noted)
     ensures { page.new ≡ put page.old (printed (range_notes noted.given noted.figures)) }
 {

@@ -1,6 +1,6 @@
 // The notes on what was used in place of readings: the standard atmosphere's temperature and pressure for
 // those of a mast that is not set up and for those that are absent, and dry air.
-#![tactic(auto, using(pages::proofs::Putting::puts), unfolding(crate::specs::Used::default_line, crate::specs::Used::temperature_default, crate::specs::Used::pressure_default))]
+#![tactic(auto, using(pages::proofs::Putting::puts, crate::proofs::Printed::printing), unfolding(crate::specs::Used::temperature_default, crate::specs::Used::pressure_default))]
 
 ghost use Rattle.std.specs.Prelude.{◌≡◌};
 ghost use Rattle.pages.specs.Pages.{put};
@@ -87,6 +87,7 @@ fn put_air(page: &mut Page<'_>, air: Result<Figures, Refusal>)
 
 // A reading that counts as that of a mast that is not set up, what is used in its place, and the air as
 // given.
+#[tactic(auto, using(pages::proofs::Putting::puts, crate::proofs::Printed::printing), unfolding(crate::specs::Used::default_line))]
 fn put_default(
     page: &mut Page<'_>,
     name: &[u8],
@@ -136,7 +137,7 @@ fn put_pressure_default(page: &mut Page<'_>, noted: Noted, air: Result<Figures, 
     }
 }
 
-#[tactic(auto, using(pages::proofs::Putting::puts, crate::proofs::Absent::absent), unfolding(crate::specs::Used::absent_notes))]
+#[tactic(auto, using(pages::proofs::Putting::puts, crate::proofs::Printed::printing, crate::proofs::Absent::absent), unfolding(crate::specs::Used::absent_notes))]
 fn put_absent(page: &mut Page<'_>, noted: Noted)
     ensures { page.new ≡ put page.old (printed (absent_notes noted.given noted.figures)) }
 {
@@ -167,7 +168,7 @@ fn put_absent(page: &mut Page<'_>, noted: Noted)
     );
 }
 
-#[tactic(auto, using(pages::proofs::Putting::puts), unfolding(crate::specs::Used::used_notes))]
+#[tactic(auto, using(pages::proofs::Putting::puts, crate::proofs::Printed::printing), unfolding(crate::specs::Used::used_notes))]
 pub(crate) fn put_used(page: &mut Page<'_>, noted: Noted, air: Result<Figures, Refusal>)
     ensures { page.new ≡ put page.old (printed (used_notes noted.given noted.figures (outcome air))) }
 {
