@@ -99,7 +99,12 @@ fn put_altitude_range(page: &mut Page<'_>, given: Given, altitude_m: f64)
         b" m is outside -500 to 5000 m, over which the figures were compared with the source\n",
     );
     put_feet(page, outside, b"try: altitude=", given.altitude_m);
-    put_feet(page, outside, b"try: density-altitude=", given.density_altitude_m);
+    put_feet(
+        page,
+        outside,
+        b"try: density-altitude=",
+        given.density_altitude_m,
+    );
 }
 
 #[tactic(auto, using(pages::proofs::Putting::puts, crate::proofs::Printed::printing), unfolding(crate::specs::Ranges::range_notes))]
