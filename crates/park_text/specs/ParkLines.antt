@@ -1,14 +1,13 @@
 -- Lines that the program `park` prints: what is wrong with a word and what is expected, and the reading of a word in a unit.
 -- Definitions only.
-use Rattle.std.specs.Prelude.{ℕ, ◌+◌, ◌||◌, cond, List, [], ◌∷◌, ◌++◌, eqb, ltb, Float, get_or, take, drop}
+use Rattle.std.specs.Prelude.{ℕ, ◌+◌, ◌||◌, cond, List, [], ◌∷◌, ◌++◌, eqb, ltb, Float, get_or, take, drop, Result, Ok, Err}
 use Rattle.pages.specs.Scan.{index_of}
 use Rattle.decimals.specs.Shown.{shown}
 use Rattle.arithmetic.specs.Ascii.{ascii}
 use Rattle.pages.specs.Characters.{hex}
 use Rattle.park_text.specs.declared.typed_word.Problem.{Problem}
 use Rattle.park_text.specs.declared.typed_word.Problem.TheVariants.{RecordBeside, NotARecord, RecordTooLong, NameAlone, UnknownWord, Blank, Comma, MinusSign, NotANumber, UnknownUnit, TooManyDecimals, OutOfRange, RepeatedWord}
-use Rattle.park_text.specs.declared.typed_word.Word.{Word}
-use Rattle.park_text.specs.declared.typed_word.Word.TheVariants.{Reading, Wrong}
+use Rattle.park_text.specs.declared.typed_word.TypedReading.{TypedReading}
 use Rattle.park_text.specs.Word.{name_in}
 use Rattle.park_text.specs.Units.{by_quantity}
 
@@ -96,6 +95,6 @@ problem_line w p = quoted w ++ message_of (take 64 w) p
 unfoldable pub reading_line : List ℕ → ℕ → Float → List ℕ
 reading_line w m x = take 64 w ++ ascii " is " ++ shown 3 x ++ by_quantity m (ascii " m\n") (ascii " C\n") (ascii " percent\n") (ascii " hPa\n")
 
-abbrev pub unit_line : List ℕ → Word → List ℕ
-unit_line w (Reading m x written point) = cond written (reading_line w m x) []
-unit_line w (Wrong p) = []
+abbrev pub unit_line : List ℕ → Result TypedReading Problem → List ℕ
+unit_line w (Ok t) = cond t.unit_written (reading_line w t.meaning t.reading) []
+unit_line w (Err p) = []

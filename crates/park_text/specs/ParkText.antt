@@ -1,6 +1,6 @@
 -- What the program `park` prints for its words: the report of the readings, or of the record that is the only word; or the sheet to pin up, where the first
 -- word is `sheet`; or one line on the first word that is not understood; or how it is used, where there is no word or help is asked for. Definitions only.
-use Rattle.std.specs.Prelude.{ℕ, ◌%◌, Bool, false, ◌&&◌, ◌||◌, cond, List, [], ◌∷◌, ◌++◌, eqb, ltb, length, get_or, drop}
+use Rattle.std.specs.Prelude.{ℕ, ◌%◌, Bool, false, ◌&&◌, ◌||◌, cond, List, [], ◌∷◌, ◌++◌, eqb, ltb, length, get_or, drop, Result, Ok, Err}
 use Rattle.record.specs.declared.entries.Readings.{Readings}
 use Rattle.pages.specs.Characters.{same}
 use Rattle.arithmetic.specs.Ascii.{ascii}
@@ -9,11 +9,12 @@ use Rattle.report.specs.Report.{report_text, record_text}
 use Rattle.sheet_text.specs.SheetText.{sheet_of}
 use Rattle.questions.specs.Digits.{are_hex, bytes_in}
 use Rattle.park_text.specs.declared.typed_word.Problem.TheVariants.{NotARecord, RecordTooLong}
-use Rattle.park_text.specs.declared.typed_word.Word.{Word}
-use Rattle.park_text.specs.declared.typed_word.Word.TheVariants.{Reading, Wrong}
+use Rattle.park_text.specs.declared.typed_word.Problem.{Problem}
+use Rattle.park_text.specs.declared.typed_word.TypedReading.{TypedReading}
+use Rattle.park_text.specs.declared.typed_readings.WrongWord.{WrongWord}
 use Rattle.park_text.specs.Word.{is_record, read_word}
 use Rattle.park_text.specs.ParkLines.{problem_line, unit_line}
-use Rattle.park_text.specs.Understood.{Understood, given, problem, understand}
+use Rattle.park_text.specs.Understood.{understand}
 
 -- ---- no word, or one that asks for help
 unfoldable pub usage_text : List ℕ
@@ -43,9 +44,9 @@ abbrev pub is_help : List ℕ → Bool
 is_help w = (same w (ascii "help") || same w (ascii "--help")) || same w (ascii "-h")
 
 -- ---- the words: the text of their readings, or the line on the first that is not understood
-abbrev pub said : (Readings → List ℕ) → List (List ℕ) → Understood → List ℕ
-said text ws (given r) = text r
-said text ws (problem p i) = problem_line (get_or ws i []) p
+abbrev pub said : (Readings → List ℕ) → List (List ℕ) → Result Readings WrongWord → List ℕ
+said text ws (Ok r) = text r
+said text ws (Err e) = problem_line (get_or ws e.number []) e.problem
 
 unfoldable pub sheet_words : List (List ℕ) → List ℕ
 sheet_words ws = said sheet_of ws (understand ws)
@@ -56,9 +57,9 @@ unit_lines [] = []
 unit_lines (w ∷ ws) = unit_line w (read_word w) ++ unit_lines ws
 
 -- whether the altitude was typed with a point that may mean thousands
-abbrev pub point_typed : Word → Bool
-point_typed (Reading m x written point) = point
-point_typed (Wrong p) = false
+abbrev pub point_typed : Result TypedReading Problem → Bool
+point_typed (Ok t) = t.point
+point_typed (Err p) = false
 
 unfoldable pub any_point : List (List ℕ) → Bool
 any_point [] = false

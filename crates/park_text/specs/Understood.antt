@@ -1,5 +1,5 @@
 -- The readings that words give, one word after the other, or the first problem with the number of its word, counted from 0. Definitions only.
-use Rattle.std.specs.Prelude.{ℕ, ℤ, ◌+◌, cond, List, [], ◌∷◌, Float, Option, Some, None, is_some}
+use Rattle.std.specs.Prelude.{ℕ, ℤ, ◌+◌, cond, List, [], ◌∷◌, Float, Option, Some, None, is_some, Result, Ok, Err}
 use Rattle.thousandths.specs.Thousandths.{twos_complement, count_for}
 use Rattle.fields.specs.declared.fields.Value.{Value}
 use Rattle.fields.specs.declared.fields.Value.TheVariants.{Double, Count}
@@ -7,21 +7,19 @@ use Rattle.record.specs.declared.entries.Readings.{Readings}
 use Rattle.record.specs.Entries.{no_readings, entry_of, with_value}
 use Rattle.park_text.specs.declared.typed_word.Problem.{Problem}
 use Rattle.park_text.specs.declared.typed_word.Problem.TheVariants.{RepeatedWord}
-use Rattle.park_text.specs.declared.typed_word.Word.{Word}
-use Rattle.park_text.specs.declared.typed_word.Word.TheVariants as word
-use Rattle.park_text.specs.declared.typed_readings.WordCheck.TheVariants as check
-use Rattle.park_text.specs.declared.typed_readings.TypedReadings.{TypedReadings}
+use Rattle.park_text.specs.declared.typed_word.TypedReading.{TypedReading}
+use Rattle.park_text.specs.declared.typed_readings.WrongWord.{WrongWord}
 use Rattle.park_text.specs.Word.{read_word}
 
-pub data Understood : Type 0 where
-  given : Readings → Understood
-  problem : Problem → ℕ → Understood
+-- the problem of word i
+abbrev pub problem : Problem → ℕ → Result Readings WrongWord
+problem p i = Err (record { problem = p; number = i })
 
 -- what comes after: a problem is the last word
 infixr 20 ◌⟫◌
-abbrev pub ◌⟫◌ : Understood → (Readings → Understood) → Understood
-given r ⟫ next = next r
-problem p i ⟫ next = problem p i
+abbrev pub ◌⟫◌ : Result Readings WrongWord → (Readings → Result Readings WrongWord) → Result Readings WrongWord
+Ok r ⟫ next = next r
+Err e ⟫ next = Err e
 
 -- a reading as it is kept: the count of thousandths whose double it is, where there is one
 abbrev pub kept_as : Float → Option ℤ → Value
@@ -32,18 +30,13 @@ unfoldable pub value_of : Float → Value
 value_of x = kept_as x (count_for x)
 
 -- word i after those that gave r
-abbrev pub with_typed : Readings → ℕ → Word → Understood
-with_typed r i (word.Reading m x written point) = cond (is_some (entry_of r m)) (problem RepeatedWord i) (given (with_value r m (value_of x)))
-with_typed r i (word.Wrong p) = problem p i
+abbrev pub with_typed : Readings → ℕ → Result TypedReading Problem → Result Readings WrongWord
+with_typed r i (Ok t) = cond (is_some (entry_of r t.meaning)) (problem RepeatedWord i) (Ok (with_value r t.meaning (value_of t.reading)))
+with_typed r i (Err p) = problem p i
 
-unfoldable pub understand_from : ℕ → Readings → List (List ℕ) → Understood
-understand_from i r [] = given r
+unfoldable pub understand_from : ℕ → Readings → List (List ℕ) → Result Readings WrongWord
+understand_from i r [] = Ok r
 understand_from i r (w ∷ ws) = with_typed r i (read_word w) ⟫ (λ q. understand_from (i + 1) q ws)
 
-abbrev pub understand : List (List ℕ) → Understood
+abbrev pub understand : List (List ℕ) → Result Readings WrongWord
 understand ws = understand_from 0 no_readings ws
-
--- the code's answer: with a problem no readings
-abbrev pub answer_for : Understood → TypedReadings
-answer_for (given r) = record { check = check.Passed; readings = r }
-answer_for (problem p i) = record { check = check.Wrong p i; readings = no_readings }

@@ -1,28 +1,32 @@
 -- The units of typed numbers: their names by the meaning of the reading, how many decimals a number in them has, and the reading of a number's count, the
 -- double nearest to its exact value. Definitions only.
-use Rattle.std.specs.Prelude.{ℕ, Bool, ◌||◌, cond, List, eqb, Float, ℤ, pos, ◌*ℤ◌, ◌-ℤ◌, length}
+use Rattle.std.specs.Prelude.{ℕ, Bool, ◌||◌, cond, List, [], ◌∷◌, eqb, Float, ℤ, pos, ◌*ℤ◌, ◌-ℤ◌, length, Option, Some, None}
+use Rattle.std.specs.Borrow.{Bor}
 use Rattle.arithmetic.specs.Ascii.{ascii}
 use Rattle.arithmetic.specs.Nearest.{nearest_ratio}
 use Rattle.fields.specs.Fields.{altitude, temperature, humidity, density_altitude}
 use Rattle.pages.specs.Characters.{same}
 use Rattle.park_text.specs.declared.units.Unit.{Unit}
 use Rattle.park_text.specs.declared.units.Unit.TheVariants.{Plain, Foot, Fahrenheit, Kelvin, Kilopascal, InchOfMercury}
-use Rattle.park_text.specs.declared.units.Named.{Named}
-use Rattle.park_text.specs.declared.units.Named.TheVariants.{Known, Unknown}
 
 -- ---- names
-abbrev pub length_unit : List ℕ → Named
-length_unit w = cond (same w (ascii "m")) (Known Plain) (cond (same w (ascii "ft")) (Known Foot) Unknown)
+abbrev pub length_unit : List ℕ → Option Unit
+length_unit w = cond (same w (ascii "m")) (Some Plain) (cond (same w (ascii "ft")) (Some Foot) None)
 
-abbrev pub temperature_unit : List ℕ → Named
-temperature_unit w = cond (same w (ascii "C")) (Known Plain) (cond (same w (ascii "F")) (Known Fahrenheit) (cond (same w (ascii "K")) (Known Kelvin) Unknown))
+abbrev pub temperature_unit : List ℕ → Option Unit
+temperature_unit w = cond (same w (ascii "C")) (Some Plain) (cond (same w (ascii "F")) (Some Fahrenheit) (cond (same w (ascii "K")) (Some Kelvin) None))
 
-abbrev pub pressure_unit : List ℕ → Named
+abbrev pub pressure_unit : List ℕ → Option Unit
 pressure_unit w =
-    cond (same w (ascii "hPa")) (Known Plain) (cond (same w (ascii "kPa")) (Known Kilopascal) (cond (same w (ascii "inHg")) (Known InchOfMercury) Unknown))
+    cond (same w (ascii "hPa")) (Some Plain) (cond (same w (ascii "kPa")) (Some Kilopascal) (cond (same w (ascii "inHg")) (Some InchOfMercury) None))
 
-abbrev pub humidity_unit : List ℕ → Named
-humidity_unit w = cond (same w (ascii "percent")) (Known Plain) (cond (same w (ascii "%")) (Known Plain) Unknown)
+abbrev pub humidity_unit : List ℕ → Option Unit
+humidity_unit w = cond (same w (ascii "percent")) (Some Plain) (cond (same w (ascii "%")) (Some Plain) None)
+
+-- the unit that a name of a table stands for
+abbrev pub unit_in : List (Bor (List ℕ) × Unit) → List ℕ → Option Unit
+unit_in [] w = None
+unit_in (n ∷ names) w = cond (same w n.0.now) (Some n.1) (unit_in names w)
 
 -- by meaning, for a value for each of length, temperature, humidity and pressure
 abbrev pub is_length : ℕ → Bool
@@ -32,8 +36,8 @@ abbrev pub by_quantity : {A : Type 0} → ℕ → A → A → A → A → A
 by_quantity m l t h p = cond (is_length m) l (cond (eqb m temperature) t (cond (eqb m humidity) h p))
 
 -- the unit that a name stands for; it needs not be written where it is the reading's own
-unfoldable pub unit_named : ℕ → List ℕ → Named
-unit_named m w = cond (eqb (length w) 0) (Known Plain) (by_quantity m (length_unit w) (temperature_unit w) (humidity_unit w) (pressure_unit w))
+unfoldable pub unit_named : ℕ → List ℕ → Option Unit
+unit_named m w = cond (eqb (length w) 0) (Some Plain) (by_quantity m (length_unit w) (temperature_unit w) (humidity_unit w) (pressure_unit w))
 
 -- ---- numbers
 abbrev pub places_of : Unit → ℕ

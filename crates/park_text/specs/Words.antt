@@ -1,5 +1,6 @@
 -- The words of a text. A text is the list of its bytes. Definitions only.
-use Rattle.std.specs.Prelude.{ℕ, ◌≤◌, ◌≡◌, Bool, true, false, List, [], ◌∷◌, eqb, length, drop}
+use Rattle.std.specs.Prelude.{ℕ, Bool, true, false, List, [], ◌∷◌, eqb}
+use Rattle.park_text.specs.declared.words.Words.{Words}
 
 -- ---- the words of a text: each is ended by a newline, 10, the last one with or without it
 -- words with a byte before them: a newline ends a word of no bytes
@@ -12,7 +13,6 @@ unfoldable pub arguments : List ℕ → List (List ℕ)
 arguments [] = []
 arguments (b ∷ s) = before (eqb b 10) b (arguments s)
 
--- word i begins at position `at` of s, or s ends there where it has no such word
-pub record ArgumentStarts (s : List ℕ) (i at : ℕ) : Type 0 where
-  pub within : at ≤ length s
-  pub rest : arguments (drop at s) ≡ drop i (arguments s)
+-- the words that are left of a text
+abbrev pub words_left : Words → List (List ℕ)
+words_left words = arguments words.rest.now

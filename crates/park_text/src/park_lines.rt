@@ -1,16 +1,14 @@
 // Lines that the program `park` prints: what is wrong with a word, and a reading in its unit.
+#![tactic(auto, using(pages::proofs::Putting::puts), unfolding(crate::specs::ParkLines::quoted, crate::specs::ParkLines::example_of, crate::specs::ParkLines::alone_message, crate::specs::ParkLines::unit_message, crate::specs::ParkLines::blank_message, crate::specs::ParkLines::comma_message, crate::specs::ParkLines::minus_message, crate::specs::ParkLines::message_of, crate::specs::ParkLines::problem_line, crate::specs::ParkLines::reading_line))]
+
 ghost use Rattle.std.specs.Prelude.{◌≡◌, take, drop};
 ghost use Rattle.pages.specs.Pages.{put};
 ghost use Rattle.park_text.specs.Units.{by_quantity};
 ghost use Rattle.park_text.specs.ParkLines.{byte_with, typed_with, as_typed, quoted, example_of, alone_message, unit_message, decimals_message, range_message, blank_message, comma_message, minus_message, message_of, problem_line, reading_line, unit_line};
 
-use crate::typed_word::{Problem, Word};
-use crate::units::is_length;
+use crate::typed_word::{Problem, TypedReading};
 use decimals::figures::put_shown;
-use fields::fields::{
-    ALTITUDE, DENSITY_ALTITUDE, HUMIDITY, MEANINGS, MEASURED_PRESSURE, QNH, STATION_PRESSURE,
-    TEMPERATURE,
-};
+use fields::fields::{ALTITUDE, DENSITY_ALTITUDE, HUMIDITY, TEMPERATURE};
 use pages::Page;
 use pages::scan::find;
 
@@ -18,62 +16,44 @@ use pages::scan::find;
 pub(crate) fn first_bytes(word: &[u8], n: usize) -> &[u8]
     ensures { result.now ≡ take n word.now }
 {
-    if word.len() <= n {
-        return word;
-    }
-    &word[..n]
+    &word[..n.min(word.len())]
 }
 
 // And those after them.
 pub(crate) fn later_bytes(word: &[u8], n: usize) -> &[u8]
     ensures { result.now ≡ drop n word.now }
 {
-    let end = word.len();
-    if end <= n {
-        return &word[end..];
-    }
-    &word[n..]
+    &word[n.min(word.len())..]
 }
 
-// Each of the following puts a piece on the page from `at` on, and answers the position after it.
 // A byte of a word, or `new` where it is `old`.
 fn put_byte(page: &mut Page<'_>, byte: u8, old: u8, new: &[u8])
-    ensures put { page.new ≡ put page.old (byte_with old new.now byte) }
-    ensures kept { new.now ≡ new.now }
+    ensures { page.new ≡ put page.old (byte_with old new.now byte) }
 {
     if byte == old {
         page.put(new);
-        return;
-    }
-    let one = [byte];
-    if (byte < 32) | (byte > 126) {
+    } else if (32..=126).contains(&byte) {
+        page.put(&[byte]);
+    } else {
         page.put(b"\\x");
-        page.put_hex(&one);
-        return;
+        page.put_hex(&[byte]);
     }
-    page.put(&one)
 }
 
 // A word with `new` in the place of each byte `old`. The word is left as it was.
 fn put_with(page: &mut Page<'_>, word: &[u8], old: u8, new: &[u8])
-    ensures put { page.new ≡ put page.old (typed_with old new.now word.now) }
-    ensures kept { word.now ≡ word.now }
+    ensures { page.new ≡ put page.old (typed_with old new.now word.now) }
 {
-    let mut next = at;
-    let mut i = 0;
-    while i < word.len() {
-        next = put_byte(page, word[i], old, new);
-        i += 1;
+    for &byte in word {
+        put_byte(page, byte, old, new);
     }
-    next
 }
 
 // A word as it was typed. It is left as it was.
 fn put_typed(page: &mut Page<'_>, word: &[u8])
-    ensures put { page.new ≡ put page.old (as_typed word.now) }
-    ensures kept { word.now ≡ word.now }
+    ensures { page.new ≡ put page.old (as_typed word.now) }
 {
-    put_with(page, word, b'"', b"\"")
+    put_with(page, word, b'"', b"\"");
 }
 
 // One of four texts: for a length, a temperature, a humidity and a pressure.
@@ -87,56 +67,31 @@ fn put_for(
 )
     ensures { page.new ≡ put page.old (by_quantity meaning length.now temperature.now humidity.now pressure.now) }
 {
-    if is_length(meaning) {
-        page.put(length);
-        return;
+    match meaning {
+        ALTITUDE | DENSITY_ALTITUDE => page.put(length),
+        TEMPERATURE => page.put(temperature),
+        HUMIDITY => page.put(humidity),
+        _ => page.put(pressure),
     }
-    if meaning == TEMPERATURE {
-        page.put(temperature);
-        return;
-    }
-    if meaning == HUMIDITY {
-        page.put(humidity);
-        return;
-    }
-    page.put(pressure)
 }
 
 // A word with a number, for each meaning, and one with a record.
+const EXAMPLES: [&[u8]; 8] = [
+    b"altitude=1586\n",
+    b"temperature=24\n",
+    b"station-pressure=841.9\n",
+    b"qnh=1019.3\n",
+    b"humidity=32\n",
+    b"density-altitude=2100\n",
+    b"pressure=841.9\n",
+    b"record=11000400183350\n",
+];
+
 fn put_example(page: &mut Page<'_>, meaning: usize)
     ensures { page.new ≡ put page.old (example_of meaning) }
 {
-    if meaning == ALTITUDE {
-        page.put(b"altitude=1586\n");
-        return;
-    }
-    if meaning == TEMPERATURE {
-        page.put(b"temperature=24\n");
-        return;
-    }
-    if meaning == STATION_PRESSURE {
-        page.put(b"station-pressure=841.9\n");
-        return;
-    }
-    if meaning == QNH {
-        page.put(b"qnh=1019.3\n");
-        return;
-    }
-    if meaning == HUMIDITY {
-        page.put(b"humidity=32\n");
-        return;
-    }
-    if meaning == DENSITY_ALTITUDE {
-        page.put(b"density-altitude=2100\n");
-        return;
-    }
-    if meaning == MEASURED_PRESSURE {
-        page.put(b"pressure=841.9\n");
-        return;
-    }
-    if meaning == MEANINGS {
-        page.put(b"record=11000400183350\n");
-        return;
+    if let Some(example) = EXAMPLES.get(meaning) {
+        page.put(example);
     }
 }
 
@@ -144,7 +99,7 @@ fn put_alone(page: &mut Page<'_>, meaning: usize)
     ensures { page.new ≡ put page.old (alone_message meaning) }
 {
     page.put(b": a name without =, type ");
-    put_example(page, meaning)
+    put_example(page, meaning);
 }
 
 fn put_units(page: &mut Page<'_>, meaning: usize)
@@ -158,7 +113,7 @@ fn put_units(page: &mut Page<'_>, meaning: usize)
         b"C, F or K\n",
         b"percent or %\n",
         b"hPa, kPa or inHg\n",
-    )
+    );
 }
 
 fn put_decimals(page: &mut Page<'_>, places: usize)
@@ -166,9 +121,9 @@ fn put_decimals(page: &mut Page<'_>, places: usize)
 {
     if places == 4 {
         page.put(b": more than four decimals, as 30.1025inHg\n");
-        return;
+    } else {
+        page.put(b": more than three decimals, expected thousandths at most, as 841.897\n");
     }
-    page.put(b": more than three decimals, expected thousandths at most, as 841.897\n")
 }
 
 fn put_range(page: &mut Page<'_>, places: usize)
@@ -176,9 +131,9 @@ fn put_range(page: &mut Page<'_>, places: usize)
 {
     if places == 4 {
         page.put(b": out of range, expected a number from -214748.3648 to 214748.3647\n");
-        return;
+    } else {
+        page.put(b": out of range, expected a number from -2147483.648 to 2147483.647\n");
     }
-    page.put(b": out of range, expected a number from -2147483.648 to 2147483.647\n")
 }
 
 fn put_blank(page: &mut Page<'_>, word: &[u8])
@@ -186,7 +141,7 @@ fn put_blank(page: &mut Page<'_>, word: &[u8])
 {
     page.put(b": a blank, type ");
     put_with(page, word, b' ', b"");
-    page.put(b"\n")
+    page.put(b"\n");
 }
 
 fn put_comma(page: &mut Page<'_>, word: &[u8])
@@ -196,7 +151,7 @@ fn put_comma(page: &mut Page<'_>, word: &[u8])
     put_with(page, word, b',', b".");
     page.put(b" for decimals, ");
     put_with(page, word, b',', b"");
-    page.put(b" for thousands\n")
+    page.put(b" for thousands\n");
 }
 
 fn put_hyphened(page: &mut Page<'_>, word: &[u8])
@@ -207,7 +162,7 @@ fn put_hyphened(page: &mut Page<'_>, word: &[u8])
     put_typed(page, first_bytes(word, mark));
     page.put(b"=-");
     put_typed(page, later_bytes(later_bytes(word, mark), 4));
-    page.put(b"\n")
+    page.put(b"\n");
 }
 
 // What is wrong with a word and what is expected.
@@ -241,12 +196,11 @@ fn put_message(page: &mut Page<'_>, word: &[u8], problem: Problem)
 
 // The first 64 bytes of a word in quotes. The word is left as it was.
 pub(crate) fn put_quoted(page: &mut Page<'_>, word: &[u8])
-    ensures put { page.new ≡ put page.old (quoted word.now) }
-    ensures kept { word.now ≡ word.now }
+    ensures { page.new ≡ put page.old (quoted word.now) }
 {
     page.put(b"\"");
     put_typed(page, first_bytes(word, 64));
-    page.put(b"\"")
+    page.put(b"\"");
 }
 
 // The line on a word that is not understood.
@@ -254,7 +208,7 @@ pub(crate) fn put_problem(page: &mut Page<'_>, word: &[u8], problem: Problem)
     ensures { page.new ≡ put page.old (problem_line word.now problem) }
 {
     put_quoted(page, word);
-    put_message(page, first_bytes(word, 64), problem)
+    put_message(page, first_bytes(word, 64), problem);
 }
 
 // The reading of a word whose unit was written.
@@ -264,20 +218,16 @@ fn put_reading_of(page: &mut Page<'_>, word: &[u8], meaning: usize, x: f64)
     page.put(first_bytes(word, 64));
     page.put(b" is ");
     put_shown(page, x, 3);
-    put_for(page, meaning, b" m\n", b" C\n", b" percent\n", b" hPa\n")
+    put_for(page, meaning, b" m\n", b" C\n", b" percent\n", b" hPa\n");
 }
 
-// Nothing for any other word.
-pub(crate) fn put_unit_line(page: &mut Page<'_>, word: &[u8], read: Word)
+// The reading of a word whose unit was written, and nothing for any other word.
+pub(crate) fn put_unit_line(page: &mut Page<'_>, word: &[u8], read: Result<TypedReading, Problem>)
     ensures { page.new ≡ put page.old (unit_line word.now read) }
 {
-    match read {
-        Word::Reading(meaning, x, written, _) => {
-            if written {
-                return put_reading_of(page, word, meaning, x);
-            }
-            at
-        }
-        Word::Wrong(_) => {}
+    if let Ok(typed) = read
+        && typed.unit_written
+    {
+        put_reading_of(page, word, typed.meaning, typed.reading);
     }
 }

@@ -1,19 +1,16 @@
 // One word of a command line, as `altitude=1586` or `altitude=5203ft`: a meaning and its reading, or what
 // is wrong.
-ghost use Rattle.std.specs.Prelude.{◌≡◌};
-ghost use Rattle.park_text.specs.Word.{meaning_named, is_number_byte, number_length, three_decimals, is_small, is_point, value_for, no_unit, read_number, is_minus_sign, has, read_value, named, alone, read_named, is_record, read_word};
+#![tactic(auto, using(pages::proofs::Same::same_is))]
 
-use crate::park_lines::first_bytes;
-use crate::units::{Named, Unit, places, reading_in, unit_named};
+ghost use Rattle.std.specs.Prelude.{◌≡◌};
+ghost use Rattle.park_text.specs.Word.{meaning_named, is_number_byte, number_length, three_decimals, is_small, is_point, value_for, no_unit, read_number, is_minus_sign, read_value, alone, read_named, is_record, read_word};
+
+use crate::units::{Unit, unit_named};
 use decimals::typed::{NotACount, read_decimal};
-use fields::fields::{
-    ALTITUDE, DENSITY_ALTITUDE, HUMIDITY, MEANINGS, MEASURED_PRESSURE, QNH, STATION_PRESSURE,
-    TEMPERATURE,
-};
-use pages::scan::find;
+use fields::fields::{ALTITUDE, MEANINGS};
 
 // What is wrong with a word, in the order of the checks of one word.
-#[derive(Clone, Copy)]
+#[derive(Clone, Copy, Debug, PartialEq, Eq)]
 pub enum Problem {
     // `record=` among other words
     RecordBeside,
@@ -38,214 +35,177 @@ pub enum Problem {
     RepeatedWord,
 }
 
-// A word: a meaning and its reading, whether its unit was written, and whether its point may have been
-// meant for thousands; or what is wrong.
-#[derive(Clone, Copy)]
-pub enum Word {
-    Reading(usize, f64, bool, bool),
-    Wrong(Problem),
+// What a word says: the reading of a meaning, whether its unit was written, and whether its point may have
+// been meant for thousands.
+#[derive(Clone, Copy, Debug, PartialEq)]
+pub struct TypedReading {
+    pub meaning: usize,
+    pub reading: f64,
+    pub unit_written: bool,
+    pub point: bool,
 }
 
-// The meaning that a name has, and MEANINGS where it has none.
-fn meaning_named(name: &[u8]) -> usize
+// The names of readings, each at the place of its meaning.
+const NAMES: [&[u8]; MEANINGS] = [
+    b"altitude",
+    b"temperature",
+    b"station-pressure",
+    b"qnh",
+    b"humidity",
+    b"density-altitude",
+    b"pressure",
+];
+
+// The meaning that a name has.
+fn meaning_named(name: &[u8]) -> Option<usize>
     ensures { result ≡ meaning_named name.now }
 {
-    if pages::scan::same(name, b"altitude") {
-        return ALTITUDE;
-    }
-    if pages::scan::same(name, b"temperature") {
-        return TEMPERATURE;
-    }
-    if pages::scan::same(name, b"station-pressure") {
-        return STATION_PRESSURE;
-    }
-    if pages::scan::same(name, b"qnh") {
-        return QNH;
-    }
-    if pages::scan::same(name, b"humidity") {
-        return HUMIDITY;
-    }
-    if pages::scan::same(name, b"density-altitude") {
-        return DENSITY_ALTITUDE;
-    }
-    if pages::scan::same(name, b"pressure") {
-        return MEASURED_PRESSURE;
-    }
-    MEANINGS
+    NAMES.iter().position(|known| name == *known)
 }
 
 fn is_number_byte(byte: u8) -> bool
     ensures { result ≡ is_number_byte byte }
 {
-    ((b'0' <= byte) & (byte <= b'9')) | (byte == b'+') | (byte == b'-') | (byte == b'.')
+    matches!(byte, b'0'..=b'9' | b'+' | b'-' | b'.')
 }
 
 // How many digits, signs and points the text begins with.
 fn number_length(text: &[u8]) -> usize
     ensures { result ≡ number_length text.now }
 {
-    let mut i = 0;
-    while i < text.len() {
-        if !is_number_byte(text[i]) {
-            return i;
-        }
-        i += 1;
-    }
-    i
+    text.iter()
+        .position(|&byte| !is_number_byte(byte))
+        .unwrap_or(text.len())
 }
 
 // Whether a number has three decimals.
 fn three_decimals(number: &[u8]) -> bool
     ensures { result ≡ three_decimals number.now }
 {
-    let n = number.len();
-    if n < 4 {
-        return false;
+    match number.iter().position(|&byte| byte == b'.') {
+        Some(point) => number.len() - point == 4,
+        None => false,
     }
-    find(number, 0, n, b'.') == n - 4
 }
 
 fn is_small(count: i32) -> bool
     ensures { result ≡ is_small count }
 {
-    (-10000 < count) & (count < 10000)
+    count.unsigned_abs() < 10000
 }
 
 // Whether the point of an altitude may have been meant for thousands.
 fn is_point(meaning: usize, three: bool, count: i32) -> bool
     ensures { result ≡ is_point meaning three count }
 {
-    (meaning == ALTITUDE) & three & is_small(count)
+    meaning == ALTITUDE && three && is_small(count)
 }
 
 fn value_for(
     meaning: usize,
     unit: Unit,
-    written: bool,
+    unit_written: bool,
     three: bool,
     decimal: Result<i32, NotACount>,
-) -> Word
-    ensures { result ≡ value_for meaning unit written three decimal }
+) -> Result<TypedReading, Problem>
+    ensures { result ≡ value_for meaning unit unit_written three decimal }
 {
     match decimal {
-        Ok(n) => {
-            Word::Reading(
-                meaning,
-                reading_in(unit, n),
-                written,
-                is_point(meaning, three, n),
-            )
-        }
-        Err(NotACount::NotANumber) => Word::Wrong(Problem::NotANumber),
-        Err(NotACount::TooManyDecimals) => Word::Wrong(Problem::TooManyDecimals(places(unit))),
-        Err(NotACount::OutOfRange) => Word::Wrong(Problem::OutOfRange(places(unit))),
+        Ok(count) => Ok(TypedReading {
+            meaning,
+            reading: unit.reading(count),
+            unit_written,
+            point: is_point(meaning, three, count),
+        }),
+        Err(NotACount::NotANumber) => Err(Problem::NotANumber),
+        Err(NotACount::TooManyDecimals) => Err(Problem::TooManyDecimals(unit.places())),
+        Err(NotACount::OutOfRange) => Err(Problem::OutOfRange(unit.places())),
     }
 }
 
 // What is wrong with a number behind which an unknown unit stands.
-fn no_unit(meaning: usize, decimal: Result<i32, NotACount>) -> Word
+fn no_unit(meaning: usize, decimal: Result<i32, NotACount>) -> Problem
     ensures { result ≡ no_unit meaning decimal }
 {
     match decimal {
-        Ok(_) => Word::Wrong(Problem::UnknownUnit(meaning)),
-        Err(NotACount::NotANumber) => Word::Wrong(Problem::NotANumber),
-        Err(NotACount::TooManyDecimals) => Word::Wrong(Problem::UnknownUnit(meaning)),
-        Err(NotACount::OutOfRange) => Word::Wrong(Problem::UnknownUnit(meaning)),
+        Err(NotACount::NotANumber) => Problem::NotANumber,
+        _ => Problem::UnknownUnit(meaning),
     }
 }
 
-fn read_number(meaning: usize, number: &[u8], name: &[u8]) -> Word
+fn read_number(meaning: usize, number: &[u8], name: &[u8]) -> Result<TypedReading, Problem>
     ensures { result ≡ read_number meaning number.now name.now }
 {
     match unit_named(meaning, name) {
-        Named::Known(unit) => value_for(
+        Some(unit) => value_for(
             meaning,
             unit,
-            name.len() > 0,
+            !name.is_empty(),
             three_decimals(number),
-            read_decimal(number, places(unit)),
+            read_decimal(number, unit.places()),
         ),
-        Named::Unknown => no_unit(meaning, read_decimal(number, 3)),
+        None => Err(no_unit(meaning, read_decimal(number, 3))),
     }
-}
-
-// Whether a byte stands in a text.
-fn has(text: &[u8], byte: u8) -> bool
-    ensures { result ≡ has byte text.now }
-{
-    find(text, 0, text.len(), byte) < text.len()
 }
 
 // Whether a text begins with the minus sign U+2212.
 fn is_minus_sign(text: &[u8]) -> bool
     ensures { result ≡ is_minus_sign text.now }
 {
-    let sign = [0xE2u8, 0x88, 0x92];
-    pages::scan::same(first_bytes(text, 3), &sign)
+    text.starts_with(b"\xE2\x88\x92")
 }
 
 // What stands behind the `=`.
-fn read_value(meaning: usize, text: &[u8]) -> Word
+fn read_value(meaning: usize, text: &[u8]) -> Result<TypedReading, Problem>
     ensures { result ≡ read_value meaning text.now }
 {
-    if has(text, b' ') {
-        return Word::Wrong(Problem::Blank);
+    if text.contains(&b' ') {
+        return Err(Problem::Blank);
     }
-    if has(text, b',') {
-        return Word::Wrong(Problem::Comma);
+    if text.contains(&b',') {
+        return Err(Problem::Comma);
     }
     if is_minus_sign(text) {
-        return Word::Wrong(Problem::MinusSign);
+        return Err(Problem::MinusSign);
     }
-    let n = number_length(text);
-    read_number(meaning, &text[..n], &text[n..])
+    let (number, name) = text.split_at(number_length(text));
+    read_number(meaning, number, name)
 }
 
 // A word without `=`.
-fn alone(meaning: usize) -> Word
+fn alone(meaning: Option<usize>) -> Problem
     ensures { result ≡ alone meaning }
 {
-    if meaning >= MEANINGS {
-        return Word::Wrong(Problem::UnknownWord);
-    }
-    Word::Wrong(Problem::NameAlone(meaning))
+    meaning.map_or(Problem::UnknownWord, |known| Problem::NameAlone(known))
 }
 
 // A name, `=`, a number and, where it is not the reading's own, its unit. The word is left as it was.
-fn read_named(word: &[u8]) -> Word
-    ensures value { result ≡ read_named word.now }
-    ensures kept { word.now ≡ word.now }
+fn read_named(word: &[u8]) -> Result<TypedReading, Problem>
+    ensures { result ≡ read_named word.now }
 {
-    let at = find(word, 0, word.len(), b'=');
-    if at >= word.len() {
-        return alone(meaning_named(word));
-    }
-    let meaning = meaning_named(&word[..at]);
-    if meaning >= MEANINGS {
-        return Word::Wrong(Problem::UnknownWord);
-    }
-    let after = at + 1;
-    read_value(meaning, &word[after..])
+    let Some(at) = word.iter().position(|&byte| byte == b'=') else {
+        return Err(alone(meaning_named(word)));
+    };
+    let meaning = meaning_named(&word[..at]).ok_or(Problem::UnknownWord)?;
+    read_value(meaning, &word[at + 1..])
 }
 
 // Whether a word begins with `record=`. It is left as it was.
 pub(crate) fn is_record(word: &[u8]) -> bool
-    ensures answered { result ≡ is_record word.now }
-    ensures kept { word.now ≡ word.now }
+    ensures { result ≡ is_record word.now }
 {
-    pages::scan::same(first_bytes(word, 7), b"record=")
+    word.starts_with(b"record=")
 }
 
 // One word among others, or the only one that is no record. It is left as it was.
-pub fn read_word(word: &[u8]) -> Word
-    ensures value { result ≡ read_word word.now }
-    ensures kept { word.now ≡ word.now }
+pub fn read_word(word: &[u8]) -> Result<TypedReading, Problem>
+    ensures { result ≡ read_word word.now }
 {
     if is_record(word) {
-        return Word::Wrong(Problem::RecordBeside);
+        return Err(Problem::RecordBeside);
     }
-    if pages::scan::same(word, b"record") {
-        return Word::Wrong(Problem::NameAlone(MEANINGS));
+    if word == b"record".as_slice() {
+        return Err(Problem::NameAlone(MEANINGS));
     }
     read_named(word)
 }

@@ -1,14 +1,14 @@
 // The units of typed numbers: the unit that a name stands for, and the reading of a number's count, the
 // double nearest to its exact value.
-ghost use Rattle.std.specs.Prelude.{◌≡◌, ◌*ℤ◌, ◌-ℤ◌};
-ghost use Rattle.std.specs.Int.{w64};
-ghost use Rattle.std.proofs.Common.{SFits};
-ghost use Rattle.park_text.specs.Units.{length_unit, temperature_unit, pressure_unit, humidity_unit, is_length, unit_named, places_of, numerator_of, denominator_of, reading_in};
+#![tactic(auto, using(pages::proofs::Same::same_is))]
+
+ghost use Rattle.std.specs.Prelude.{◌≡◌};
+ghost use Rattle.park_text.specs.Units.{unit_in, unit_named, places_of, numerator_of, denominator_of, reading_in};
 
 use fields::fields::{ALTITUDE, DENSITY_ALTITUDE, HUMIDITY, TEMPERATURE};
 
 // What a number counts: the unit in which its reading is kept (m, C, hPa or percent), or another one.
-#[derive(Clone, Copy)]
+#[derive(Clone, Copy, Debug, PartialEq, Eq)]
 pub enum Unit {
     Plain,
     Foot,
@@ -18,150 +18,95 @@ pub enum Unit {
     InchOfMercury,
 }
 
-#[derive(Clone, Copy)]
-pub enum Named {
-    Known(Unit),
-    Unknown,
-}
+// The names of units, by the quantity that they measure.
+const OF_LENGTH: [(&[u8], Unit); 2] = [(b"m", Unit::Plain), (b"ft", Unit::Foot)];
 
-fn length_unit(name: &[u8]) -> Named
-    ensures { result ≡ length_unit name.now }
-{
-    if pages::scan::same(name, b"m") {
-        return Named::Known(Unit::Plain);
-    }
-    if pages::scan::same(name, b"ft") {
-        return Named::Known(Unit::Foot);
-    }
-    Named::Unknown
-}
+const OF_TEMPERATURE: [(&[u8], Unit); 3] = [
+    (b"C", Unit::Plain),
+    (b"F", Unit::Fahrenheit),
+    (b"K", Unit::Kelvin),
+];
 
-fn temperature_unit(name: &[u8]) -> Named
-    ensures { result ≡ temperature_unit name.now }
-{
-    if pages::scan::same(name, b"C") {
-        return Named::Known(Unit::Plain);
-    }
-    if pages::scan::same(name, b"F") {
-        return Named::Known(Unit::Fahrenheit);
-    }
-    if pages::scan::same(name, b"K") {
-        return Named::Known(Unit::Kelvin);
-    }
-    Named::Unknown
-}
+const OF_PRESSURE: [(&[u8], Unit); 3] = [
+    (b"hPa", Unit::Plain),
+    (b"kPa", Unit::Kilopascal),
+    (b"inHg", Unit::InchOfMercury),
+];
 
-fn pressure_unit(name: &[u8]) -> Named
-    ensures { result ≡ pressure_unit name.now }
-{
-    if pages::scan::same(name, b"hPa") {
-        return Named::Known(Unit::Plain);
-    }
-    if pages::scan::same(name, b"kPa") {
-        return Named::Known(Unit::Kilopascal);
-    }
-    if pages::scan::same(name, b"inHg") {
-        return Named::Known(Unit::InchOfMercury);
-    }
-    Named::Unknown
-}
+const OF_HUMIDITY: [(&[u8], Unit); 2] = [(b"percent", Unit::Plain), (b"%", Unit::Plain)];
 
-fn humidity_unit(name: &[u8]) -> Named
-    ensures { result ≡ humidity_unit name.now }
+// The unit that a name of a table stands for.
+fn unit_in(names: &[(&[u8], Unit)], name: &[u8]) -> Option<Unit>
+    ensures { result ≡ unit_in names.now name.now }
 {
-    if pages::scan::same(name, b"percent") {
-        return Named::Known(Unit::Plain);
-    }
-    if pages::scan::same(name, b"%") {
-        return Named::Known(Unit::Plain);
-    }
-    Named::Unknown
-}
-
-pub(crate) fn is_length(meaning: usize) -> bool
-    ensures { result ≡ is_length meaning }
-{
-    (meaning == ALTITUDE) | (meaning == DENSITY_ALTITUDE)
+    names
+        .iter()
+        .find(|(known, _)| name == *known)
+        .map(|&(_, unit)| unit)
 }
 
 // The unit of a meaning that a name stands for, and no name for the unit of the reading.
-pub(crate) fn unit_named(meaning: usize, name: &[u8]) -> Named
+pub(crate) fn unit_named(meaning: usize, name: &[u8]) -> Option<Unit>
     ensures { result ≡ unit_named meaning name.now }
 {
-    if name.len() == 0 {
-        return Named::Known(Unit::Plain);
+    if name.is_empty() {
+        return Some(Unit::Plain);
     }
-    if is_length(meaning) {
-        return length_unit(name);
-    }
-    if meaning == TEMPERATURE {
-        return temperature_unit(name);
-    }
-    if meaning == HUMIDITY {
-        return humidity_unit(name);
-    }
-    pressure_unit(name)
-}
-
-// How many decimals a number has at most.
-pub(crate) fn places(unit: Unit) -> usize
-    ensures { result ≡ places_of unit }
-{
-    match unit {
-        Unit::Plain => 3,
-        Unit::Foot => 3,
-        Unit::Fahrenheit => 3,
-        Unit::Kelvin => 3,
-        Unit::Kilopascal => 3,
-        Unit::InchOfMercury => 4,
+    match meaning {
+        ALTITUDE | DENSITY_ALTITUDE => unit_in(&OF_LENGTH, name),
+        TEMPERATURE => unit_in(&OF_TEMPERATURE, name),
+        HUMIDITY => unit_in(&OF_HUMIDITY, name),
+        _ => unit_in(&OF_PRESSURE, name),
     }
 }
 
-fn times(count: i64, factor: i64) -> i64
-    requires { SFits w64 (count *ℤ factor) }
-    ensures { result ≡ count *ℤ factor }
-{
-    count * factor
-}
-
-fn less(count: i64, zero: i64) -> i64
-    requires { SFits w64 (count -ℤ zero) }
-    ensures { result ≡ count -ℤ zero }
-{
-    count - zero
-}
-
-fn numerator(unit: Unit, count: i32) -> i64
-    ensures { result ≡ numerator_of unit count }
-{
-    let n = count as i64;
-    match unit {
-        Unit::Plain => n,
-        Unit::Foot => times(n, 3048),
-        Unit::Fahrenheit => less(n, 32000),
-        Unit::Kelvin => less(n, 273150),
-        Unit::Kilopascal => n,
-        Unit::InchOfMercury => times(n, 338639),
+impl Unit {
+    // How many decimals a number has at most.
+    pub(crate) fn places(self) -> usize
+        ensures { result ≡ places_of self }
+    {
+        match self {
+            Unit::Plain => 3,
+            Unit::Foot => 3,
+            Unit::Fahrenheit => 3,
+            Unit::Kelvin => 3,
+            Unit::Kilopascal => 3,
+            Unit::InchOfMercury => 4,
+        }
     }
-}
 
-fn denominator(unit: Unit) -> u32
-    ensures { result ≡ denominator_of unit }
-{
-    match unit {
-        Unit::Plain => 1000,
-        Unit::Foot => 10_000_000,
-        Unit::Fahrenheit => 1800,
-        Unit::Kelvin => 1000,
-        Unit::Kilopascal => 100,
-        Unit::InchOfMercury => 100_000_000,
+    fn numerator(self, count: i32) -> i64
+        ensures { result ≡ numerator_of self count }
+    {
+        let n = i64::from(count);
+        match self {
+            Unit::Plain => n,
+            Unit::Foot => n * 3048,
+            Unit::Fahrenheit => n - 32000,
+            Unit::Kelvin => n - 273150,
+            Unit::Kilopascal => n,
+            Unit::InchOfMercury => n * 338639,
+        }
     }
-}
 
-// The reading of a count of a unit's last decimal. Its numerator and denominator are doubles exactly, so
-// that the quotient is rounded once.
-pub(crate) fn reading_in(unit: Unit, count: i32) -> f64
-    ensures { result ≡ reading_in unit count }
-{
-    numerator(unit, count) as f64 / denominator(unit) as f64
+    fn denominator(self) -> u32
+        ensures { result ≡ denominator_of self }
+    {
+        match self {
+            Unit::Plain => 1000,
+            Unit::Foot => 10_000_000,
+            Unit::Fahrenheit => 1800,
+            Unit::Kelvin => 1000,
+            Unit::Kilopascal => 100,
+            Unit::InchOfMercury => 100_000_000,
+        }
+    }
+
+    // The reading of a count of the last decimal. Its numerator and denominator are doubles exactly, so that
+    // the quotient is rounded once.
+    pub(crate) fn reading(self, count: i32) -> f64
+        ensures { result ≡ reading_in self count }
+    {
+        self.numerator(count) as f64 / f64::from(self.denominator())
+    }
 }
