@@ -8,8 +8,8 @@ use Rattle.pages.specs.Characters.{hex}
 use Rattle.pages.proofs.Short.{Within, whole, both, either}
 use Rattle.park_text.specs.declared.typed_word.Problem.{Problem}
 use Rattle.park_text.specs.declared.typed_word.Problem.TheVariants.{RecordBeside, NotARecord, RecordTooLong, NameAlone, UnknownWord, Blank, Comma, MinusSign, NotANumber, UnknownUnit, TooManyDecimals, OutOfRange, RepeatedWord}
-use Rattle.park_text.specs.declared.typed_word.Word.{Word}
-use Rattle.park_text.specs.declared.typed_word.Word.TheVariants.{Reading, Wrong}
+use Rattle.park_text.specs.declared.typed_word.TypedReading.{TypedReading}
+use Rattle.std.specs.Prelude.{Result, Ok, Err}
 use Rattle.park_text.specs.Units.{is_length, by_quantity}
 use Rattle.park_text.specs.Word.{name_in}
 use Rattle.park_text.specs.ParkLines.{byte_with, typed_with, quoted, examples, example_of, alone_message, unit_message, blank_message, comma_message, minus_message, message_of, problem_line, reading_line, unit_line}
@@ -110,6 +110,6 @@ reading_line-short w m x =
     let unit = by_quantity-short 9 m (ascii " m\n") (ascii " C\n") (ascii " percent\n") (ascii " hPa\n") (lit≤ tt) (lit≤ tt) (lit≤ tt) (lit≤ tt) in
     both (both (both quoted-part (whole (ascii " is "))) record { bound = shown-short 3 x }) record { bound = unit }
 
-pub unit_line-short : (w : List ℕ) (o : Word) → length (unit_line w o) ≤ 93
-unit_line-short w (Reading m x written point) = either written (reading_line w m x) [] (reading_line-short w m x).bound zero-le
-unit_line-short w (Wrong p) = zero-le
+pub unit_line-short : (w : List ℕ) (o : Result TypedReading Problem) → length (unit_line w o) ≤ 93
+unit_line-short w (Ok t) = either t.unit_written (reading_line w t.meaning t.reading) [] (reading_line-short w t.meaning t.reading).bound zero-le
+unit_line-short w (Err p) = zero-le

@@ -6,7 +6,7 @@ use Rattle.arithmetic.specs.Ascii.{ascii}
 use Rattle.pages.specs.Scan.{index_of, index_after}
 use Rattle.pages.specs.Characters.{same}
 use Rattle.pages.proofs.Same.{is_same}
-use Rattle.std.specs.Prelude.{Result, Ok, Err}
+use Rattle.std.specs.Prelude.{Option, Some, None, Result, Ok, Err}
 use Rattle.decimals.specs.declared.typed.NotACount.{NotACount}
 use Rattle.decimals.specs.declared.typed.NotACount.TheVariants as not_a_count
 use Rattle.decimals.specs.Typed.{typed}
@@ -14,14 +14,11 @@ use Rattle.fields.specs.Fields.{meanings}
 use Rattle.questions.specs.Words.{place_in}
 use Rattle.park_text.specs.declared.typed_word.Problem.{Problem}
 use Rattle.park_text.specs.declared.typed_word.Problem.TheVariants.{RecordBeside, NameAlone, UnknownWord, Blank, Comma, MinusSign}
-use Rattle.park_text.specs.declared.typed_word.Word.{Word}
-use Rattle.park_text.specs.declared.typed_word.Word.TheVariants.{Reading, Wrong}
+use Rattle.park_text.specs.declared.typed_word.TypedReading.{TypedReading}
 use Rattle.park_text.specs.declared.units.Unit.{Unit}
-use Rattle.park_text.specs.declared.units.Named.{Named}
-use Rattle.park_text.specs.declared.units.Named.TheVariants.{Known, Unknown}
 use Rattle.park_text.specs.Units.{unit_named, places_of, reading_in}
-use Rattle.park_text.specs.Word.{reading_names, meaning_named, number_length, three_decimals, value_for, no_unit, in_unit, read_number, has, is_minus_sign, read_value, name_in, value_in, named, alone, read_named, is_record, read_word, Says}
-use Rattle.park_text.proofs.Numbers.{number-within}
+use Rattle.park_text.specs.Word.{reading_names, meaning_at, meaning_named, number_length, three_decimals, value_for, no_unit, in_unit, read_number, has, is_minus_sign, read_value, name_in, value_in, named, alone, read_named, is_record, read_word, Says}
+use Rattle.park_text.proofs.Numbers.{number_within}
 
 -- ---- what is looked for stands where it is found
 index_found : (d : ℕ) (s : List ℕ) → index_of d s < length s → get_or s (index_of d s) 0 ≡ d
@@ -43,26 +40,6 @@ place_found (n ∷ ns) w h = go (same w n) refl h (place_found ns w)
     go true e h rest = sym (is_same w n e)
     go false e h rest = rest (omega arith)
 
--- ---- a word by its parts: where its first `=` stands, and the meaning of the name before it
-module _ (w : List ℕ) (at : ℕ) (is : at ≡ index_of 61 w) where
-  pub no_mark : length w ≤ at → alone (meaning_named w) ≡ read_named w
-  unfolding read_named
-  no_mark h = rw (le-ltb (index_of 61 w) (length w) (omega arith))
-
-  module _ (m : ℕ) (named-so : m ≡ meaning_named (take at w)) (some : at < length w) where
-    meant : m ≡ meaning_named (name_in w)
-    meant = named-so ∙ ap (λ (k : ℕ). meaning_named (take k w)) is
-
-    pub no_name : meanings ≤ m → Wrong UnknownWord ≡ read_named w
-    unfolding read_named
-    no_name h = rw (lt-ltb (index_of 61 w) (length w) (omega arith), le-ltb (meaning_named (name_in w)) meanings (omega (arith, meant)))
-
-    pub known : m < meanings → read_value m (drop (at + 1) w) ≡ read_named w
-    unfolding read_named
-    known h =
-        rw (lt-ltb (index_of 61 w) (length w) (omega arith), lt-ltb (meaning_named (name_in w)) meanings (omega (arith, meant)))
-        (λ i. read_value (meant i) (drop (is i + 1) w))
-
 -- ---- a word that says a number: its name has no `=`, and is found at its own place
 index_append : (n d : List ℕ) → index_of 61 n ≡ length n → index_of 61 (n ++ 61 ∷ d) ≡ length n
 unfolding index_of index_after
@@ -74,7 +51,7 @@ index_append (b ∷ n) d h = go (eqb b 61) h (index_append n d)
     go true h rest = absurd (omega arith)
     go false h rest = ap suc (rest (omega arith))
 
-own-place : (m : ℕ) → m < meanings → (index_of 61 (get_or reading_names m []) ≡ length (get_or reading_names m [])) × (meaning_named (get_or reading_names m []) ≡ m)
+own-place : (m : ℕ) → m < meanings → (index_of 61 (get_or reading_names m []) ≡ length (get_or reading_names m [])) × (meaning_named (get_or reading_names m []) ≡ Some m)
 unfolding index_of index_after meaning_named
 own-place zero h = (refl, refl)
 own-place (suc zero) h = (refl, refl)
@@ -87,9 +64,9 @@ own-place (suc (suc (suc (suc (suc (suc (suc m))))))) h = absurd (omega arith)
 
 -- so that there is one way to read it
 pub record Parted (w : List ℕ) (m : ℕ) (u : Unit) (d : List ℕ) : Type 0 where
-  pub meaning : meaning_named (name_in w) ≡ m
+  pub meaning : meaning_named (name_in w) ≡ Some m
   pub number : take (number_length (value_in w)) (value_in w) ≡ d
-  pub unit : unit_named m (drop (number_length (value_in w)) (value_in w)) ≡ Known u
+  pub unit : unit_named m (drop (number_length (value_in w)) (value_in w)) ≡ Some u
 
 pub parted : (w : List ℕ) (m : ℕ) (u : Unit) (d : List ℕ) → Says w m u d → Parted w m u d
 parted w m u d says =
@@ -115,81 +92,95 @@ pub record Spoken (w : List ℕ) (m : ℕ) (x : Float) : Type 0 where
   pub reading : x ≡ reading_in unit count
 
 -- the reading of a number d with w behind it
-record Valued (m k : ℕ) (d w : List ℕ) (x : Float) : Type 0 where
+record Valued (m : ℕ) (d w : List ℕ) (t : TypedReading) : Type 0 where
   unit : Unit
-  named_by : unit_named m w ≡ Known unit
+  named_by : unit_named m w ≡ Some unit
   count : ℤ
   read : typed (places_of unit) d ≡ Ok count
-  meant : m ≡ k
-  reading : x ≡ reading_in unit count
+  meant : t.meaning ≡ m
+  reading : t.reading ≡ reading_in unit count
 
-module _ (m : ℕ) (d w : List ℕ) {k : ℕ} {x : Float} {written point : Bool} where
-  in_unit_lem : (u : Unit) (o : Result ℤ NotACount) → unit_named m w ≡ Known u → typed (places_of u) d ≡ o
-      → value_for m u (ltb 0 (length w)) (three_decimals d) o ≡ Reading k x written point → Valued m k d w x
-  in_unit_lem u (Ok n) is e h = record { unit = u; named_by = is; count = n; read = e; meant = cc; reading = cc }
-  in_unit_lem u (Err not_a_count.NotANumber) is e h = let z : ◌≡◌ {A = ℕ} 0 1 = cc in absurd (omega arith)
-  in_unit_lem u (Err not_a_count.TooManyDecimals) is e h = let z : ◌≡◌ {A = ℕ} 0 1 = cc in absurd (omega arith)
-  in_unit_lem u (Err not_a_count.OutOfRange) is e h = let z : ◌≡◌ {A = ℕ} 0 1 = cc in absurd (omega arith)
+meaning_is : {t u : TypedReading} → ◌≡◌ {A = Result TypedReading Problem} (Ok u) (Ok t) → u ≡ t
+meaning_is e = cc
 
-  no_unit_lem : (o : Result ℤ NotACount) → no_unit m o ≡ Reading k x written point → Valued m k d w x
-  no_unit_lem (Ok n) h = let z : ◌≡◌ {A = ℕ} 0 1 = cc in absurd (omega arith)
-  no_unit_lem (Err not_a_count.NotANumber) h = let z : ◌≡◌ {A = ℕ} 0 1 = cc in absurd (omega arith)
-  no_unit_lem (Err not_a_count.TooManyDecimals) h = let z : ◌≡◌ {A = ℕ} 0 1 = cc in absurd (omega arith)
-  no_unit_lem (Err not_a_count.OutOfRange) h = let z : ◌≡◌ {A = ℕ} 0 1 = cc in absurd (omega arith)
+module _ (m : ℕ) (d w : List ℕ) {t : TypedReading} where
+  in_unit_lem : (u : Unit) (o : Result ℤ NotACount) → unit_named m w ≡ Some u → typed (places_of u) d ≡ o
+      → value_for m u (ltb 0 (length w)) (three_decimals d) o ≡ Ok t → Valued m d w t
+  in_unit_lem u (Ok n) is e h = record {
+    unit = u;
+    named_by = is;
+    count = n;
+    read = e;
+    meant = sym (ap (λ (v : TypedReading). v.meaning) (meaning_is h));
+    reading = sym (ap (λ (v : TypedReading). v.reading) (meaning_is h));
+  }
+  in_unit_lem u (Err not_a_count.NotANumber) is e h = absurd cc
+  in_unit_lem u (Err not_a_count.TooManyDecimals) is e h = absurd cc
+  in_unit_lem u (Err not_a_count.OutOfRange) is e h = absurd cc
 
-  valued : read_number m d w ≡ Reading k x written point → Valued m k d w x
+  valued : read_number m d w ≡ Ok t → Valued m d w t
   unfolding read_number
   valued h = go (unit_named m w) refl h
     where
-      go : (o : Named) → unit_named m w ≡ o → in_unit m d w o ≡ Reading k x written point → Valued m k d w x
-      go (Known u) is e = in_unit_lem u (typed (places_of u) d) is refl e
-      go Unknown is e = no_unit_lem (typed 3 d) e
+      go : (o : Option Unit) → unit_named m w ≡ o → in_unit m d w o ≡ Ok t → Valued m d w t
+      go (Some u) is e = in_unit_lem u (typed (places_of u) d) is refl e
+      go None is e = absurd cc
 
 -- behind the tests that come before the number's
-module _ {k : ℕ} {x : Float} {written point : Bool} where
-  past_test : (b : Bool) (p : Problem) {v : Word} → cond b (Wrong p) v ≡ Reading k x written point → v ≡ Reading k x written point
-  past_test true p h = let z : ◌≡◌ {A = ℕ} 0 1 = cc in absurd (omega arith)
-  past_test false p h = h
+past_test : {t : TypedReading} (b : Bool) (p : Problem) {v : Result TypedReading Problem} → cond b (Err p) v ≡ Ok t → v ≡ Ok t
+past_test true p h = absurd cc
+past_test false p h = h
 
-  past_name : (b : Bool) (p : Problem) {v : Word} → cond b v (Wrong p) ≡ Reading k x written point → (b ≡ true) × (v ≡ Reading k x written point)
-  past_name true p h = (refl, h)
-  past_name false p h = let z : ◌≡◌ {A = ℕ} 0 1 = cc in absurd (omega arith)
-
-spoken-named : (w : List ℕ) {m : ℕ} {x : Float} {written point : Bool} → read_named w ≡ Reading m x written point → Spoken w m x
-unfolding read_named read_value meaning_named
-spoken-named w {m} {x} {written} {point} is = go (has 61 w) refl is
+-- a name that has a meaning is the name at its place
+known : (n : List ℕ) {m : ℕ} → meaning_named n ≡ Some m → (m < meanings) × (n ≡ get_or reading_names m [])
+unfolding meaning_named
+known n {m} h = go (ltb (place_in reading_names n) meanings) refl h
   where
-    go : (b : Bool) → has 61 w ≡ b → cond b (named (meaning_named (name_in w)) (value_in w)) (alone (meaning_named w)) ≡ Reading m x written point → Spoken w m x
-    go true h e =
-        let k : ℕ = meaning_named (name_in w) in
-        let v : List ℕ = value_in w in
-        let n : ℕ = number_length v in
-        let within : index_of 61 w < length w = ltb-true (index_of 61 w) (length w) h in
-        let by_name = past_name (ltb k meanings) UnknownWord e in
-        let number = past_test (is_minus_sign v) MinusSign (past_test (has 44 v) Comma (past_test (has 32 v) Blank by_name.1)) in
+    go : (b : Bool) → ltb (place_in reading_names n) meanings ≡ b → cond b (Some (place_in reading_names n)) None ≡ Some m → (m < meanings) × (n ≡ get_or reading_names m [])
+    go true is e =
+        let here : place_in reading_names n ≡ m = cc in
+        let within : place_in reading_names n < meanings = ltb-true (place_in reading_names n) meanings is in
+        (omega (arith, within, here), sym (place_found reading_names n within) ∙ ap (λ (j : ℕ). get_or reading_names j []) here)
+    go false is e = absurd cc
+
+spoken-named : (w : List ℕ) {t : TypedReading} → read_named w ≡ Ok t → Spoken w t.meaning t.reading
+unfolding read_named read_value
+spoken-named w {t} is = go (has 61 w) refl is
+  where
+    v : List ℕ
+    v = value_in w
+
+    n : ℕ
+    n = number_length v
+
+    with_name : index_of 61 w < length w → (o : Option ℕ) → meaning_named (name_in w) ≡ o → named o v ≡ Ok t → Spoken w t.meaning t.reading
+    with_name within None name e = absurd cc
+    with_name within (Some k) name e =
+        let number = past_test (is_minus_sign v) MinusSign (past_test (has 44 v) Comma (past_test (has 32 v) Blank e)) in
         let value = valued k (take n v) (drop n v) number in
-        let named-k : k < meanings = ltb-true k meanings by_name.0 in
+        let meant = known (name_in w) name in
         record {
           unit = value.unit;
           decimal = take n v;
           says = record {
             unit = drop n v;
-            known = omega (arith, value.meant);
+            known = omega (arith, meant.0, value.meant);
             whole = split_at w (index_of 61 w) 0 within
                 ∙ ap₂ (λ (b : ℕ) (j : ℕ). name_in w ++ b ∷ drop j w) (index_found 61 w within) (sym (add-one (index_of 61 w)))
-                ∙ ap (λ (l : List ℕ). l ++ 61 ∷ v) (sym (place_found reading_names (name_in w) named-k) ∙ ap (λ (j : ℕ). get_or reading_names j []) value.meant)
-                ∙ ap (λ (l : List ℕ). get_or reading_names m [] ++ 61 ∷ l) (sym (take-append-drop n v));
-            number = ap number_length (take-append-drop n v) ∙ sym (length-take-le n v (number-within v));
-            named_by = ap (λ (j : ℕ). unit_named j (drop n v)) (sym value.meant) ∙ value.named_by;
+                ∙ ap (λ (l : List ℕ). l ++ 61 ∷ v) (meant.1 ∙ ap (λ (j : ℕ). get_or reading_names j []) (sym value.meant))
+                ∙ ap (λ (l : List ℕ). get_or reading_names t.meaning [] ++ 61 ∷ l) (sym (take-append-drop n v));
+            number = ap number_length (take-append-drop n v) ∙ sym (length-take-le n v (number_within v));
+            named_by = ap (λ (j : ℕ). unit_named j (drop n v)) value.meant ∙ value.named_by;
           };
           count = value.count;
           read = value.read;
           reading = value.reading;
         }
-    go false h e =
-        let none = past_test (ltb (meaning_named w) meanings) (NameAlone (meaning_named w)) e in
-        let z : ◌≡◌ {A = ℕ} 0 1 = cc in absurd (omega arith)
 
-pub spoken : (w : List ℕ) {m : ℕ} {x : Float} {written point : Bool} → read_word w ≡ Reading m x written point → Spoken w m x
+    go : (b : Bool) → has 61 w ≡ b → cond b (named (meaning_named (name_in w)) v) (Err (alone (meaning_named w))) ≡ Ok t → Spoken w t.meaning t.reading
+    go true h e = with_name (ltb-true (index_of 61 w) (length w) h) (meaning_named (name_in w)) refl e
+    go false h e = absurd cc
+
+pub spoken : (w : List ℕ) {t : TypedReading} → read_word w ≡ Ok t → Spoken w t.meaning t.reading
 unfolding read_word
 spoken w is = spoken-named w (past_test (same w (ascii "record")) (NameAlone meanings) (past_test (is_record w) RecordBeside is))

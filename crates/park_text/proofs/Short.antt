@@ -1,5 +1,6 @@
 -- No text that is printed has more than 4,096 bytes. Assumes nothing.
 use Rattle.arithmetic.proofs.Kit.{◌≡◌, refl, List, [], ◌∷◌, ℕ, ◌*◌, ◌/◌, ◌≤◌, min, zero-le, arith, lit≤, ltb, length, get_or, drop, length-append}
+use Rattle.std.specs.Prelude.{Result, Ok, Err}
 use Rattle.record.specs.declared.entries.Readings.{Readings}
 use Rattle.arithmetic.specs.Ascii.{ascii}
 use Rattle.pages.specs.Characters.{same}
@@ -14,26 +15,27 @@ use Rattle.questions.specs.Digits.{byte_at, bytes_in}
 use Rattle.park_text.specs.declared.typed_word.Problem.TheVariants.{NotARecord, RecordTooLong}
 use Rattle.park_text.specs.Word.{read_word}
 use Rattle.park_text.specs.ParkLines.{unit_line}
-use Rattle.park_text.specs.Understood.{Understood, given, problem, understand}
+use Rattle.park_text.specs.declared.typed_readings.WrongWord.{WrongWord}
+use Rattle.park_text.specs.Understood.{understand}
 use Rattle.park_text.specs.ParkText.{usage_text, is_help, said, sheet_words, unit_lines, any_point, report_of, readings_words, words_text, are_bytes, record_word, is_record_alone, typed_text, park_text}
 use Rattle.park_text.proofs.Stated.{HasRoom}
 use Rattle.park_text.proofs.LinesShort.{problem-short, unit_line-short}
 use Rattle.park_text.proofs.Seven.{at_most-seven}
 
 -- ---- words
-said-short : (text : Readings → List ℕ) (ws : List (List ℕ)) → ((r : Readings) → understand ws ≡ given r → length (text r) ≤ 4096) → length (said text ws (understand ws)) ≤ 4096
+said-short : (text : Readings → List ℕ) (ws : List (List ℕ)) → ((r : Readings) → understand ws ≡ Ok r → length (text r) ≤ 4096) → length (said text ws (understand ws)) ≤ 4096
 said-short text ws short = go (understand ws) refl
   where
-    go : (u : Understood) → understand ws ≡ u → length (said text ws u) ≤ 4096
-    go (given r) e = short r e
-    go (problem p i) e = omega (arith, (problem-short (get_or ws i []) p).bound)
+    go : (u : Result Readings WrongWord) → understand ws ≡ u → length (said text ws u) ≤ 4096
+    go (Ok r) e = short r e
+    go (Err p) e = omega (arith, (problem-short (get_or ws p.number []) p.problem).bound)
 
 unit_lines-short : (ws : List (List ℕ)) → length (unit_lines ws) ≤ 93 * length ws
 unfolding unit_lines
 unit_lines-short [] = zero-le
 unit_lines-short (w ∷ ws) = omega (arith, length-append (unit_line w (read_word w)) (unit_lines ws), unit_line-short w (read_word w), unit_lines-short ws)
 
-report_fits : (ws : List (List ℕ)) (r : Readings) → understand ws ≡ given r → length (report_of ws r) ≤ 4096
+report_fits : (ws : List (List ℕ)) (r : Readings) → understand ws ≡ Ok r → length (report_of ws r) ≤ 4096
 report_fits ws r e = omega (arith, length-append (unit_lines ws) (report_text (Words (any_point ws)) r), unit_lines-short ws, at_most-seven ws r e, (report_short (Words (any_point ws)) r).bound)
 
 words-short : (w : List ℕ) (ws : List (List ℕ)) → length (words_text w ws) ≤ 4096

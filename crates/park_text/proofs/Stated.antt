@@ -1,5 +1,5 @@
 -- What the page of promises spells out, in the words of the proofs: statements, and what only these cite. Definitions only.
-use Rattle.std.specs.Prelude.{Some}
+use Rattle.std.specs.Prelude.{Some, Ok}
 use Rattle.arithmetic.proofs.Kit.{ℕ, ◌≤◌, List, List-as-Memᴰ, length, ◌≡◌, true, false, Float}
 use Rattle.park_text.specs.ParkText.{park_text}
 use Rattle.park_text.specs.declared.units.Unit.{Unit}
@@ -11,7 +11,7 @@ use Rattle.record.specs.Entries.{entry_of}
 use Rattle.writer.specs.Records.{record_of}
 use Rattle.mast.specs.Judge.{judged, judge}
 use Rattle.park_text.specs.Laws.{Nearest, Typed}
-use Rattle.park_text.specs.Understood.{given, understand}
+use Rattle.park_text.specs.Understood.{understand}
 
 -- the program's page has room for it
 abbrev pub HasRoom : Type 0
@@ -37,4 +37,4 @@ pub record Tied (ws : List (List ℕ)) (r : Readings) : Type 0 where
   pub is_judged : judge (record_of r) ≡ judged r
 
 abbrev pub TypedIsJudged : Type 0
-TypedIsJudged = (ws : List (List ℕ)) (r : Readings) → understand ws ≡ given r → Tied ws r
+TypedIsJudged = (ws : List (List ℕ)) (r : Readings) → understand ws ≡ Ok r → Tied ws r

@@ -26,14 +26,15 @@ use sheet_text::put_sheet_of;
 
 // The word of a number, and nothing where there is no such word.
 fn nth_word<'a>(mut words: Words<'a>, number: usize) -> &'a [u8]
-    ensures { result.now ≡ get_or (words_left words) number [] }
+    ensures { result.now ≡ get_or (words_left words.entry) number [] }
 {
     words.nth(number).unwrap_or(&[])
 }
 
 // The sheet of the words after `sheet`.
+#[tactic(auto, using(pages::proofs::Putting::puts), unfolding(crate::specs::ParkText::sheet_words))]
 fn put_sheet_words(page: &mut Page<'_>, words: Words<'_>)
-    ensures { page.new ≡ put page.old (sheet_words (words_left words)) }
+    ensures { page.new ≡ put page.old (sheet_words (words_left words.entry)) }
 {
     match read_words(words) {
         Ok(readings) => put_sheet_of(page, readings),
@@ -42,8 +43,9 @@ fn put_sheet_words(page: &mut Page<'_>, words: Words<'_>)
 }
 
 // The readings in written units, one line each, in the order of the words.
+#[tactic(auto, using(pages::proofs::Putting::puts), unfolding(crate::specs::ParkText::unit_lines))]
 fn put_unit_lines(page: &mut Page<'_>, words: Words<'_>)
-    ensures { page.new ≡ put page.old (unit_lines (words_left words)) }
+    ensures { page.new ≡ put page.old (unit_lines (words_left words.entry)) }
 {
     for word in words {
         put_unit_line(page, word, read_word(word));
@@ -58,21 +60,22 @@ fn point_typed(read: Result<TypedReading, Problem>) -> bool
 
 // Whether the altitude was typed with a point that may mean thousands.
 fn any_point(mut words: Words<'_>) -> bool
-    ensures { result ≡ any_point (words_left words) }
+    ensures { result ≡ any_point (words_left words.entry) }
 {
     words.any(|word| point_typed(read_word(word)))
 }
 
 // The report of the words' readings.
 fn put_said(page: &mut Page<'_>, words: Words<'_>, readings: Readings)
-    ensures { page.new ≡ put page.old (report_of (words_left words) readings) }
+    ensures { page.new ≡ put page.old (report_of (words_left words.entry) readings) }
 {
     put_unit_lines(page, words);
     put_report(page, readings, Origin::Words(any_point(words)));
 }
 
+#[tactic(auto, using(pages::proofs::Putting::puts), unfolding(crate::specs::ParkText::readings_words))]
 fn put_readings_words(page: &mut Page<'_>, words: Words<'_>)
-    ensures { page.new ≡ put page.old (readings_words (words_left words)) }
+    ensures { page.new ≡ put page.old (readings_words (words_left words.entry)) }
 {
     match read_words(words) {
         Ok(readings) => put_said(page, words, readings),
@@ -80,6 +83,7 @@ fn put_readings_words(page: &mut Page<'_>, words: Words<'_>)
     }
 }
 
+#[tactic(auto, using(pages::proofs::Putting::puts), unfolding(crate::specs::ParkText::usage_text))]
 fn put_usage(page: &mut Page<'_>)
     ensures { page.new ≡ put page.old (usage_text) }
 {
@@ -105,9 +109,10 @@ fn is_help(word: &[u8]) -> bool
 }
 
 // The sheet where the first word is `sheet`, or else the report.
+#[tactic(auto, using(pages::proofs::Putting::puts, pages::proofs::Same::same_is), unfolding(crate::specs::ParkText::words_text))]
 fn put_words(page: &mut Page<'_>, words: Words<'_>)
     requires { 0 < length (words_left words) }
-    ensures { page.new ≡ put page.old (words_text (get_or (words_left words) 0 []) (drop 1 (words_left words))) }
+    ensures { page.new ≡ put page.old (words_text (get_or (words_left words.entry) 0 []) (drop 1 (words_left words.entry))) }
 {
     let mut after = words;
     if after.next().is_some_and(|word| word == b"sheet".as_slice()) {
@@ -134,6 +139,7 @@ fn put_record(page: &mut Page<'_>, digits: &[u8])
 }
 
 // The report of a word that begins with `record=`, or why it is no record.
+#[tactic(auto, using(pages::proofs::Putting::puts), unfolding(crate::specs::ParkText::record_word))]
 fn put_record_word(page: &mut Page<'_>, word: &[u8])
     ensures { page.new ≡ put page.old (record_word word.now) }
 {
@@ -149,15 +155,16 @@ fn put_record_word(page: &mut Page<'_>, word: &[u8])
 
 // Whether the first word begins with `record=` and no other follows it.
 fn is_record_alone(mut words: Words<'_>) -> bool
-    ensures { result ≡ is_record_alone (get_or (words_left words) 0 []) (drop 1 (words_left words)) }
+    ensures { result ≡ is_record_alone (get_or (words_left words.entry) 0 []) (drop 1 (words_left words.entry)) }
 {
     words.next().is_some_and(is_record) && words.next().is_none()
 }
 
 // The report of a record that stands alone, or what the words ask for.
+#[tactic(auto, using(pages::proofs::Putting::puts), unfolding(crate::specs::ParkText::typed_text))]
 fn put_typed_text(page: &mut Page<'_>, words: Words<'_>)
     requires { 0 < length (words_left words) }
-    ensures { page.new ≡ put page.old (typed_text (get_or (words_left words) 0 []) (drop 1 (words_left words))) }
+    ensures { page.new ≡ put page.old (typed_text (get_or (words_left words.entry) 0 []) (drop 1 (words_left words.entry))) }
 {
     if is_record_alone(words) {
         put_record_word(page, nth_word(words, 0));
@@ -170,6 +177,7 @@ fn put_typed_text(page: &mut Page<'_>, words: Words<'_>)
 // record that is the only word, or the sheet where the first word is `sheet`, or what is wrong with the
 // first word that is not understood, or how to use the program where there is no word or the first asks
 // for help. The text is left as it was.
+#[tactic(auto, using(pages::proofs::Putting::puts), unfolding(crate::specs::ParkText::park_text))]
 pub fn put_park_text(page: &mut Page<'_>, text: &[u8])
     ensures { page.new ≡ put page.old (park_text (arguments text.now)) }
 {

@@ -1,5 +1,5 @@
 // Lines that the program `park` prints: what is wrong with a word, and a reading in its unit.
-#![tactic(auto, using(pages::proofs::Putting::puts), unfolding(crate::specs::ParkLines::quoted, crate::specs::ParkLines::example_of, crate::specs::ParkLines::alone_message, crate::specs::ParkLines::unit_message, crate::specs::ParkLines::blank_message, crate::specs::ParkLines::comma_message, crate::specs::ParkLines::minus_message, crate::specs::ParkLines::message_of, crate::specs::ParkLines::problem_line, crate::specs::ParkLines::reading_line))]
+#![tactic(auto, using(pages::proofs::Putting::puts), unfolding(crate::specs::ParkLines::quoted, crate::specs::ParkLines::alone_message, crate::specs::ParkLines::unit_message, crate::specs::ParkLines::blank_message, crate::specs::ParkLines::comma_message, crate::specs::ParkLines::minus_message, crate::specs::ParkLines::message_of, crate::specs::ParkLines::problem_line, crate::specs::ParkLines::reading_line))]
 
 ghost use Rattle.std.specs.Prelude.{◌≡◌, take, drop};
 ghost use Rattle.pages.specs.Pages.{put};
@@ -41,6 +41,7 @@ fn put_byte(page: &mut Page<'_>, byte: u8, old: u8, new: &[u8])
 }
 
 // A word with `new` in the place of each byte `old`. The word is left as it was.
+#[tactic(auto, using(pages::proofs::Putting::puts, crate::proofs::Typed::typed_bytes))]
 fn put_with(page: &mut Page<'_>, word: &[u8], old: u8, new: &[u8])
     ensures { page.new ≡ put page.old (typed_with old new.now word.now) }
 {
@@ -87,6 +88,7 @@ const EXAMPLES: [&[u8]; 8] = [
     b"record=11000400183350\n",
 ];
 
+#[tactic(auto, using(pages::proofs::Putting::puts), unfolding(crate::specs::ParkLines::example_of))]
 fn put_example(page: &mut Page<'_>, meaning: usize)
     ensures { page.new ≡ put page.old (example_of meaning) }
 {

@@ -21,6 +21,7 @@ pub struct WrongWord {
 }
 
 // A reading as it is kept: the count of thousandths whose double it is, where there is one.
+#[tactic(auto, unfolding(crate::specs::Understood::value_of))]
 fn value_of(x: f64) -> Value
     ensures { result ≡ value_of x }
 {
@@ -41,16 +42,12 @@ fn with_word(readings: Readings, word: &[u8], number: usize) -> Result<Readings,
             number,
         });
     }
-    Ok(with_value(
-        readings,
-        typed.meaning,
-        value_of(typed.reading),
-    ))
+    Ok(with_value(readings, typed.meaning, value_of(typed.reading)))
 }
 
 // The readings that words give, or the first problem in the order of the words.
 pub fn read_words(words: Words<'_>) -> Result<Readings, WrongWord>
-    ensures { result ≡ understand (words_left words) }
+    ensures { result ≡ understand (words_left words.entry) }
 {
     let mut readings = no_readings();
     for (number, word) in words.enumerate() {

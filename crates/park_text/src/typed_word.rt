@@ -133,6 +133,7 @@ fn no_unit(meaning: usize, decimal: Result<i32, NotACount>) -> Problem
     }
 }
 
+#[tactic(auto, using(pages::proofs::Same::same_is, crate::proofs::Numbers::places_few), unfolding(crate::specs::Word::read_number))]
 fn read_number(meaning: usize, number: &[u8], name: &[u8]) -> Result<TypedReading, Problem>
     ensures { result ≡ read_number meaning number.now name.now }
 {
@@ -156,6 +157,7 @@ fn is_minus_sign(text: &[u8]) -> bool
 }
 
 // What stands behind the `=`.
+#[tactic(auto, using(pages::proofs::Same::same_is, crate::proofs::Numbers::has_is, crate::proofs::Numbers::number_within), unfolding(crate::specs::Word::read_value))]
 fn read_value(meaning: usize, text: &[u8]) -> Result<TypedReading, Problem>
     ensures { result ≡ read_value meaning text.now }
 {
@@ -180,6 +182,7 @@ fn alone(meaning: Option<usize>) -> Problem
 }
 
 // A name, `=`, a number and, where it is not the reading's own, its unit. The word is left as it was.
+#[tactic(auto, using(pages::proofs::Same::same_is), unfolding(crate::specs::Word::read_named))]
 fn read_named(word: &[u8]) -> Result<TypedReading, Problem>
     ensures { result ≡ read_named word.now }
 {
@@ -198,6 +201,7 @@ pub(crate) fn is_record(word: &[u8]) -> bool
 }
 
 // One word among others, or the only one that is no record. It is left as it was.
+#[tactic(auto, using(pages::proofs::Same::same_is), unfolding(crate::specs::Word::read_word))]
 pub fn read_word(word: &[u8]) -> Result<TypedReading, Problem>
     ensures { result ≡ read_word word.now }
 {

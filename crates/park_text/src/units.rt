@@ -46,6 +46,7 @@ fn unit_in(names: &[(&[u8], Unit)], name: &[u8]) -> Option<Unit>
 }
 
 // The unit of a meaning that a name stands for, and no name for the unit of the reading.
+#[tactic(auto, using(pages::proofs::Same::same_is), unfolding(crate::specs::Units::unit_named))]
 pub(crate) fn unit_named(meaning: usize, name: &[u8]) -> Option<Unit>
     ensures { result ≡ unit_named meaning name.now }
 {
