@@ -24,6 +24,7 @@ impl DecimalText {
         Some(&self.bytes[start..])
     }
 
+    #[tactic(auto, unfolding(crate::specs::Places::in_sixteen))]
     fn empty() -> DecimalText
         ensures { result ≡ in_sixteen [] }
     {

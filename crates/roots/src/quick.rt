@@ -1,5 +1,5 @@
 // The floor of the square root from a table, for numbers of 125 or 126 bits.
-ghost use Rattle.std.specs.Prelude.{◌≡◌, ◌+◌, ◌-◌, ◌*◌, ◌/◌, ◌%◌, ◌^◌, ◌<◌, ◌≤◌, is_some, IfSome};
+ghost use Rattle.std.specs.Prelude.{◌≡◌, ◌+◌, ◌-◌, ◌*◌, ◌/◌, ◌^◌, ◌<◌, ◌≤◌, is_some, IfSome};
 ghost use Rattle.roots.specs.Quick.{both_roots, served, table_root};
 ghost use Rattle.roots.specs.Root.{root};
 
@@ -14,8 +14,8 @@ pub struct Tables<'a> {
     pub reciprocals: &'a [u32; 768],
 }
 
-// What the root of a number of 125 or 126 bits starts from: `top`, its bits above the lowest 62, and the entries e
-// and i of the two tables. e * 2^17 is within 2^24 below the root of `top`.
+// What the root of a number of 125 or 126 bits starts from: `top`, its bits above the lowest 62, and the entries for
+// it of the two tables, e and i below. e * 2^17 is within 2^24 below the root of `top`.
 #[derive(Clone, Copy)]
 struct Start {
     top: u64,

@@ -11,6 +11,6 @@ unfoldable pub use Rattle.sheet.specs.Laws.{lines_rows, lines_text, repeated}
 pub use Rattle.sheet.specs.Laws.{HandedOut, line_rows, line_text}
 pub use Rattle.sheet.specs.Over.{over, over_or_left}
 unfoldable pub use Rattle.sheet.specs.Row.{figures_outcome, row_outcome, row_text}
-pub use Rattle.sheet.specs.Row.{cell, is_too_wide, is_wider, station_of_row}
+pub use Rattle.sheet.specs.Row.{cell, is_too_wide, is_wider, row_texts, station_of_row}
 unfoldable pub use Rattle.sheet.specs.Sheet.{celsius_of_row, rows, setting_sheet}
 pub use Rattle.sheet.specs.Sheet.{bare, sheet_input_rows}

@@ -2,6 +2,8 @@
 -- Definitions only.
 use Rattle.std.specs.Prelude.{ℕ, ◌-◌, Bool, ◌||◌, List, [], ◌∷◌, ◌++◌, ltb, Float, length, replicate}
 use Rattle.decimals.specs.Decimal.{decimal_text}
+use Rattle.decimals.specs.Places.{in_sixteen}
+use Rattle.sheet.specs.declared.row.RowTexts.{RowTexts}
 use Rattle.refusal.specs.Outcomes.{Outcome, accepted, ◌⟫◌, row, ◌then◌}
 use Rattle.atmosphere.specs.declared.given.Reading.TheVariants.{Given}
 use Rattle.refusal.specs.declared.judge.Figures.{Figures}
@@ -23,6 +25,15 @@ row_text t f =
 
 abbrev pub is_too_wide : Float → Figures → Bool
 is_too_wide t f = is_wider 6 1 t || is_wider 7 4 f.density_kg_m3 || is_wider 6 1 f.speed_of_sound_mps || is_wider 7 0 f.density_matched_altitude_m
+
+-- the texts of the four figures, in sixteen places each
+abbrev pub row_texts : Float → Figures → RowTexts
+row_texts t f = record {
+  temperature = in_sixteen (decimal_text 1 t);
+  density = in_sixteen (decimal_text 4 f.density_kg_m3);
+  sound = in_sixteen (decimal_text 1 f.speed_of_sound_mps);
+  altitude = in_sixteen (decimal_text 0 f.density_matched_altitude_m);
+}
 
 -- 17: a figure wider than its column
 unfoldable pub figures_outcome : Float → Figures → Outcome (List ℕ)

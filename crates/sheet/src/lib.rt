@@ -2,4 +2,4 @@
 #![tactic(auto)]
 
 pub mod page;
-mod row;
+pub mod row;

@@ -1,5 +1,5 @@
 // The page: all rows are judged on a page of its own before the first byte of the lent one is written.
-ghost use Rattle.std.specs.Prelude.{ℕ, List, ◌≡◌, ◌<◌, length};
+ghost use Rattle.std.specs.Prelude.{ℕ, List, ◌≡◌, length};
 ghost use Rattle.refusal.specs.Outcomes.{passed, accepted, outcome};
 ghost use Rattle.pages.specs.Pages.{put};
 ghost use Rattle.sheet.specs.Over.{over_or_left};
@@ -18,11 +18,12 @@ fn check_inputs(altitude_m: f64, pressure_hpa: f64, humidity_percent: f64) -> Re
     check_humidity(Some(humidity_percent))
 }
 
-fn celsius(n: u32) -> f64
-    requires { n < 51 }
+// The temperature of row n.
+#[tactic(auto, unfolding(crate::specs::Sheet::celsius_of_row))]
+pub fn celsius(n: u32) -> f64
     ensures { result ≡ celsius_of_row n }
 {
-    (n as i32 - 10) as f64
+    (i64::from(n) - 10) as f64
 }
 
 // All rows, or the refusal of the first that is refused.

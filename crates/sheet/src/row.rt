@@ -1,11 +1,11 @@
 // A row of the setting sheet: four figures, each at the right of its column.
 #![tactic(auto, using(pages::proofs::Putting::puts))]
 
-ghost use Rattle.std.specs.Prelude.{◌≡◌, [], ◌∷◌, ◌++◌, ◌-◌, drop};
+ghost use Rattle.std.specs.Prelude.{None, Some, ◌≡◌, [], ◌∷◌, ◌++◌, ◌-◌, cond, drop};
 ghost use Rattle.refusal.specs.Outcomes.{outcome};
 ghost use Rattle.pages.specs.Pages.{put};
 ghost use Rattle.sheet.specs.Over.{put_or_left};
-ghost use Rattle.sheet.specs.Row.{figures_outcome, row_outcome};
+ghost use Rattle.sheet.specs.Row.{is_too_wide, row_texts, figures_outcome, row_outcome};
 ghost use Rattle.sheet.specs.Sheet.{bare};
 
 use atmosphere::given::Reading;
@@ -25,21 +25,52 @@ fn put_cell(page: &mut Page<'_>, text: DecimalText, width: usize, end: u8)
     page.put(&[end]);
 }
 
-fn write_figures(page: &mut Page<'_>, temperature_c: f64, figures: Figures) -> Result<(), Refusal>
-    ensures outcome { outcome result ≡ bare (figures_outcome temperature_c figures) }
-    ensures written { page.new ≡ put_or_left page.old (figures_outcome temperature_c figures) }
+// The texts of a row's figures.
+#[derive(Clone, Copy)]
+struct RowTexts {
+    temperature: DecimalText,
+    density: DecimalText,
+    sound: DecimalText,
+    altitude: DecimalText,
+}
+
+// None where a text is wider than its column.
+fn row_texts(temperature_c: f64, figures: Figures) -> Option<RowTexts>
+    ensures { result ≡ cond (is_too_wide temperature_c figures) None (Some (row_texts temperature_c figures)) }
 {
     let temperature = decimal_text(temperature_c, 1);
     let density = decimal_text(figures.density_kg_m3, 4);
     let sound = decimal_text(figures.speed_of_sound_mps, 1);
     let altitude = decimal_text(figures.density_matched_altitude_m, 0);
     if (temperature.len > 6) | (density.len > 7) | (sound.len > 6) | (altitude.len > 7) {
-        return Err(Refusal::TooWide);
+        return None;
     }
-    put_cell(page, temperature, 6, b' ');
-    put_cell(page, density, 7, b' ');
-    put_cell(page, sound, 6, b' ');
-    put_cell(page, altitude, 7, b'\n');
+    Some(RowTexts {
+        temperature,
+        density,
+        sound,
+        altitude,
+    })
+}
+
+// Whether a figure of a row is wider than its column.
+pub fn is_too_wide(temperature_c: f64, figures: Figures) -> bool
+    ensures { result ≡ is_too_wide temperature_c figures }
+{
+    row_texts(temperature_c, figures).is_none()
+}
+
+fn write_figures(page: &mut Page<'_>, temperature_c: f64, figures: Figures) -> Result<(), Refusal>
+    ensures outcome { outcome result ≡ bare (figures_outcome temperature_c figures) }
+    ensures written { page.new ≡ put_or_left page.old (figures_outcome temperature_c figures) }
+{
+    let Some(texts) = row_texts(temperature_c, figures) else {
+        return Err(Refusal::TooWide);
+    };
+    put_cell(page, texts.temperature, 6, b' ');
+    put_cell(page, texts.density, 7, b' ');
+    put_cell(page, texts.sound, 6, b' ');
+    put_cell(page, texts.altitude, 7, b'\n');
     Ok(())
 }
 

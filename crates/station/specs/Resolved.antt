@@ -16,13 +16,13 @@ use Rattle.station.specs.declared.resolved.Pressure.TheVariants as pressure
 
 -- ---- readings without 06
 -- 03, or else 04
-abbrev pub unmeasured_pressure : (Option Float) → (Option Float) → Pressure
+abbrev pub unmeasured_pressure : Option Float → Option Float → Pressure
 unmeasured_pressure (Some p) q = pressure.Station p
 unmeasured_pressure None (Some q) = pressure.Qnh q
 unmeasured_pressure None None = pressure.Absent
 
 -- 07, or else one of these
-abbrev pub measured_or : (Option Float) → Pressure → Pressure
+abbrev pub measured_or : Option Float → Pressure → Pressure
 measured_or (Some p) other = pressure.Measured p
 measured_or None other = other
 
@@ -30,7 +30,7 @@ abbrev pub pressure_of : Readings → Pressure
 pressure_of r = measured_or (entry_of r measured_pressure) (unmeasured_pressure (entry_of r station_pressure) (entry_of r qnh))
 
 -- 02 and 03 pass their `resolve_` functions; 04 is reduced at the altitude; 07 is used as it comes
-abbrev pub resolved_temperature : (Option Float) → Float → Reading
+abbrev pub resolved_temperature : Option Float → Float → Reading
 resolved_temperature (Some t) h = resolved_station_temperature t h
 resolved_temperature None h = FromLayer
 
@@ -52,7 +52,7 @@ ordinary r =
     }
 
 -- ---- with 06: the inverse gives altitude, temperature and pressure, both passed as overrides
-abbrev pub given_temperature : (Option Float) → Reading
+abbrev pub given_temperature : Option Float → Reading
 given_temperature (Some t) = Given t
 given_temperature None = FromLayer
 
