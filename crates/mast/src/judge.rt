@@ -20,6 +20,7 @@ use station::resolved::{Resolved, at_station, given_temperature, ordinary};
 
 // The figures of a station and their mark, or the refusal 14 or 15: there is more vapour than air, or the
 // figures are not air's.
+#[tactic(auto, unfolding(crate::specs::Judge::air_outcome))]
 pub fn answer_of(resolved: Resolved) -> Result<Figures, Refusal>
     ensures { outcome result ≡ air_outcome resolved }
 {
@@ -53,6 +54,7 @@ fn inverse_answer(density_altitude_m: f64, readings: Readings) -> Result<Figures
 }
 
 // What readings give: their figures and mark, or one refusal, a cause 1 to 4 or 9 to 15.
+#[tactic(auto, using(refusal::proofs::Rows::then_append), unfolding(crate::specs::Judge::judged, crate::specs::Judge::air_outcome))]
 pub fn judge_readings(readings: Readings) -> Result<Figures, Refusal>
     ensures { outcome result ≡ judged readings }
 {
@@ -67,6 +69,7 @@ pub fn judge_readings(readings: Readings) -> Result<Figures, Refusal>
 
 // What the bytes of a record give, with its tags in any order: its figures and mark, or one refusal. The
 // record is left as it was.
+#[tactic(auto, unfolding(crate::specs::Judge::judge))]
 pub fn judge(bytes: &[u8]) -> Result<Figures, Refusal>
     ensures { outcome result ≡ judge bytes.now }
 {
@@ -75,6 +78,7 @@ pub fn judge(bytes: &[u8]) -> Result<Figures, Refusal>
 
 // What the bytes of a record give whose tags rise: its figures and mark, or one refusal, 19 where a tag is
 // below the one before it. The record is left as it was.
+#[tactic(auto, unfolding(crate::specs::Judge::judge_strictly))]
 pub fn judge_strictly(bytes: &[u8]) -> Result<Figures, Refusal>
     ensures { outcome result ≡ judge_strictly bytes.now }
 {

@@ -1,9 +1,9 @@
 -- The names that most proofs here use, of the kit, of the crates below and of the definitions, from one place. Nothing is defined here.
-pub use Rattle.std.specs.Prelude.{Err, None, Ok, Option, Result, Some, is_some}
-pub use Rattle.arithmetic.proofs.Kit.{Bool, Float, List, [], ◌&&◌, ◌++◌, ◌+◌, ◌-◌, ◌<◌, ◌||◌, ◌∙◌, ◌∷◌, ◌≡◌, ◌≢◌, ◌≤◌, ◌⊎◌, add-one, ap, ap₂, arith, cond, eq-or-lt_of_le, false, false≢true, inl, inr, le_of_suc-le-suc, rules, not, refl, subst, suc, sym, true, zero, ℕ}
+pub use Rattle.std.specs.Prelude.{None, Option, Some, is_some}
+pub use Rattle.arithmetic.proofs.Kit.{Bool, Float, List, [], ◌&&◌, ◌++◌, ◌+◌, ◌<◌, ◌||◌, ◌∙◌, ◌∷◌, ◌≡◌, ◌≢◌, ◌≤◌, ◌⊎◌, ap, ap₂, arith, cond, eq-or-lt_of_le, false, false≢true, inl, inr, le_of_suc-le-suc, not, refl, subst, suc, sym, true, zero, ℕ}
 unfoldable pub use Rattle.arithmetic.specs.Middle.{middle}
 pub use Rattle.arithmetic.specs.Middle.{one_if}
-pub use Rattle.refusal.specs.Outcomes.{Outcome, Row, ◌then◌, ◌⟫◌, accepted, outcome, refusal, refused}
+pub use Rattle.refusal.specs.Outcomes.{Outcome, Row, ◌then◌, ◌⟫◌, accepted, refused}
 pub use Rattle.refusal.specs.declared.judge.Figures.{Figures}
 pub use Rattle.fields.specs.Fields.{meanings}
 pub use Rattle.record.specs.Entries.{entry_of, with_entry}

@@ -44,6 +44,7 @@ fn with_middle(
 }
 
 // The middle of each field that is in all three.
+#[tactic(auto, unfolding(crate::specs::Fields::voted_of))]
 pub fn voted(a: Readings, b: Readings, c: Readings) -> Readings
     ensures { result ≡ voted a b c }
 {

@@ -13,6 +13,7 @@ use refusal::Refusal;
 use refusal::judge::Figures;
 
 // The readings of a record that is accepted by itself, or its refusal.
+#[tactic(auto, unfolding(crate::specs::Vote::accepted_readings))]
 fn accepted_readings(bytes: &[u8]) -> Result<Readings, Refusal>
     ensures { outcome result ≡ accepted_readings bytes.now }
 {
@@ -23,6 +24,7 @@ fn accepted_readings(bytes: &[u8]) -> Result<Readings, Refusal>
 
 // What the readings of three records give together: that a field is not in all of them, or what the
 // judge says of the voted readings.
+#[tactic(auto, unfolding(crate::specs::Vote::voted_outcome))]
 fn vote_readings(a: Readings, b: Readings, c: Readings) -> Result<Figures, Refusal>
     ensures { outcome result ≡ voted_outcome a b c }
 {
@@ -34,6 +36,7 @@ fn vote_readings(a: Readings, b: Readings, c: Readings) -> Result<Figures, Refus
 
 // What three records give together: the figures of the voted readings, or the refusal of the first
 // mast whose record is not accepted by itself, or that of the vote. The records are left as they were.
+#[tactic(auto, unfolding(crate::specs::Vote::vote))]
 pub fn vote(a: &[u8], b: &[u8], c: &[u8]) -> Result<Figures, VoteRefusal>
     ensures { vote_outcome result ≡ vote a.now b.now c.now }
 {
