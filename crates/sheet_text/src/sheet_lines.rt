@@ -90,7 +90,7 @@ pub(crate) fn put_rows(page: &mut Page<'_>, rows: &[u8], site: Site)
     requires { length rows.now ≡ 1530 }
     ensures { page.new ≡ put page.old (row_lines site rows.now 51) }
 {
-    for n in 0..51 {
+    for n in 0..51u32 {
         let class = trim_class(site.density(n));
         let start = 30 * n as usize;
         put_row(page, &rows[start..start + 29], class);
