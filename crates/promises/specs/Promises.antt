@@ -87,7 +87,7 @@ use Rattle.report.specs.Report.{report_text}
 use Rattle.decimals.specs.Typed.{typed}
 use Rattle.decimals.specs.declared.typed.NotACount.TheVariants as not_a_count
 use Rattle.arithmetic.specs.Decimals.{decimal, nought, hundred, fraction}
-use Rattle.park_text.specs.Understood.{given, understand, value_of}
+use Rattle.park_text.specs.Understood.{understand, value_of}
 use Rattle.park_text.specs.Units.{reading_in}
 use Rattle.park_text.specs.Laws.{Nearest, Typed}
 use Rattle.park_text.specs.declared.units.Unit.{Unit as TypedUnit}
@@ -524,9 +524,9 @@ pub record AtThePark : Type 0 where
   pub report_at_sea_level : report_text Record (with_entry (with_entry no_readings meaning.altitude nought) meaning.temperature (decimal "21.1"))
       ≡ ascii "altitude                             0.0 m\ntemperature                        21.10 C\nstation pressure                1013.250 hPa\ndensity                           1.2000 kg/m3, the reference for the trim table\nspeed of sound                     343.9 m/s\npressure altitude                    0.0 m\ndensity-matched altitude           218.3 m\nvapour mole fraction            0.000000 mol/mol\ntrim class 5\nnext class 4 at 0.1 C warmer\nin the range for which CIPM-2007 states its formula\nnote: no pressure is given: the standard atmosphere's 1013.250 hPa is used\nnote: no humidity is given: dry air is used\nnote: the next class is searched from the temperature and the station pressure above\nrecord 0100080000000000000000020008403519999999999A\n"
   -- each reading is the double nearest to the exact value of its typed number in its unit, and there is no other; the record that a new mast would send is judged as the readings are
-  pub word_is_reading : (ws : List (List ℕ)) (r : Readings) → understand ws ≡ given r → (w : List ℕ) (m : ℕ) (u : TypedUnit) (d : List ℕ) → Memᴰ w ws → Says w m u d → Nearest r m u d
-  pub no_other : (ws : List (List ℕ)) (r : Readings) → understand ws ≡ given r → (m : ℕ) (x : Float) → entry_of r m ≡ Some x → Typed ws m
-  pub record_judged : (ws : List (List ℕ)) (r : Readings) → understand ws ≡ given r → judge (record_of r) ≡ judged r
+  pub word_is_reading : (ws : List (List ℕ)) (r : Readings) → understand ws ≡ Ok r → (w : List ℕ) (m : ℕ) (u : TypedUnit) (d : List ℕ) → Memᴰ w ws → Says w m u d → Nearest r m u d
+  pub no_other : (ws : List (List ℕ)) (r : Readings) → understand ws ≡ Ok r → (m : ℕ) (x : Float) → entry_of r m ≡ Some x → Typed ws m
+  pub record_judged : (ws : List (List ℕ)) (r : Readings) → understand ws ≡ Ok r → judge (record_of r) ≡ judged r
   -- a number in a reading's own unit is kept as its count, so that the record has the digits that were typed
   pub typed_count_kept : (d : List ℕ) (n : ℤ) → typed 3 d ≡ Ok n → value_of (reading_in Plain n) ≡ value_as.Count (twos_complement n)
   -- what a report notes is the lines of the rows that hold: a line is printed exactly if a row with it holds

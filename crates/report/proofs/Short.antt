@@ -15,7 +15,8 @@ use Rattle.trim.specs.declared.changes.Direction.{Direction}
 use Rattle.trim.specs.declared.changes.Direction.TheVariants.{Up, Down}
 use Rattle.trim.specs.declared.changes.Turn.{Turn}
 use Rattle.trim.specs.Classes.{trim_class}
-use Rattle.trim.specs.Search.{Next, next_of}
+use Rattle.trim.specs.declared.search.Next.{Next}
+use Rattle.trim.specs.Search.{next_of}
 use Rattle.arithmetic.specs.Ascii.{ascii}
 use Rattle.pages.specs.Characters.{hex}
 use Rattle.pages.proofs.Short.{Within, whole, both, number_short, refusal-short, hex-length}

@@ -12,7 +12,8 @@ use Rattle.trim.specs.declared.changes.Quantity.TheVariants.{Temperature, Measur
 use Rattle.trim.specs.declared.changes.Direction.{Direction}
 use Rattle.trim.specs.declared.changes.Direction.TheVariants.{Up, Down}
 use Rattle.trim.specs.declared.changes.Turn.{Turn}
-use Rattle.trim.specs.Search.{Next, next_of}
+use Rattle.trim.specs.declared.search.Next.{Next}
+use Rattle.trim.specs.Search.{next_of}
 use Rattle.arithmetic.specs.Ascii.{ascii}
 use Rattle.pages.specs.Characters.{number_text}
 

@@ -47,7 +47,8 @@ fn cause_of(number: u8) -> &'static [u8]
         6 => b"unknown tag",
         7 => b"length not 8 (double) or 4 (count)",
         8 => b"tag repeated, or a reading in both forms",
-        9 => b"two of station pressure, QNH and measured pressure, or a density altitude with an altitude or a pressure",
+        9 =>
+            b"two of station pressure, QNH and measured pressure, or a density altitude with an altitude or a pressure",
         10 => b"neither altitude nor density altitude",
         11 => b"altitude, a pressure or humidity not finite",
         12 => b"a pressure not above 0 hPa",
@@ -71,7 +72,8 @@ fn sender_advice(number: u8) -> &'static [u8]
         5 => b"not sent whole: read it again, check the line",
         6 | 7 => b"the sender speaks a newer form, or the bytes have slipped",
         8 => b"two sensors answer for one reading: switch one off",
-        9 => b"send one pressure; send a density altitude with nothing but temperature and humidity",
+        9 =>
+            b"send one pressure; send a density altitude with nothing but temperature and humidity",
         10 => b"set the mast's altitude",
         11 => b"that sensor is unplugged or broken",
         12 => b"wrong unit, or a barometer without power",
@@ -90,7 +92,8 @@ fn typed_advice(number: u8) -> &'static [u8]
     match number {
         3 => b"type degrees Celsius, as temperature=24, or temperature=75F",
         4 => b"type metres, as density-altitude=2100, or density-altitude=7000ft",
-        9 => b"give one of pressure=, station-pressure= and qnh=; density-altitude= stands without altitude= and a pressure",
+        9 =>
+            b"give one of pressure=, station-pressure= and qnh=; density-altitude= stands without altitude= and a pressure",
         10 => b"add altitude=1586 with the altitude of the park",
         11 => b"check the altitude and the pressure, and their units",
         12 => b"type the pressure in hPa, as pressure=841.9",

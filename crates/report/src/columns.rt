@@ -13,10 +13,9 @@ fn put_decimal(page: &mut Page<'_>, x: f64, decimals: u32)
     ensures { page.new ≡ put page.old (column (decimal_text decimals x)) }
 {
     let text = decimal_text(x, decimals);
-    if text.len > 16 {
-        page.put(b"        too wide");
-    } else {
-        page.put(&text.bytes);
+    match text.as_bytes() {
+        Some(_) => page.put(&text.bytes),
+        None => page.put(b"        too wide"),
     }
 }
 

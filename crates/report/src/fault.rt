@@ -5,7 +5,9 @@ ghost use Rattle.refusal.specs.Refusals.{number_of};
 ghost use Rattle.report.specs.Fault.{not_finite, not_positive, first_not_finite, first_not_positive, named, reading_about};
 
 use arithmetic::doubles::is_finite;
-use fields::fields::{ALTITUDE, DENSITY_ALTITUDE, HUMIDITY, MEASURED_PRESSURE, QNH, STATION_PRESSURE, TEMPERATURE};
+use fields::fields::{
+    ALTITUDE, DENSITY_ALTITUDE, HUMIDITY, MEASURED_PRESSURE, QNH, STATION_PRESSURE, TEMPERATURE,
+};
 use record::entries::{Readings, entry_of};
 use refusal::Refusal;
 

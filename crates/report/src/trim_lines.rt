@@ -67,8 +67,9 @@ fn shown_station(readings: Readings, figures: Figures) -> Readings
 pub fn next_class(readings: Readings, figures: Figures) -> Result<Next, Refusal>
     ensures { outcome result ≡ or_from_shown readings figures (next_of readings) }
 {
-    next_trim_class_of_readings(readings)
-        .or_else(|_| next_trim_class_of_readings(shown_station(readings, figures)))
+    next_trim_class_of_readings(readings).or_else(|_| next_trim_class_of_readings(shown_station(
+        readings, figures,
+    )))
 }
 
 // What gives the next class.

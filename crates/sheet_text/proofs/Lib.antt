@@ -1,3 +1,2 @@
--- The first row that passes a test, and how long a sheet is.
-pub mod First
+-- How long a sheet is.
 pub mod Short

@@ -1,6 +1,6 @@
 -- The lines of a sheet to pin up, as bytes in ASCII: the heading, the rows with their trim class, and from which temperature on each limit is passed.
--- Altitude h in m, pressure p in hPa, humidity u in percent. Definitions only.
-use Rattle.std.specs.Prelude.{ℕ, zero, suc, ◌*◌, cond, List, [], ◌++◌, ltb, Float, get_or, take, drop}
+-- A site s has the altitude in m, the pressure in hPa and the humidity in percent. Definitions only.
+use Rattle.std.specs.Prelude.{ℕ, zero, suc, ◌*◌, cond, List, [], ◌++◌, Float, Option, Some, None, get_or, take, drop}
 use Rattle.arithmetic.specs.Ascii.{ascii}
 use Rattle.arithmetic.specs.Decimals.{nought, hundred}
 use Rattle.arithmetic.specs.Operators.{◌⊗◌}
@@ -18,6 +18,7 @@ use Rattle.trim.specs.Classes.{class_densities, trim_class}
 use Rattle.sheet.specs.Sheet.{celsius_of_row}
 use Rattle.pages.specs.Characters.{number_text}
 use Rattle.decimals.specs.Shown.{shown}
+use Rattle.sheet_text.specs.declared.rows.Site.{Site}
 use Rattle.sheet_text.specs.Rows.{row_density, first_below}
 
 -- ---- the heading
@@ -46,13 +47,13 @@ doubt_line h p = cond (plausibility places (hundred ⊗ p) h).implausible (ascii
 unfoldable pub pressure_words : Float → Float → Readings → Reading → List ℕ
 pressure_words h p r resolved = source_line r resolved ++ doubt_line h p
 
-unfoldable pub heading : Float → Float → Float → Readings → Reading → List ℕ
-heading h p u r resolved =
+unfoldable pub heading : Site → Readings → Reading → List ℕ
+heading s r resolved =
     ascii "setting sheet for the trim brakes\npark ______________________________ date ____________\n" ++
-    heading_line (ascii "altitude ") h (ascii " m\n") ++
-    heading_line (ascii "pressure ") p (ascii " hPa") ++
-    pressure_words h p r resolved ++
-    heading_line (ascii "humidity ") u (ascii " percent\n") ++
+    heading_line (ascii "altitude ") s.altitude_m (ascii " m\n") ++
+    heading_line (ascii "pressure ") s.pressure_hpa (ascii " hPa") ++
+    pressure_words s.altitude_m s.pressure_hpa r resolved ++
+    heading_line (ascii "humidity ") s.humidity_percent (ascii " percent\n") ++
     ascii "  temp density  sound matched class\n     C   kg/m3    m/s       m\n"
 
 -- ---- the rows: the 30 bytes of each without their newline, and behind a blank the trim class in five places
@@ -60,31 +61,32 @@ unfoldable pub row_line : List ℕ → ℕ → List ℕ
 row_line figures class = figures ++ ascii "     " ++ number_text class ++ ascii "\n"
 
 -- the first n rows of a sheet's text
-unfoldable pub row_lines : Float → Float → Float → List ℕ → ℕ → List ℕ
-row_lines h p u text zero = []
-row_lines h p u text (suc n) = row_lines h p u text n ++ row_line (take 29 (drop (30 * n) text)) (trim_class (row_density h p u n))
+unfoldable pub row_lines : Site → List ℕ → ℕ → List ℕ
+row_lines s text zero = []
+row_lines s text (suc n) = row_lines s text n ++ row_line (take 29 (drop (30 * n) text)) (trim_class (row_density s n))
 
 -- ---- the limits: the degrees of row n in five places, the last of sixteen
-unfoldable pub degree_places : ℕ → List ℕ
-degree_places n = cond (ltb n 51) (drop 11 (in_sixteen (decimal_text 0 (celsius_of_row n))).bytes) (ascii "    -")
+unfoldable pub degree_places : Option ℕ → List ℕ
+degree_places (Some n) = drop 11 (in_sixteen (decimal_text 0 (celsius_of_row n))).bytes
+degree_places None = ascii "    -"
 
 unfoldable pub limit_words : List ℕ → Float → List ℕ
 limit_words before limit = before ++ ascii "below " ++ decimal_text 2 limit ++ ascii " from"
 
-unfoldable pub limit_part : Float → Float → Float → List ℕ → Float → List ℕ
-limit_part h p u words limit = words ++ degree_places (first_below h p u limit) ++ ascii " C"
+unfoldable pub limit_part : Site → List ℕ → Float → List ℕ
+limit_part s words limit = words ++ degree_places (first_below s limit) ++ ascii " C"
 
 abbrev pub limit_of : ℕ → Float
 limit_of i = get_or class_densities i nought
 
 -- three on a line
-unfoldable pub limit_line : Float → Float → Float → ℕ → ℕ → ℕ → List ℕ
-limit_line h p u i j k =
-    limit_part h p u (limit_words [] (limit_of i)) (limit_of i) ++
-    limit_part h p u (limit_words (ascii "   ") (limit_of j)) (limit_of j) ++
-    limit_part h p u (limit_words (ascii "   ") (limit_of k)) (limit_of k) ++
+unfoldable pub limit_line : Site → ℕ → ℕ → ℕ → List ℕ
+limit_line s i j k =
+    limit_part s (limit_words [] (limit_of i)) (limit_of i) ++
+    limit_part s (limit_words (ascii "   ") (limit_of j)) (limit_of j) ++
+    limit_part s (limit_words (ascii "   ") (limit_of k)) (limit_of k) ++
     ascii "\n"
 
 -- from the greatest to the least
-unfoldable pub limit_lines : Float → Float → Float → List ℕ
-limit_lines h p u = limit_line h p u 5 4 3 ++ limit_line h p u 2 1 0
+unfoldable pub limit_lines : Site → List ℕ
+limit_lines s = limit_line s 5 4 3 ++ limit_line s 2 1 0

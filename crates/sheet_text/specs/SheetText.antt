@@ -1,6 +1,6 @@
 -- The sheet to pin up that readings give, docs/PARK.md: the setting sheet under a heading; or why it is refused, or what readings a sheet takes.
 -- Definitions only.
-use Rattle.std.specs.Prelude.{ℕ, Bool, false, not, ◌&&◌, ◌||◌, cond, List, [], ◌++◌, ltb, Float, None, Option, Some}
+use Rattle.std.specs.Prelude.{ℕ, Bool, false, not, ◌&&◌, ◌||◌, cond, List, [], ◌++◌, ltb, Float, Option, None, Some, unwrap_or}
 use Rattle.std.specs.Float.Ieee.{le}
 use Rattle.arithmetic.specs.Decimals.{nought}
 use Rattle.refusal.specs.Outcomes.{Outcome, accepted, refused}
@@ -18,31 +18,35 @@ use Rattle.pages.specs.Characters.{refusal_line}
 use Rattle.decimals.specs.Shown.{shown}
 use Rattle.report.specs.declared.Origin.TheVariants.{Words}
 use Rattle.report.specs.Advice.{cause_lines}
+use Rattle.sheet_text.specs.declared.rows.Site.{Site}
 use Rattle.sheet_text.specs.Rows.{refused_row}
 use Rattle.sheet_text.specs.Lines.{heading, row_lines, limit_lines}
 
 -- ---- a sheet that is refused: by its inputs, 11 to 13, or by a row
-unfoldable pub row_of : Float → Float → Float → ℕ → List ℕ
-row_of h p u number = cond (ltb 13 number) (ascii "row: " ++ shown 1 (celsius_of_row (refused_row h p u)) ++ ascii " C\n") []
+unfoldable pub row_of : Site → ℕ → List ℕ
+row_of s number = cond (ltb 13 number) (ascii "row: " ++ shown 1 (celsius_of_row (unwrap_or (refused_row s) 51)) ++ ascii " C\n") []
 
-unfoldable pub refused_sheet : Float → Float → Float → ℕ → List ℕ
-refused_sheet h p u number = refusal_line number ++ row_of h p u number ++ cause_lines (Words false) number
+unfoldable pub refused_sheet : Site → ℕ → List ℕ
+refused_sheet s number = refusal_line number ++ row_of s number ++ cause_lines (Words false) number
 
 -- ---- the rows of document 02, K1, between the heading and the limits, or why there are none
-abbrev pub pinned : Float → Float → Float → Readings → Reading → Outcome (List ℕ) → List ℕ
-pinned h p u r resolved (accepted rows) = heading h p u r resolved ++ row_lines h p u rows 51 ++ limit_lines h p u
-pinned h p u r resolved (refused number values) = refused_sheet h p u number
+abbrev pub pinned : Site → Readings → Reading → Outcome (List ℕ) → List ℕ
+pinned s r resolved (accepted rows) = heading s r resolved ++ row_lines s rows 51 ++ limit_lines s
+pinned s r resolved (refused number values) = refused_sheet s number
 
-unfoldable pub sheet_page : Float → Float → Float → Readings → Reading → List ℕ
-sheet_page h p u r resolved = pinned h p u r resolved (setting_sheet h p u 1530)
+unfoldable pub sheet_page : Site → Readings → Reading → List ℕ
+sheet_page s r resolved = pinned s r resolved (setting_sheet s.altitude_m s.pressure_hpa s.humidity_percent 1530)
 
 -- ---- readings: altitude, pressure and humidity as they are resolved; a QNH that is not above 0 is refused as any pressure is, 12
-abbrev pub pressure_for : (Option Float) → Float → Float
+abbrev pub pressure_for : Option Float → Float → Float
 pressure_for None p = p
 pressure_for (Some q) p = cond (le q nought) q p
 
 abbrev pub sheet_at : Readings → Resolved → List ℕ
-sheet_at r a = sheet_page a.altitude_m (pressure_for (entry_of r qnh) (shown_pressure a)) a.humidity_percent r a.pressure
+sheet_at r a =
+    sheet_page
+    (record { altitude_m = a.altitude_m; pressure_hpa = pressure_for (entry_of r qnh) (shown_pressure a); humidity_percent = a.humidity_percent })
+    r a.pressure
 
 abbrev pub takes_other : Readings → Bool
 takes_other r = has r temperature || has r density_altitude

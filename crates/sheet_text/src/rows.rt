@@ -1,5 +1,5 @@
 // The rows of a setting sheet, counted from 0 at -10 degrees Celsius.
-ghost use Rattle.std.specs.Prelude.{◌≡◌, ◌≤◌};
+ghost use Rattle.std.specs.Prelude.{◌≡◌};
 ghost use Rattle.sheet.specs.Row.{is_too_wide, station_of_row, row_outcome};
 ghost use Rattle.sheet.specs.Sheet.{celsius_of_row};
 ghost use Rattle.sheet_text.specs.Rows.{row_density, is_refused, refused_row, first_below};
@@ -12,33 +12,11 @@ use station::figures::figures_of;
 use station::resolved::Resolved;
 
 // The temperature of row n.
+#[tactic(auto, unfolding(sheet::specs::Sheet::celsius_of_row))]
 pub(crate) fn celsius(n: u32) -> f64
-    requires { n ≤ 51 }
     ensures { result ≡ celsius_of_row n }
 {
-    (n as i32 - 10) as f64
-}
-
-fn station_of_row(altitude_m: f64, pressure_hpa: f64, humidity_percent: f64, n: u32) -> Resolved
-    requires { n ≤ 51 }
-    ensures { result ≡ station_of_row altitude_m pressure_hpa humidity_percent (celsius_of_row n) }
-{
-    Resolved {
-        altitude_m,
-        temperature: Reading::Given(celsius(n)),
-        pressure: Reading::Given(pressure_hpa),
-        humidity_percent,
-    }
-}
-
-// The density in row n.
-pub(crate) fn row_density(altitude_m: f64, pressure_hpa: f64, humidity_percent: f64, n: u32) -> f64
-    requires { n ≤ 51 }
-    ensures { result ≡ row_density altitude_m pressure_hpa humidity_percent n }
-{
-    let found = figures_of(station_of_row(altitude_m, pressure_hpa, humidity_percent, n));
-    let figures = found.figures;
-    figures.density_kg_m3
+    (i64::from(n) - 10) as f64
 }
 
 // Whether a figure of a row is wider than its column.
@@ -52,45 +30,56 @@ fn is_too_wide(temperature_c: f64, figures: Figures) -> bool
     (temperature.len > 6) | (density.len > 7) | (sound.len > 6) | (altitude.len > 7)
 }
 
-fn is_refused(altitude_m: f64, pressure_hpa: f64, humidity_percent: f64, n: u32) -> bool
-    requires { n ≤ 51 }
-    ensures { result ≡ is_refused (row_outcome altitude_m pressure_hpa humidity_percent (celsius_of_row n)) }
-{
-    match answer_of(station_of_row(altitude_m, pressure_hpa, humidity_percent, n)) {
-        Err(_) => true,
-        Ok(figures) => is_too_wide(celsius(n), figures),
-    }
+// What the rows of a sheet share: all readings but the temperature.
+#[derive(Clone, Copy)]
+pub(crate) struct Site {
+    pub(crate) altitude_m: f64,
+    pub(crate) pressure_hpa: f64,
+    pub(crate) humidity_percent: f64,
 }
 
-// The first row that is refused, and 51 where none is.
-pub(crate) fn refused_row(altitude_m: f64, pressure_hpa: f64, humidity_percent: f64) -> u32
-    ensures { (result ≡ refused_row altitude_m pressure_hpa humidity_percent) × (result ≤ 51) }
-{
-    let mut n: u32 = 0;
-    while n < 51 {
-        if is_refused(altitude_m, pressure_hpa, humidity_percent, n) {
-            return n;
+impl Site {
+    fn station(self, n: u32) -> Resolved
+        ensures { result ≡ station_of_row self.altitude_m self.pressure_hpa self.humidity_percent (celsius_of_row n) }
+    {
+        Resolved {
+            altitude_m: self.altitude_m,
+            temperature: Reading::Given(celsius(n)),
+            pressure: Reading::Given(self.pressure_hpa),
+            humidity_percent: self.humidity_percent,
         }
-        n += 1;
     }
-    n
-}
 
-// The first row whose density is below a limit, and 51 where none is.
-pub(crate) fn first_below(
-    altitude_m: f64,
-    pressure_hpa: f64,
-    humidity_percent: f64,
-    limit_kg_m3: f64,
-) -> u32
-    ensures { (result ≡ first_below altitude_m pressure_hpa humidity_percent limit_kg_m3) × (result ≤ 51) }
-{
-    let mut n: u32 = 0;
-    while n < 51 {
-        if row_density(altitude_m, pressure_hpa, humidity_percent, n) < limit_kg_m3 {
-            return n;
-        }
-        n += 1;
+    // The density in row n.
+    pub(crate) fn density(self, n: u32) -> f64
+        ensures { result ≡ row_density self n }
+    {
+        figures_of(self.station(n)).figures.density_kg_m3
     }
-    n
+
+    #[tactic(auto, unfolding(sheet::specs::Row::row_outcome, sheet::specs::Row::figures_outcome))]
+    fn is_refused(self, n: u32) -> bool
+        ensures { result ≡ is_refused (row_outcome self.altitude_m self.pressure_hpa self.humidity_percent (celsius_of_row n)) }
+    {
+        match answer_of(self.station(n)) {
+            Ok(figures) => is_too_wide(celsius(n), figures),
+            Err(_) => true,
+        }
+    }
+
+    // The first row that is refused.
+    #[tactic(auto, unfolding(crate::specs::Rows::refused_row))]
+    pub(crate) fn refused_row(self) -> Option<u32>
+        ensures { result ≡ refused_row self }
+    {
+        (0..51).find(|&n| self.is_refused(n))
+    }
+
+    // The first row whose density is below a limit.
+    #[tactic(auto, unfolding(crate::specs::Rows::first_below))]
+    pub(crate) fn first_below(self, limit_kg_m3: f64) -> Option<u32>
+        ensures { result ≡ first_below self limit_kg_m3 }
+    {
+        (0..51).find(|&n| self.density(n) < limit_kg_m3)
+    }
 }
