@@ -11,7 +11,7 @@ ghost use Rattle.mast.specs.Checks.{has};
 ghost use Rattle.pages.specs.Pages.{put};
 ghost use Rattle.sheet_text.specs.SheetText.{row_of, refused_sheet, sheet_page, pressure_for, sheet_at, takes_other, is_wanting, sheet_of};
 
-use crate::rows::{Site, celsius};
+use crate::rows::Site;
 use crate::sheet_lines::{put_heading, put_limits, put_rows};
 use atmosphere::given::Reading;
 use decimals::figures::put_shown;
@@ -23,7 +23,7 @@ use record::entries::{Readings, entry_of};
 use refusal::{Refusal, number};
 use report::Origin;
 use report::advice::put_cause;
-use sheet::page::setting_sheet;
+use sheet::page::{celsius, setting_sheet};
 use station::figures::figures_of;
 use station::resolved::{Resolved, ordinary};
 

@@ -1,34 +1,15 @@
 // The rows of a setting sheet, counted from 0 at -10 degrees Celsius.
 ghost use Rattle.std.specs.Prelude.{◌≡◌};
-ghost use Rattle.sheet.specs.Row.{is_too_wide, station_of_row, row_outcome};
+ghost use Rattle.sheet.specs.Row.{station_of_row, row_outcome};
 ghost use Rattle.sheet.specs.Sheet.{celsius_of_row};
 ghost use Rattle.sheet_text.specs.Rows.{row_density, is_refused, refused_row, first_below};
 
 use atmosphere::given::Reading;
-use decimals::shown::decimal_text;
 use mast::judge::answer_of;
-use refusal::judge::Figures;
+use sheet::page::celsius;
+use sheet::row::is_too_wide;
 use station::figures::figures_of;
 use station::resolved::Resolved;
-
-// The temperature of row n.
-#[tactic(auto, unfolding(sheet::specs::Sheet::celsius_of_row))]
-pub(crate) fn celsius(n: u32) -> f64
-    ensures { result ≡ celsius_of_row n }
-{
-    (i64::from(n) - 10) as f64
-}
-
-// Whether a figure of a row is wider than its column.
-fn is_too_wide(temperature_c: f64, figures: Figures) -> bool
-    ensures { result ≡ is_too_wide temperature_c figures }
-{
-    let temperature = decimal_text(temperature_c, 1);
-    let density = decimal_text(figures.density_kg_m3, 4);
-    let sound = decimal_text(figures.speed_of_sound_mps, 1);
-    let altitude = decimal_text(figures.density_matched_altitude_m, 0);
-    (temperature.len > 6) | (density.len > 7) | (sound.len > 6) | (altitude.len > 7)
-}
 
 // What the rows of a sheet share: all readings but the temperature.
 #[derive(Clone, Copy)]

@@ -6,7 +6,7 @@ ghost use Rattle.pages.specs.Pages.{put};
 ghost use Rattle.sheet_text.specs.Lines.{heading_line, mast_line, source_line, doubt_line, heading, row_line, row_lines, degree_places, limit_part, limit_lines};
 
 use crate::has;
-use crate::rows::{Site, celsius};
+use crate::rows::Site;
 use atmosphere::given::Reading;
 use atmosphere::plausibility::station_pressure_plausibility;
 use decimals::figures::{put_last, put_shown};
@@ -14,6 +14,7 @@ use decimals::shown::decimal_text;
 use fields::fields::{MEASURED_PRESSURE, QNH, STATION_PRESSURE};
 use pages::Page;
 use record::entries::{Readings, entry_of, value_or_zero};
+use sheet::page::celsius;
 use trim::classes::trim_class;
 
 // A reading of the heading, in sixteen places.
