@@ -1,6 +1,6 @@
 -- What a word says and what is read of it: a name, `=`, a number and a unit are read as the reading of the number's count, and nothing else is.
 -- Assumes nothing.
-use Rattle.arithmetic.proofs.Kit.{◌≡◌, refl, sym, ap, ap₂, ◌∙◌, Bool, true, false, cond, List, [], ◌∷◌, ◌++◌, ℕ, zero, suc, ◌+◌, ◌≤◌, ◌<◌, add-one, arith, ltb-true, lt-ltb, le-ltb, eqb-true, ltb, eqb, ℤ, Float, length, get_or, take, drop, take-append-drop, length-take-le}
+use Rattle.arithmetic.proofs.Kit.{◌≡◌, refl, sym, ap, ap₂, ◌∙◌, Bool, true, false, cond, List, [], ◌∷◌, ◌++◌, ℕ, zero, suc, ◌+◌, ◌<◌, add-one, arith, ltb-true, eqb-true, ltb, eqb, ℤ, Float, length, get_or, take, drop, take-append-drop, length-take-le}
 use lib.Seq.{split_at, take-append_seam, drop-append-add, drop_at}
 use Rattle.arithmetic.specs.Ascii.{ascii}
 use Rattle.pages.specs.Scan.{index_of, index_after}
@@ -13,11 +13,11 @@ use Rattle.decimals.specs.Typed.{typed}
 use Rattle.fields.specs.Fields.{meanings}
 use Rattle.questions.specs.Words.{place_in}
 use Rattle.park_text.specs.declared.typed_word.Problem.{Problem}
-use Rattle.park_text.specs.declared.typed_word.Problem.TheVariants.{RecordBeside, NameAlone, UnknownWord, Blank, Comma, MinusSign}
+use Rattle.park_text.specs.declared.typed_word.Problem.TheVariants.{RecordBeside, NameAlone, Blank, Comma, MinusSign}
 use Rattle.park_text.specs.declared.typed_word.TypedReading.{TypedReading}
 use Rattle.park_text.specs.declared.units.Unit.{Unit}
 use Rattle.park_text.specs.Units.{unit_named, places_of, reading_in}
-use Rattle.park_text.specs.Word.{reading_names, meaning_at, meaning_named, number_length, three_decimals, value_for, no_unit, in_unit, read_number, has, is_minus_sign, read_value, name_in, value_in, named, alone, read_named, is_record, read_word, Says}
+use Rattle.park_text.specs.Word.{reading_names, meaning_named, number_length, three_decimals, value_for, in_unit, read_number, has, is_minus_sign, read_value, name_in, value_in, named, alone, read_named, is_record, read_word, Says}
 use Rattle.park_text.proofs.Numbers.{number_within}
 
 -- ---- what is looked for stands where it is found

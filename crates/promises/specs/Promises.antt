@@ -61,7 +61,8 @@ use Rattle.vote.specs.Laws.{Accepts, SameFields, middle_entry, in_how_many}
 use Rattle.vote.specs.Fields.{voted, shared_rows}
 use Rattle.trim.specs.declared.changes.Start.{Start}
 use Rattle.trim.specs.Laws.{Asks, FirstToGive, NoneGives, place, next_for}
-use Rattle.trim.specs.Search.{next_trim_class, Next}
+use Rattle.trim.specs.Search.{next_trim_class}
+use Rattle.trim.specs.declared.search.Next.{Next}
 use Rattle.trim.specs.declared.changes.Turn.{Turn}
 use Rattle.trim.specs.declared.changes.Quantity.{Quantity}
 use Rattle.trim.specs.declared.changes.Quantity.TheVariants.{Temperature, MeasuredPressure}

@@ -1,5 +1,5 @@
 -- The name ends at the first `=`, and the number stands after the sign's three bytes. Assumes nothing.
-use Rattle.arithmetic.proofs.Kit.{◌≡◌, refl, sym, ap, ap₂, ◌∙◌, List, ℕ, ◌+◌, ◌++◌, zero-add, arith, rules, length, take, drop, take_all, drop-drop}
+use Rattle.arithmetic.proofs.Kit.{◌≡◌, ap, ap₂, ◌∙◌, List, ℕ, ◌+◌, ◌++◌, zero-add, arith, rules, length, take, drop, take_all, drop-drop}
 use Rattle.arithmetic.specs.Ascii.{ascii}
 use Rattle.pages.specs.Scan.{index_of}
 use Rattle.pages.specs.Pages.{put}

@@ -1,12 +1,10 @@
 -- Each word leaves what the words after it give of the readings with it. Assumes nothing.
-use Rattle.arithmetic.proofs.Kit.{◌≡◌, refl, sym, ap, ◌∙◌, List, [], ◌∷◌, ℕ, ◌+◌, ◌<◌, ◌^◌, inl, arith, rules, length}
+use Rattle.arithmetic.proofs.Kit.{◌≡◌, refl, sym, ap, ◌∙◌, List, [], ◌∷◌, ℕ, ◌+◌, inl, arith, rules, length}
 use Rattle.std.proofs.Common.{Result, Ok, Err}
 use Rattle.record.specs.declared.entries.Readings.{Readings}
-use Rattle.park_text.specs.declared.typed_word.Problem.{Problem}
-use Rattle.park_text.specs.declared.typed_word.TypedReading.{TypedReading}
 use Rattle.park_text.specs.declared.typed_readings.WrongWord.{WrongWord}
 use Rattle.park_text.specs.declared.words.Words.{Words}
-use Rattle.park_text.specs.Words.{arguments, words_left}
+use Rattle.park_text.specs.Words.{words_left}
 use Rattle.park_text.specs.Word.{read_word}
 use Rattle.park_text.specs.Understood.{with_typed, ◌⟫◌, understand_from, understand}
 use Rattle.park_text.proofs.Split.{arguments_short}

@@ -1,6 +1,5 @@
 -- A name's place in the table is its meaning. Assumes nothing.
-use Rattle.arithmetic.proofs.Kit.{◌≡◌, ap, ◌∙◌, cond, rules, ℕ}
-use Rattle.std.specs.Prelude.{Option, Some, None}
+use Rattle.arithmetic.proofs.Kit.{ap, ◌∙◌, rules}
 use Rattle.std.proofs.lemmas.Iterator.{YieldsList-from_slice}
 use Rattle.std.proofs.lemmas.Iterator.Search.{position_from_yields_List}
 use borrow.Author.Tests.{tests}

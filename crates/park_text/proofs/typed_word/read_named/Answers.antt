@@ -1,5 +1,5 @@
 -- The name ends at the first `=`, and a name that has no meaning is unknown. Assumes nothing.
-use Rattle.arithmetic.proofs.Kit.{◌≡◌, sym, ap, ap₂, ◌∙◌, true, false, List, ℕ, ◌+◌, ◌-◌, ◌<◌, arith, rules, lt-ltb, le-ltb, length, take, drop, length-drop, take_all}
+use Rattle.arithmetic.proofs.Kit.{◌≡◌, sym, ap, ◌∙◌, List, ℕ, ◌+◌, ◌-◌, ◌<◌, arith, rules, lt-ltb, le-ltb, length, take, drop, length-drop, take_all}
 use Rattle.std.proofs.Common.{Option, Some, None, Result, Ok, Err, ok_or}
 use Rattle.std.proofs.lemmas.Iterator.{YieldsList-from_slice}
 use Rattle.std.proofs.lemmas.Iterator.Search.{position_from_yields_List}
@@ -9,8 +9,7 @@ use Rattle.pages.specs.Scan.{index_of}
 use Rattle.pages.proofs.Sought.{at_some, at_none}
 use Rattle.park_text.specs.declared.typed_word.Problem.{Problem}
 use Rattle.park_text.specs.declared.typed_word.Problem.TheVariants.{UnknownWord}
-use Rattle.park_text.specs.declared.typed_word.TypedReading.{TypedReading}
-use Rattle.park_text.specs.Word.{has, name_in, value_in, meaning_named, read_value, named, alone, read_named}
+use Rattle.park_text.specs.Word.{name_in, value_in, meaning_named, read_value, named, alone, read_named}
 use Rattle.park_text.proofs.Numbers.{before_end}
 use Rattle.park_text.proofs.typed_word.read_named.Goals.{In-Some}
 use Rattle.park_text.proofs.typed_word.read_named.Goals as goal

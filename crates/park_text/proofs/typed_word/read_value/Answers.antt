@@ -1,5 +1,5 @@
 -- The number is what stands before the first byte that ends it. Assumes nothing.
-use Rattle.arithmetic.proofs.Kit.{◌≡◌, sym, ap, ap₂, ◌∙◌, false, List, ℕ, length, take, drop}
+use Rattle.arithmetic.proofs.Kit.{◌≡◌, sym, ap, ap₂, ◌∙◌, false, List, ℕ, take, drop}
 use Rattle.park_text.specs.Word.{has, is_minus_sign, number_length, read_number, read_value}
 use Rattle.park_text.proofs.Numbers.{has_is}
 use Rattle.park_text.proofs.typed_word.read_value.Goals as goal

@@ -1,5 +1,5 @@
 -- Numerator and denominator are doubles exactly. Assumes nothing.
-use Rattle.arithmetic.proofs.Kit.{◌≡◌, ap, ap₂, subst, sym, ◌∙◌, ℕ, ◌^◌, ◌≤◌, ◌<◌, arith, lit<, lit≤, T, ℤ, pos, binary64, div, of_int, w32, w64, SFits, of_z, to_z, to_z-of_z}
+use Rattle.arithmetic.proofs.Kit.{◌≡◌, ap, ap₂, subst, sym, ◌∙◌, ℕ, ◌^◌, ◌≤◌, ◌<◌, arith, lit<, lit≤, ℤ, pos, binary64, div, of_int, w32, w64, SFits, of_z, to_z, to_z-of_z}
 use lib.Signed.{mag}
 use Rattle.thousandths.proofs.Quotients.{quotient}
 use Rattle.park_text.specs.declared.units.Unit.{Unit}

@@ -5,7 +5,7 @@ use Rattle.std.proofs.lemmas.Iterator.Search.{position_from_yields_List}
 use borrow.Author.Tests.{tests}
 use lib.Dec.{eqb}
 use Rattle.pages.proofs.Sought.{at_some, at_none}
-use Rattle.park_text.specs.Words.{arguments, words_left}
+use Rattle.park_text.specs.Words.{arguments}
 use Rattle.park_text.proofs.Split.{no_words, first_word, last_word}
 use Rattle.park_text.proofs.words.WordsIterator.next.Goals.{In-Some, In-None}
 use Rattle.park_text.proofs.words.WordsIterator.next.Goals as goal
