@@ -17,7 +17,7 @@ use Rattle.near.specs.PressureAltitude as pressure_altitude
 use Rattle.near.specs.DensityAltitude as density_altitude
 
 -- ---- a QNH is the only pressure of what is accepted, and it is reduced at the altitude
-only-qnh : (s m d : (Option Float)) (a : Bool) → ((is_some s && true) || (is_some m && (is_some s || true)) || (is_some d && (a || is_some s || true || is_some m))) ≡ false → (s ≡ None) × (m ≡ None) × (d ≡ None)
+only-qnh : (s m d : Option Float) (a : Bool) → ((is_some s && true) || (is_some m && (is_some s || true)) || (is_some d && (a || is_some s || true || is_some m))) ≡ false → (s ≡ None) × (m ≡ None) × (d ≡ None)
 only-qnh (Some p) m d a h = absurd (true≢false h)
 only-qnh None (Some p) d a h = absurd (true≢false h)
 only-qnh None None (Some p) true h = absurd (true≢false h)
@@ -27,11 +27,11 @@ only-qnh None None None a h = (refl, refl, refl)
 qnh-reduced : (r : Readings) → is_clash r ≡ false → (q : Float) → entry_of r qnh ≡ Some q → (resolved r).pressure ≡ Given (reduced_qnh places q (resolved r).altitude_m)
 unfolding ordinary
 qnh-reduced r apart q is04 =
-    let S : (Option Float) = entry_of r station_pressure in
-    let M : (Option Float) = entry_of r measured_pressure in
-    let D : (Option Float) = entry_of r density_altitude in
-    let alone = only-qnh S M D (has r altitude) (subst (λ (x : (Option Float)). ((is_some S && is_some x) || (is_some M && (is_some S || is_some x)) || (is_some D && (has r altitude || is_some S || is_some x || is_some M))) ≡ false) is04 apart) in
-    subst (λ (d : (Option Float)). (resolved_by r d).pressure ≡ Given (reduced_qnh places q (resolved_by r d).altitude_m)) (sym alone.2)
+    let S : Option Float = entry_of r station_pressure in
+    let M : Option Float = entry_of r measured_pressure in
+    let D : Option Float = entry_of r density_altitude in
+    let alone = only-qnh S M D (has r altitude) (subst (λ (x : Option Float). ((is_some S && is_some x) || (is_some M && (is_some S || is_some x)) || (is_some D && (has r altitude || is_some S || is_some x || is_some M))) ≡ false) is04 apart) in
+    subst (λ (d : Option Float). (resolved_by r d).pressure ≡ Given (reduced_qnh places q (resolved_by r d).altitude_m)) (sym alone.2)
     (λ i. resolved_pressure (measured_or (alone.1 i) (unmeasured_pressure (alone.0 i) (is04 i))) (value_or_zero (entry_of r altitude)))
 
 pub record RecordNear (r : Readings) (f : Figures) : Type 0 where

@@ -51,50 +51,50 @@ module _ (r : Readings) where
   at_12 {x = x} fs fq told = subst (λ (m : ℕ). entry_of r m ≡ Some x) (sym (λ i. first12 (fs i) (fq i))) told
 
   -- ---- the rows of each reading, where those before it hold nothing
-  sound-altitude : (e : (Option Float)) → entry_of r altitude ≡ e → Sound (present finite_rows e)
+  sound-altitude : (e : Option Float) → entry_of r altitude ≡ e → Sound (present finite_rows e)
   sound-altitude None told = tt
   sound-altitude (Some x) told = (λ h. at_11 (ap not_finite told ∙ h) refl refl refl told, λ _. tt)
 
-  sound-temperature : (e : (Option Float)) → entry_of r temperature ≡ e → Sound (present temperature_rows e)
+  sound-temperature : (e : Option Float) → entry_of r temperature ≡ e → Sound (present temperature_rows e)
   unfolding reading_about
   sound-temperature None told = tt
   sound-temperature (Some t) told = (λ h. told, λ _. (λ h. told, λ _. tt))
 
   module _ (fa : not_finite (entry_of r altitude) ≡ false) where
-    sound-station : (e : (Option Float)) → entry_of r station_pressure ≡ e → Sound (present pressure_rows e)
+    sound-station : (e : Option Float) → entry_of r station_pressure ≡ e → Sound (present pressure_rows e)
     sound-station None told = tt
     sound-station (Some p) told = (λ h. at_11 fa (ap not_finite told ∙ h) refl refl told, λ _. (λ h. at_12 (ap not_positive told ∙ h) refl told, λ _. tt))
 
     module _ (fs : not_finite (entry_of r station_pressure) ≡ false) where
-      sound-qnh : (e : (Option Float)) → not_positive (entry_of r station_pressure) ≡ false → entry_of r qnh ≡ e → Sound (present pressure_rows e)
+      sound-qnh : (e : Option Float) → not_positive (entry_of r station_pressure) ≡ false → entry_of r qnh ≡ e → Sound (present pressure_rows e)
       sound-qnh None ps told = tt
       sound-qnh (Some p) ps told = (λ h. at_11 fa fs (ap not_finite told ∙ h) refl told, λ _. (λ h. at_12 ps (ap not_positive told ∙ h) told, λ _. tt))
 
       module _ (fq : not_finite (entry_of r qnh) ≡ false) where
-        sound-humidity : (e : (Option Float)) → entry_of r humidity ≡ e → Sound (present humidity_rows e)
+        sound-humidity : (e : Option Float) → entry_of r humidity ≡ e → Sound (present humidity_rows e)
         unfolding reading_about
         sound-humidity None told = tt
         sound-humidity (Some u) told = (λ h. at_11 fa fs fq (ap not_finite told ∙ h) told, λ _. (λ h. told, λ _. tt))
 
-        sound_measured : (e : (Option Float)) → not_finite (entry_of r humidity) ≡ false → not_positive (entry_of r station_pressure) ≡ false → not_positive (entry_of r qnh) ≡ false
+        sound_measured : (e : Option Float) → not_finite (entry_of r humidity) ≡ false → not_positive (entry_of r station_pressure) ≡ false → not_positive (entry_of r qnh) ≡ false
             → entry_of r measured_pressure ≡ e → Sound (present pressure_rows e)
         sound_measured None fu ps pq told = tt
         sound_measured (Some p) fu ps pq told = (λ h. at_11 fa fs fq fu told, λ _. (λ h. at_12 ps pq told, λ _. tt))
 
 -- ---- a reading whose rows hold nothing is not at fault, and neither is one that is absent
-clear-finite : (e : (Option Float)) → NoneHolds (present finite_rows e) → not_finite e ≡ false
+clear-finite : (e : Option Float) → NoneHolds (present finite_rows e) → not_finite e ≡ false
 clear-finite None h = refl
 clear-finite (Some x) h = h.0
 
-clear-pressure : (e : (Option Float)) → NoneHolds (present pressure_rows e) → (not_finite e ≡ false) × (not_positive e ≡ false)
+clear-pressure : (e : Option Float) → NoneHolds (present pressure_rows e) → (not_finite e ≡ false) × (not_positive e ≡ false)
 clear-pressure None h = (refl, refl)
 clear-pressure (Some p) h = (h.0, h.1.0)
 
-clear-humidity : (e : (Option Float)) → NoneHolds (present humidity_rows e) → not_finite e ≡ false
+clear-humidity : (e : Option Float) → NoneHolds (present humidity_rows e) → not_finite e ≡ false
 clear-humidity None h = refl
 clear-humidity (Some u) h = h.0
 
-clear-absent : (e : (Option Float)) → is_some e ≡ false → not_finite e ≡ false
+clear-absent : (e : Option Float) → is_some e ≡ false → not_finite e ≡ false
 clear-absent None h = refl
 clear-absent (Some x) h = absurd (true≢false h)
 
@@ -155,9 +155,9 @@ module _ (r : Readings) where
     others =
         let pressures = (has r station_pressure && has r qnh) || (has r measured_pressure && (has r station_pressure || has r qnh)) in
         let excluded = has r altitude || has r station_pressure || has r qnh || has r measured_pressure in
-        sym (ap (λ (e : (Option Float)). is_some e && excluded) with06) ∙ (neither pressures (has r density_altitude && excluded) apart).1
+        sym (ap (λ (e : Option Float). is_some e && excluded) with06) ∙ (neither pressures (has r density_altitude && excluded) apart).1
 
-    sound-given : (e : (Option Float)) → entry_of r temperature ≡ e → Sound r (station_rows places d (given_temperature e))
+    sound-given : (e : Option Float) → entry_of r temperature ≡ e → Sound r (station_rows places d (given_temperature e))
     unfolding reading_about
     sound-given None told = (λ h. with06, λ _. (λ h. with06, λ _. tt))
     sound-given (Some t) told = (λ h. with06, λ _. (λ h. told, λ _. (λ h. told, λ _. (λ h. with06, λ _. tt))))
@@ -171,7 +171,7 @@ module _ (r : Readings) where
         (λ _. sound-humidity r (clear-absent (entry_of r altitude) one.0) (clear-absent (entry_of r station_pressure) one.1) (clear-absent (entry_of r qnh) two.1) (entry_of r humidity) refl)
 
   -- ---- all rows
-  sound_way : is_clash r ≡ false → (e : (Option Float)) → entry_of r density_altitude ≡ e → Sound r (way_rows r e)
+  sound_way : is_clash r ≡ false → (e : Option Float) → entry_of r density_altitude ≡ e → Sound r (way_rows r e)
   sound_way apart None told = (λ _. tt, λ _. sound-values)
   sound_way apart (Some d) told = sound-inverse apart d told
 

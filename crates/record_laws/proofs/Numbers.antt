@@ -18,5 +18,5 @@ no_nan r f all e m (Double x) h = go (ltb m meanings) refl
     go true t = is_number x (subst FiniteEntry (ap entry_for h) (accepted-is_finite r f e m (ltb-true m meanings t)))
     go false t =
         let past : length r.slots ≤ m = omega (arith, ltb-false m meanings t) in
-        let none : stored_of r m ≡ None = (List·getD-eq-default r.slots None past) in
+        let none : stored_of r m ≡ None = List·getD-eq-default r.slots None past in
         absurd (never (sym none ∙ h))

@@ -34,14 +34,14 @@ module _ (r : Readings) (apart : is_clash r ≡ false) where
       absent (entry_of r measured_pressure) (neither_with (has r station_pressure && has r qnh) (has r measured_pressure) (has r station_pressure || has r qnh) (neither pressures _ apart).0 (ap (λ (b : Bool). b || has r qnh) there))
 
 -- ---- the figures of readings without 06, of the altitude's entry a
-module _ (r : Readings) (a : (Option Float)) {f : Figures} (at : entry_of r altitude ≡ a) (e : judged r ≡ accepted f) where
+module _ (r : Readings) (a : Option Float) {f : Figures} (at : entry_of r altitude ≡ a) (e : judged r ≡ accepted f) where
   abbrev with_pressure : Reading → Resolved
   with_pressure x = let h = value_or_zero a in record { altitude_m = h; temperature = resolved_temperature (entry_of r temperature) h; pressure = x; humidity_percent = value_or_zero (entry_of r humidity) }
 
   apart : is_clash r ≡ false
   apart = (of-accepted r e).0.0
 
-  ordinary-figures : {m s : (Option Float)} → entry_of r density_altitude ≡ None → entry_of r measured_pressure ≡ m → entry_of r station_pressure ≡ s
+  ordinary-figures : {m s : Option Float} → entry_of r density_altitude ≡ None → entry_of r measured_pressure ≡ m → entry_of r station_pressure ≡ s
       → f ≡ figures_of (with_pressure (resolved_pressure (measured_or m (unmeasured_pressure s (entry_of r qnh))) (value_or_zero a)))
   unfolding ordinary
   ordinary-figures no06 is07 is03 =
@@ -58,7 +58,7 @@ module _ (r : Readings) (a : (Option Float)) {f : Figures} (at : entry_of r alti
   pub measured_used : (p : Float) → entry_of r measured_pressure ≡ Some p → f ≡ figures_of (with_pressure (Given p))
   measured_used p is07 =
       let others = has r altitude || has r station_pressure || has r qnh in
-      ordinary-figures (without_06 r apart (ap (λ (x : (Option Float)). others || is_some x) is07 ∙ or-true others)) is07 refl
+      ordinary-figures (without_06 r apart (ap (λ (x : Option Float). others || is_some x) is07 ∙ or-true others)) is07 refl
 
   pub measured_shown : (p : Float) → entry_of r measured_pressure ≡ Some p → f.pressure_hpa ≡ p
   unfolding figures_with
