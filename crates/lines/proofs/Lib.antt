@@ -2,4 +2,5 @@
 pub mod Buffer
 pub mod InRoom
 pub mod Items
+pub mod Sheet
 pub mod ShownText
