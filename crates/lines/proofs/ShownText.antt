@@ -1,5 +1,5 @@
 -- A decimal text on a line, or `none` where it has no bytes or too many. Assumes nothing.
-use Rattle.arithmetic.proofs.Kit.{◌≡◌, refl, ap, ◌∙◌, Bool, true, false, cond, ◌||◌, List, [], ◌++◌, ℕ, ◌-◌, ◌<◌, ◌≤◌, arith, ltb-true, ne_eqb, ltb, eqb, length, drop}
+use Rattle.arithmetic.proofs.Kit.{◌≡◌, refl, ap, ◌∙◌, Bool, true, false, cond, List, [], ◌++◌, ℕ, ◌-◌, ◌<◌, ◌≤◌, arith, ltb-true, ne_eqb, ltb, length, drop}
 use Rattle.std.specs.Prelude.{Option, Some, None, MatchOption}
 use Rattle.std.specs.Option.{unwrap_or}
 use Rattle.std.specs.Borrow.{Bor}

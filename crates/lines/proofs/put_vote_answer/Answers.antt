@@ -1,5 +1,4 @@
 -- The three records that the line has. Assumes nothing.
-use Rattle.arithmetic.proofs.Kit.{ap, ◌∙◌}
 use Rattle.questions.specs.Words.{line_parts}
 use Rattle.lines.specs.Answers.{vote_answer}
 use Rattle.lines.proofs.Buffer.{read}

@@ -1,9 +1,9 @@
 -- The text, or `none`. Assumes nothing.
-use Rattle.arithmetic.proofs.Kit.{◌≡◌, refl, sym, ap, ◌∙◌, arith, eqb-true, eqb-false, length}
+use Rattle.arithmetic.proofs.Kit.{refl, sym, ap, ◌∙◌, arith, eqb-true, eqb-false}
 use Rattle.pages.specs.Pages.{put}
 use Rattle.pages.proofs.Putting.{put_put}
 use Rattle.decimals.specs.Decimal.{decimal_text}
-use Rattle.lines.proofs.ShownText.{few, few_bytes, none_shown, shown}
+use Rattle.lines.proofs.ShownText.{few_bytes, none_shown, shown}
 use Rattle.lines.proofs.decimal.put_shown.Goals as goal
 
 pub returns-then-is_empty : goal.returns-then-is_empty

@@ -1,5 +1,5 @@
 -- An item that is understood and does not come twice. Assumes nothing.
-use Rattle.arithmetic.proofs.Kit.{◌≡◌, refl, sym, ap, ap₂, ◌∙◌, true, false, ℕ}
+use Rattle.arithmetic.proofs.Kit.{◌≡◌, sym, ap, ap₂, ◌∙◌, true, false, ℕ}
 use Rattle.std.specs.Prelude.{is_some, Some}
 use Rattle.fields.specs.declared.fields.Value.{Value}
 use Rattle.fields.specs.Fields.{meaning_of}
