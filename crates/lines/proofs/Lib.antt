@@ -1,3 +1,5 @@
--- A record that is read into a buffer.
+-- What the answers share.
 pub mod Buffer
-pub mod InRoom
+pub mod Items
+pub mod Sheet
+pub mod ShownText

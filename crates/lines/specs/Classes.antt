@@ -6,7 +6,7 @@ use Rattle.trim.specs.declared.changes.Quantity.TheVariants.{Temperature, Measur
 use Rattle.trim.specs.declared.changes.Direction.{Direction}
 use Rattle.trim.specs.declared.changes.Direction.TheVariants.{Up, Down}
 use Rattle.trim.specs.declared.changes.Turn.{Turn}
-use Rattle.trim.specs.Search.{Next}
+use Rattle.trim.specs.declared.search.Next.{Next}
 use Rattle.arithmetic.specs.Ascii.{ascii}
 use Rattle.pages.specs.Characters.{refusal_line}
 use Rattle.lines.specs.Values.{whole}

@@ -15,12 +15,12 @@ fn put_shown(page: &mut Page<'_>, x: f64, decimals: u32)
     ensures { page.new ≡ put page.old (shown_line (decimal_text decimals x)) }
 {
     let text = decimal_text(x, decimals);
-    match text.as_bytes() {
-        None | Some([]) => page.put(b"none\n"),
-        Some(bytes) => {
-            page.put(bytes);
-            page.put(b"\n");
-        }
+    let bytes = text.as_bytes().unwrap_or(&[]);
+    if bytes.is_empty() {
+        page.put(b"none\n");
+    } else {
+        page.put(bytes);
+        page.put(b"\n");
     }
 }
 

@@ -28,6 +28,7 @@ fn data_part(item: &[u8]) -> &[u8]
     &item[item.len().min(3)..]
 }
 
+#[tactic(auto, unfolding(crate::specs::Items::item_tag))]
 fn tag_in(item: &[u8]) -> u8
     ensures { result ≡ item_tag item.now }
 {
@@ -59,6 +60,7 @@ fn is_item(item: &[u8]) -> bool
         && are_hex(data_part(item))
 }
 
+#[tactic(auto, unfolding(crate::specs::Items::value_in))]
 fn value_in(item: &[u8]) -> Value
     ensures { result ≡ value_in item.now }
 {

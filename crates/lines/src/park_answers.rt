@@ -5,6 +5,7 @@ ghost use Rattle.std.specs.Prelude.{◌≡◌, length};
 ghost use Rattle.pages.specs.Pages.{Holds, put};
 ghost use Rattle.lines.specs.Typed.{typed_byte, typed_at, typed_text, park_answer};
 
+use pages::Page;
 use pages::scan::find;
 use park_text::put_park_text;
 

@@ -1,5 +1,4 @@
-// Values and refusals with their values as text on a page: each function puts its text from a position on,
-// as far as the page reaches, and answers the position after it.
+// Values and refusals with their values as text on a page.
 #![tactic(auto, using(pages::proofs::Putting::puts), unfolding(crate::specs::Values::value_text, crate::specs::Values::values_text, crate::specs::Values::refusal_values))]
 
 ghost use Rattle.std.specs.Prelude.{◌≡◌, ◌++◌};
