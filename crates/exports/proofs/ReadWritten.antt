@@ -161,7 +161,7 @@ module _ (r : Readings) where
     array_back =
         ap from (ext_get_or None (array_readings meanings f v w).slots r.slots (array_length f v w meanings ∙ sym all) (λ m h.
         let less : m < meanings = omega (arith, h, array_length f v w meanings) in
-        ap slot_of (stored_at f v w meanings m (omega arith) less
+        (stored_at f v w meanings m (omega arith) less
         ∙ rw (array_at form_of forms m 0 less, array_at double_for values m nan less, array_at count_for counts m 0 less) (back (stored_of r m)))))
 
     pub written_back : written_of forms values counts r ≡ accepted (record_of r)

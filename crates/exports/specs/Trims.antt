@@ -6,7 +6,8 @@ use Rattle.trim.specs.declared.changes.Quantity.{Quantity}
 use Rattle.trim.specs.declared.changes.Quantity.TheVariants.{Temperature, MeasuredPressure}
 use Rattle.trim.specs.declared.changes.Direction.{Direction}
 use Rattle.trim.specs.declared.changes.Direction.TheVariants.{Up, Down}
-use Rattle.trim.specs.Search.{Next, next_trim_class}
+use Rattle.trim.specs.declared.search.Next.{Next}
+use Rattle.trim.specs.Search.{next_trim_class}
 use Rattle.exports.specs.Lent.{with_room, handed_out}
 
 -- ---- the answer: the class, the tag of the field changed, the tenths with their sign, and the class that they give;

@@ -1,4 +1,6 @@
 // Records read: their readings as arrays with a place for each meaning, as `records` takes them.
+#![tactic(auto, unfolding(crate::specs::Lent::with_room))]
+
 ghost use Rattle.std.specs.Prelude.{◌≡◌, true, false, ◌≤◌, length};
 ghost use Rattle.fields.specs.Fields.{meanings};
 ghost use Rattle.refusal.specs.Outcomes.{outcome};

@@ -1,4 +1,6 @@
 // Records written: of readings as arrays with a place for each meaning, and of records in the other form.
+#![tactic(auto, unfolding(crate::specs::Lent::with_room, crate::specs::Records::with_form))]
+
 ghost use Rattle.std.specs.Prelude.{◌≡◌, true, false, ◌≤◌, length};
 ghost use Rattle.writer.specs.Conversion.{length_converted, converted, written_in};
 ghost use Rattle.fields.specs.Fields.{meanings};

@@ -1,4 +1,6 @@
 // The setting sheet.
+#![tactic(auto, unfolding(crate::specs::Lent::with_room))]
+
 ghost use Rattle.std.specs.Prelude.{◌≡◌, ◌≤◌, length, take};
 ghost use Rattle.refusal.specs.Refusals.{listed};
 ghost use Rattle.sheet.specs.Over.{over_or_left};

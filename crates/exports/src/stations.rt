@@ -1,6 +1,8 @@
 // Functions that hand out several numbers: they are written to the first places of a lent array, and
 // a status comes back, 0 for figures or the number of a refusal. Where the array has fewer places than
 // the function may need, the status is 255, and nothing is written.
+#![tactic(auto, unfolding(crate::specs::Lent::with_room))]
+
 ghost use Rattle.std.specs.Prelude.{◌≡◌};
 ghost use Rattle.arithmetic.specs.Places.{places};
 ghost use Rattle.atmosphere.specs.Layers.{standard_air};

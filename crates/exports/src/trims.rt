@@ -1,4 +1,6 @@
 // The trim class of a density, and how close the next one is.
+#![tactic(auto, unfolding(crate::specs::Lent::with_room))]
+
 ghost use Rattle.std.specs.Prelude.{◌≡◌, pos};
 ghost use Rattle.trim.specs.Classes.{trim_class};
 ghost use Rattle.exports.specs.Lent.{status_of, values_after};

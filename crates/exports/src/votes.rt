@@ -1,11 +1,13 @@
 // The vote of three masts.
+#![tactic(auto, unfolding(crate::specs::Lent::with_room))]
+
 ghost use Rattle.std.specs.Prelude.{◌≡◌};
 ghost use Rattle.refusal.specs.Outcomes.{outcome};
 ghost use Rattle.vote.specs.Vote.{vote_outcome, vote};
 ghost use Rattle.exports.specs.Lent.{with_room, status_of, left_in, figure_values, mark_or};
 ghost use Rattle.exports.specs.Votes.{mast_in};
 
-use crate::lent::{TOO_SHORT, put_answer, wide};
+use crate::lent::{TOO_SHORT, put_answer};
 use refusal::Refusal;
 use refusal::judge::Figures;
 use vote::answer::VoteRefusal;
@@ -56,6 +58,6 @@ pub fn station_air_vote(
         return TOO_SHORT;
     }
     let voted = vote(a, b, c);
-    *mast = wide(refused_mast(voted));
+    *mast = u32::from(refused_mast(voted));
     put_answer(lent, in_range, answer_of(voted))
 }
