@@ -14,7 +14,7 @@ behind [] (x ∷ xs) v room = refl
 behind (w ∷ vs) [] v room = absurd (omega (arith, room))
 behind {A} (w ∷ vs) (x ∷ xs) v room = ap (λ (l : List A). w ∷ l) (behind vs xs v (omega (arith, room)))
 
-module _ {A : Type 0} (of : (Option Value) → A) (r : Readings) where
+module _ {A : Type 0} (of : Option Value → A) (r : Readings) where
   pub as_many : (n : ℕ) → length (each of n r) ≡ n
   unfolding each
   as_many zero = refl

@@ -28,7 +28,7 @@ use Rattle.exports.proofs.Each.{as_many}
 use Rattle.exports.proofs.Room.{roomy}
 
 -- ---- what three numbers store
-abbrev stored_as : ℕ → Float → ℕ → (Option Value)
+abbrev stored_as : ℕ → Float → ℕ → Option Value
 stored_as form x word = cond (eqb form 1) (Some (Double x)) (cond (eqb form 2) (Some (Count word)) None)
 
 module _ (q : Readings) (k form : ℕ) (x : Float) (word : ℕ) where
@@ -65,7 +65,7 @@ module _ (forms : List ℕ) (values : List Float) (counts : List ℕ) where
   abbrev of : ℕ → Readings
   of n = array_readings n forms values counts
 
-  abbrev at : ℕ → (Option Value)
+  abbrev at : ℕ → Option Value
   at m = stored_as (get_or forms m 0) (get_or values m nan) (get_or counts m 0)
 
   pub array_length : (n : ℕ) → length (of n).slots ≡ meanings
@@ -107,18 +107,18 @@ forms_known (suc k) forms all m h = go (eqb m k) refl (forms_known k forms (both
     go false e before = before (omega (arith, h, eqb-false m k e))
 
 -- ---- readings that were read into arrays
-back : (s : (Option Value)) → stored_as (form_of s) (double_for s) (count_for s) ≡ s
+back : (s : Option Value) → stored_as (form_of s) (double_for s) (count_for s) ≡ s
 back None = refl
 back (Some (Double x)) = refl
 back (Some (Count word)) = refl
 
-is_form_lem : (s : (Option Value)) → is_form (form_of s) ≡ true
+is_form_lem : (s : Option Value) → is_form (form_of s) ≡ true
 is_form_lem None = refl
 is_form_lem (Some (Double x)) = refl
 is_form_lem (Some (Count word)) = refl
 
 module _ (r : Readings) where
-  pub each_at : {A : Type 0} (of : (Option Value) → A) (n m : ℕ) (d : A) → m < n → get_or (each of n r) m d ≡ of (stored_of r m)
+  pub each_at : {A : Type 0} (of : Option Value → A) (n m : ℕ) (d : A) → m < n → get_or (each of n r) m d ≡ of (stored_of r m)
   unfolding each
   each_at of zero m d h = absurd (omega (arith, h))
   each_at {A} of (suc k) m d h = go (eqb m k) refl (each_at of k m d)
@@ -132,11 +132,11 @@ module _ (r : Readings) where
           let less : m < k = omega (arith, h, eqb-false m k e) in
           get_or-append (each of k r) (of (stored_of r k) ∷ []) d m (omega (arith, less, as_many of r k)) ∙ before less
 
-  array_at : {A : Type 0} (of : (Option Value) → A) (xs : List A) (m : ℕ) (d : A) → m < meanings → get_or (handed_out (each of meanings r) xs) m d ≡ of (stored_of r m)
+  array_at : {A : Type 0} (of : Option Value → A) (xs : List A) (m : ℕ) (d : A) → m < meanings → get_or (handed_out (each of meanings r) xs) m d ≡ of (stored_of r m)
   array_at of xs m d h =
       get_or-append (each of meanings r) (drop (length (each of meanings r)) xs) d m (omega (arith, h, as_many of r meanings)) ∙ each_at of meanings m d h
 
-  room : {A : Type 0} (of : (Option Value) → A) (xs : List A) → meanings ≤ length (handed_out (each of meanings r) xs)
+  room : {A : Type 0} (of : Option Value → A) (xs : List A) → meanings ≤ length (handed_out (each of meanings r) xs)
   room of xs = omega (arith, length-append (each of meanings r) (drop (length (each of meanings r)) xs), as_many of r meanings)
 
   known : (forms : List ℕ) (n : ℕ) → n ≤ meanings → are_forms n (handed_out (each form_of meanings r) forms) ≡ true
@@ -161,8 +161,8 @@ module _ (r : Readings) where
     array_back =
         ap from (ext_get_or None (array_readings meanings f v w).slots r.slots (array_length f v w meanings ∙ sym all) (λ m h.
         let less : m < meanings = omega (arith, h, array_length f v w meanings) in
-        (stored_at f v w meanings m (omega arith) less
-        ∙ rw (array_at form_of forms m 0 less, array_at double_for values m nan less, array_at count_for counts m 0 less) (back (stored_of r m)))))
+        stored_at f v w meanings m (omega arith) less
+        ∙ rw (array_at form_of forms m 0 less, array_at double_for values m nan less, array_at count_for counts m 0 less) (back (stored_of r m))))
 
     pub written_back : written_of forms values counts r ≡ accepted (record_of r)
     written_back =

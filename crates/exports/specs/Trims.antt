@@ -20,7 +20,7 @@ abbrev pub signed_tenths : Direction → ℕ → ℤ
 signed_tenths Up k = pos k
 signed_tenths Down k = neg_ℤ (pos k)
 
-abbrev pub turn_numbers : ℕ → (Option Turn) → List ℤ
+abbrev pub turn_numbers : ℕ → Option Turn → List ℤ
 turn_numbers c (Some t) = pos c ∷ pos (quantity_tag t.change.quantity) ∷ signed_tenths t.change.direction t.change.tenths ∷ pos t.class ∷ []
 turn_numbers c None = pos c ∷ pos 0 ∷ pos 0 ∷ pos c ∷ []
 

@@ -83,10 +83,7 @@ pub fn station_air_moist_speed_of_sound(
 fn is_given(reading: Reading) -> bool
     ensures { result ≡ is_given reading }
 {
-    match reading {
-        Reading::Given(_) => true,
-        Reading::FromLayer => false,
-    }
+    matches!(reading, Reading::Given(_))
 }
 
 // Whether a station pressure is kept; a default is not, and comes from the layer.

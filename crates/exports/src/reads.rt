@@ -87,13 +87,7 @@ fn read_by(
     ensures counts_after { counts.new
         ≡ array_after count_for counts.old (read_in strict forms.old values.old counts.old «record».now) }
 {
-    if forms.len() < MEANINGS {
-        return TOO_SHORT;
-    }
-    if values.len() < MEANINGS {
-        return TOO_SHORT;
-    }
-    if counts.len() < MEANINGS {
+    if forms.len() < MEANINGS || values.len() < MEANINGS || counts.len() < MEANINGS {
         return TOO_SHORT;
     }
     let read = if strict {

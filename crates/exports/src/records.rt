@@ -76,13 +76,7 @@ pub fn station_air_write(
     ensures values_value { values.now ≡ values.now }
     ensures counts_value { counts.now ≡ counts.now }
 {
-    if forms.len() < MEANINGS {
-        return TOO_SHORT;
-    }
-    if values.len() < MEANINGS {
-        return TOO_SHORT;
-    }
-    if counts.len() < MEANINGS {
+    if forms.len() < MEANINGS || values.len() < MEANINGS || counts.len() < MEANINGS {
         return TOO_SHORT;
     }
     if !are_forms(forms) {

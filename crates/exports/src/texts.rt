@@ -48,7 +48,7 @@ pub fn station_air_report(record: &[u8], page: &mut [u8], length: &mut usize) ->
 fn has_words(number: u32) -> bool
     ensures { result ≡ has_words number }
 {
-    (number >= 1) & (number <= 15) | (number == 17)
+    matches!(number, 1..=15 | 17)
 }
 
 // Writes the cause of a refusal's number and what to do at the start of the page, and their length. 16 where

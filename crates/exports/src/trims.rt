@@ -67,10 +67,7 @@ pub fn station_air_next_trim_class(record: &[u8], lent: &mut [f64], answer: &mut
         ≡ answer_after answer.old (trim_in lent.old answer.old «record».now) }
     ensures record_value { «record».now ≡ «record».now }
 {
-    if lent.len() < 2 {
-        return TOO_SHORT;
-    }
-    if answer.len() < 4 {
+    if lent.len() < 2 || answer.len() < 4 {
         return TOO_SHORT;
     }
     match next_trim_class(record) {
