@@ -1,6 +1,6 @@
 -- Laws of the first layer that passes a test: it is one of those searched, it depends on nothing but the test there, and of a test that a higher layer passes
 -- too it tells every answer. Assumes nothing.
-use Rattle.arithmetic.proofs.Kit.{◌≡◌, refl, sym, ap₂, subst, ◌∙◌, Bool, true, false, cond, ℕ, zero, suc, ◌+◌, ◌≤◌, ◌<◌, le_refl, arith, le-leb, lt-leb, leb}
+use Rattle.arithmetic.proofs.Kit.{◌≡◌, refl, sym, ap, ap₂, subst, ◌∙◌, Bool, true, false, cond, ℕ, zero, suc, ◌+◌, ◌-◌, ◌≤◌, ◌<◌, le_refl, arith, le-leb, lt-leb, leb}
 use Rattle.atmosphere.specs.Layers.{first_from}
 
 -- at most the last
@@ -29,6 +29,14 @@ unfolding first_from
 first-same a b zero i same = refl
 first-same a b (suc n) i same =
     ap₂ (λ (t : Bool) (j : ℕ). cond t i j) (same i (le_refl i) (omega arith)) (first-same a b n (suc i) (λ j l h. same j (omega arith) (omega arith)))
+
+-- from layer i on, by its test
+pub first-step : (b : ℕ → Bool) (i : ℕ) (t : Bool) → i < 6 → b i ≡ t → first_from b (6 - i) i ≡ cond t i (first_from b (6 - (i + 1)) (i + 1))
+unfolding first_from
+first-step b i t h e =
+    let next : i + 1 ≡ suc i = omega arith in
+    let left : 6 - i ≡ suc (6 - (i + 1)) = omega arith in
+    ap (λ (n : ℕ). first_from b n i) left ∙ simp (sym next, e)
 
 -- ---- a test that the next layer passes too, up to layer m
 module _ (b : ℕ → Bool) (m : ℕ) (next : (j : ℕ) → suc j < m → b j ≡ true → b (suc j) ≡ true) where

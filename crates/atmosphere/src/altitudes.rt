@@ -64,6 +64,7 @@ const CHAINED_RATIOS: [f64; 7] = [
 const DENSITY_EXPONENT_RECIPROCALS: [usize; 7] = [27, 27, 18, 19, 27, 20, 21];
 
 // The pressure altitude, ft, of a station pressure.
+#[tactic(auto, unfolding(elementary::specs::Power::power_at))]
 pub fn nws_pressure_altitude_ft(station_pressure_hpa: f64) -> f64
     ensures { result ≡ nws_altitude places station_pressure_hpa }
 {
@@ -86,12 +87,10 @@ fn layer_from(at_bases: [f64; 7], first: usize, value: f64) -> usize
     requires { first < 7 }
     ensures { result ≡ layer_from (λ i. get_or at_bases i nan) (6 - first) first value }
 {
-    let mut number = first;
-    while number < 6 {
+    for number in first..6 {
         if value >= at_bases[number + 1] {
             return number;
         }
-        number += 1;
     }
     6
 }
@@ -129,8 +128,7 @@ pub fn pressure_altitude_m(station_pressure_hpa: f64) -> f64
     ensures { result ≡ pressure_altitude places station_pressure_hpa }
 {
     let nws_m = nws_pressure_altitude_ft(station_pressure_hpa) * DA_FT_TO_M;
-    // only a NaN differs from itself
-    if nws_m != nws_m || nws_m >= LOWEST_PRESSURE_ALTITUDE_M && nws_m <= TROPOSPHERE_TOP_M {
+    if nws_m.is_nan() || nws_m >= LOWEST_PRESSURE_ALTITUDE_M && nws_m <= TROPOSPHERE_TOP_M {
         return nws_m;
     }
     standard_pressure_altitude_m(station_pressure_hpa * 100.0)

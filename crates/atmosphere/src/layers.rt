@@ -52,6 +52,7 @@ pub fn geometric_to_geopotential_height_m(geometric_altitude_m: f64) -> f64
 }
 
 // The geopotential height, m, of an altitude, each clamped to the range of the layers.
+#[tactic(auto, unfolding(crate::specs::Layers::standard_height))]
 pub fn standard_geopotential_height_m(altitude_m: f64) -> f64
     ensures { result ≡ standard_height altitude_m }
 {
@@ -71,29 +72,16 @@ pub fn standard_geopotential_height_m(altitude_m: f64) -> f64
 fn layer_number(geopotential_height: f64) -> usize
     ensures { result ≡ layer_at geopotential_height }
 {
-    if geopotential_height < 11000.0 {
+    // NaN lies in none
+    if geopotential_height.is_nan() {
         return 0;
     }
-    if (11000.0 <= geopotential_height) & (geopotential_height < 20000.0) {
-        return 1;
+    for number in 0..6 {
+        if geopotential_height < ICAO_LAYERS[number + 1][0] {
+            return number;
+        }
     }
-    if (20000.0 <= geopotential_height) & (geopotential_height < 32000.0) {
-        return 2;
-    }
-    if (32000.0 <= geopotential_height) & (geopotential_height < 47000.0) {
-        return 3;
-    }
-    if (47000.0 <= geopotential_height) & (geopotential_height < 51000.0) {
-        return 4;
-    }
-    if (51000.0 <= geopotential_height) & (geopotential_height < 71000.0) {
-        return 5;
-    }
-    if 71000.0 <= geopotential_height {
-        return 6;
-    }
-    // NaN lies in none
-    0
+    6
 }
 
 // The pressure in a layer, at so many metres above its base and at the temperature there.

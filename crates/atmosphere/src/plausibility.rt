@@ -22,12 +22,12 @@ pub struct StationPressurePlausibility {
 fn is_implausible(ratio: f64) -> bool
     ensures { result ≡ implausible_ratio ratio }
 {
-    let plausible = (STATION_PRESSURE_MIN_PLAUSIBLE_RATIO <= ratio)
-        & (ratio <= STATION_PRESSURE_MAX_PLAUSIBLE_RATIO);
-    !plausible
+    !(STATION_PRESSURE_MIN_PLAUSIBLE_RATIO <= ratio
+        && ratio <= STATION_PRESSURE_MAX_PLAUSIBLE_RATIO)
 }
 
 // Of a station pressure, Pa, at a geometric altitude.
+#[tactic(auto, unfolding(crate::specs::Plausibility::plausibility))]
 pub fn station_pressure_plausibility(
     station_pressure_pa: f64,
     altitude_m: f64,
@@ -38,8 +38,8 @@ pub fn station_pressure_plausibility(
     let icao_standard_pa = standard.pressure_pa;
     let ratio = station_pressure_pa / icao_standard_pa;
     StationPressurePlausibility {
-        icao_standard_pa: icao_standard_pa,
-        ratio: ratio,
+        icao_standard_pa,
+        ratio,
         implausible: is_implausible(ratio),
     }
 }

@@ -33,11 +33,8 @@ pub fn in_legacy_default_temperature_band(temperature_c: f64) -> bool
 fn resolved(in_band: bool, reading: f64, altitude_m: f64) -> Reading
     ensures { result ≡ unless_default in_band reading altitude_m }
 {
-    if in_band {
-        if abs(altitude_m) > 1.0 {
-            return Reading::FromLayer;
-        }
-        return Reading::Given(reading);
+    if in_band && abs(altitude_m) > 1.0 {
+        return Reading::FromLayer;
     }
     Reading::Given(reading)
 }
