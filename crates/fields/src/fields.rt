@@ -57,7 +57,8 @@ pub fn is_count_tag(tag: u8) -> bool
     (FIRST_COUNT <= tag) & (tag <= LAST_COUNT)
 }
 
-fn is_tag(tag: u8) -> bool
+// Whether a tag is one of a double or of a count.
+pub fn is_tag(tag: u8) -> bool
     ensures { result ≡ is_tag tag }
 {
     ((FIRST_DOUBLE <= tag) & (tag <= MEANINGS as u8)) | is_count_tag(tag)

@@ -9,7 +9,7 @@ ghost use Rattle.lines.specs.Items.{item_tag, is_item, value_in, with_item, item
 
 use crate::written::put_record;
 use fields::bits::double;
-use fields::fields::{Value, is_count_tag, meaning_of};
+use fields::fields::{Value, is_count_tag, is_tag, meaning_of};
 use pages::Page;
 use questions::digits::{are_hex, word_in};
 use questions::words::{nth_word, word_count};
@@ -33,12 +33,6 @@ fn tag_in(item: &[u8]) -> u8
     ensures { result ≡ item_tag item.now }
 {
     (word_in(tag_part(item)) % 256) as u8
-}
-
-fn is_tag(tag: u8) -> bool
-    ensures { result ≡ is_tag tag }
-{
-    ((1 <= tag) & (tag <= 7)) | is_count_tag(tag)
 }
 
 // The length of an item.

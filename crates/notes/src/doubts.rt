@@ -11,17 +11,14 @@ use crate::given::{Given, Noted};
 use crate::words::{put_figured, put_figured_if, put_if};
 use decimals::shown::decimal_text;
 use pages::Page;
-use trim::classes::trim_class;
-
-// The trim table's densities, kg/m3.
-const LIMITS: [f64; 6] = [1.0, 1.05, 1.1, 1.15, 1.2, 1.25];
+use trim::classes::{CLASS_DENSITIES, trim_class};
 
 // The least density above those of a class, which the last class has not.
 #[tactic(auto, unfolding(crate::specs::Doubts::limit_of, trim::specs::Classes::class_densities))]
 fn limit_of(class: u8) -> Option<f64>
     ensures { MatchOption result (ltb class 6 ≡ false) (λ limit. (ltb class 6 ≡ true) × (limit ≡ limit_of class)) }
 {
-    LIMITS.get(usize::from(class)).copied()
+    CLASS_DENSITIES.get(usize::from(class)).copied()
 }
 
 // Whether two densities have the same text with four decimals.

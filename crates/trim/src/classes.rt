@@ -8,7 +8,7 @@ use record::entries::Readings;
 use refusal::Refusal;
 
 // kg/m3
-const CLASS_DENSITIES: [f64; 6] = [1.0, 1.05, 1.1, 1.15, 1.2, 1.25];
+pub const CLASS_DENSITIES: [f64; 6] = [1.0, 1.05, 1.1, 1.15, 1.2, 1.25];
 
 // The trim class of a density, kg/m3: how many of the class densities are at or below it.
 pub fn trim_class(density_kg_m3: f64) -> u8
