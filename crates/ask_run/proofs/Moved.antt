@@ -1,19 +1,27 @@
--- A byte behind the places that are filled is still there. Assumes nothing.
-use Rattle.arithmetic.proofs.Kit.{◌≡◌, ap, ◌∙◌, List, ◌++◌, ℕ, ◌+◌, arith, length, get_or, drop, get_or-drop}
-use lib.Seq.{get_or-append-add}
-use Rattle.pages.specs.Pages.{up_to}
-use Rattle.pages.proofs.Filled.{Filled, length-up_to}
+-- Bytes that are copied to the start of their buffer. Assumes nothing.
+use Rattle.arithmetic.proofs.Kit.{◌≡◌, refl, sym, ap, ap₂, ◌∙◌, List, [], ◌∷◌, ◌++◌, ℕ, zero, suc, ◌+◌, ◌-◌, ◌<◌, ◌≤◌, min, arith, length, get_or, take, length-take-le}
+use lib.Seq.{take-suc}
+use Rattle.pages.specs.Pages.{up_to, Holds}
+use Rattle.ask_run.specs.Kept.{kept_of}
 
--- the byte for place i
-abbrev pub byte : List ℕ → ℕ → ℕ → ℕ
-byte buffer taken i = get_or buffer (taken + i) 0
+-- bytes that are f's values one by one
+spelled : (f : ℕ → ℕ) (s : List ℕ) (n : ℕ) → n ≤ length s → ((k : ℕ) → k < n → get_or s k 0 ≡ f k) → take n s ≡ up_to f n
+unfolding up_to
+spelled f s zero h each = refl
+spelled f s (suc n) h each =
+    take-suc s n 0 (omega arith) ∙ ap₂ (λ (t : List ℕ) (b : ℕ). t ++ (b ∷ [])) (spelled f s n (omega arith) (λ k lt. each k (omega arith))) (each n (omega arith))
 
--- it is still there
-pub unmoved : (e l : List ℕ) (taken i : ℕ) → Filled (byte e taken) e i l → get_or l (taken + i) 0 ≡ byte e taken i
-unmoved e l taken i f =
-    let front : taken + i ≡ length (up_to (byte e taken) i) + taken = omega (arith, length-up_to (byte e taken) i) in
-    ap (λ (m : List ℕ). get_or m (taken + i) 0) f.holds
-    ∙ ap (λ (k : ℕ). get_or (up_to (byte e taken) i ++ drop i e) k 0) front
-    ∙ get_or-append-add (up_to (byte e taken) i) (drop i e) taken 0
-    ∙ get_or-drop i e taken 0
-    ∙ ap (λ (k : ℕ). get_or e k 0) {x = i + taken} {y = taken + i} (omega arith)
+pub moved : (buffer last : List ℕ) (taken all : ℕ) {start count : ℕ} → start ≡ min taken (min all (length buffer)) → count ≡ min (min all (length buffer) - start) 4098
+    → length last ≡ length buffer → ((k : ℕ) → k < count → get_or last k 0 ≡ get_or buffer (start + k) 0) → Holds (kept_of buffer taken all) last count
+unfolding kept_of
+moved buffer last taken all {start} {count} from many size each =
+    let within : count ≤ length last = omega (arith, from, many, size) in
+    let same : count ≡ min (min all (length buffer) - taken) 4098 = omega (arith, from, many) in
+    record {
+      text =
+          spelled (λ (k : ℕ). get_or buffer (taken + k) 0) last count within
+          (λ k lt. each k lt ∙ ap (λ (n : ℕ). get_or buffer n 0) {x = start + k} {y = taken + k} (omega (arith, from, many, lt)))
+          ∙ ap (up_to (λ (k : ℕ). get_or buffer (taken + k) 0)) same;
+      within = within;
+      counted = sym (length-take-le count last within);
+    }

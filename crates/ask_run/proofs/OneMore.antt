@@ -1,8 +1,11 @@
 -- One line more is answered: where it ends, what is left after it, and that it is whole. Assumes nothing.
-use Rattle.arithmetic.proofs.Kit.{◌≡◌, refl, sym, ap, ap₂, ◌∙◌, Bool, true, false, ◌||◌, ◌&&◌, cond, List, [], ◌∷◌, ℕ, suc, ◌+◌, ◌-◌, ◌≤◌, ◌<◌, add-one, arith, ltb-true, ltb, eqb, length, get_or, take, drop, length-append, drop-drop}
+use Rattle.arithmetic.proofs.Kit.{◌≡◌, refl, sym, ap, ap₂, ◌∙◌, Bool, true, false, ◌||◌, ◌&&◌, cond, List, [], ◌∷◌, ◌++◌, ℕ, suc, ◌+◌, ◌-◌, ◌≤◌, ◌<◌, add-one, arith, ltb-true, ltb, eqb, length, get_or, take, drop, length-append, drop-drop}
 use Rattle.pages.specs.Scan.{index_of, index_after}
-use Rattle.pages.specs.Pages.{Appended}
-use Rattle.pages.proofs.Growing.{same_length, and_then, same_more, held-length}
+use Rattle.std.specs.Borrow.{MutBor}
+use Rattle.pages.specs.declared.Page.{Page}
+use Rattle.pages.specs.Pages.{Appended, page_from, put}
+use Rattle.pages.proofs.Putting.{put_put}
+use Rattle.pages.proofs.Growing.{same_length, held-length}
 use Rattle.std.specs.Prelude.{Some, None}
 use Rattle.questions.specs.declared.line_ends.Line.{Line}
 use Rattle.questions.specs.Lines.{line_end, first_line, next_line, has_line, found_line}
@@ -76,11 +79,20 @@ module _ (ended : Bool) (s : List ℕ) (n taken : ℕ) {end next : ℕ} (rest : 
   unfolding AreWhole
   whole_again h = rw add-one (h, sym (ap (has_line ended) rest) ∙ t.whole)
 
-  pub text-again : {page middle last : List ℕ} {written more : ℕ} → Appended page 0 (answers_to n s) middle written
-      → Appended middle written (answer_line (take end (drop taken s))) last more → Appended page 0 (answers_to (n + 1) s) last more
+  pub text-again : (p : Page) {q r : Page} → q ≡ put p (answers_to n s) → r ≡ put q (answer_line (take end (drop taken s))) → r ≡ put p (answers_to (n + 1) s)
   unfolding answers_to
-  text-again a b =
-      rw add-one (and_then a (same_more (ap₂ (λ (k : ℕ) (l : List ℕ). answer_line (take k l)) (t.end_is ∙ ap line_end rest) rest) b))
+  text-again p a b =
+      let line = ap₂ (λ (k : ℕ) (l : List ℕ). answer_line (take k l)) (t.end_is ∙ ap line_end rest) rest in
+      rw add-one
+      (b
+      ∙ ap (λ (q : Page). put q (answer_line (take end (drop taken s)))) a
+      ∙ put_put p (answers_to n s) (answer_line (take end (drop taken s)))
+      ∙ ap (λ (l : List ℕ). put p (answers_to n s ++ l)) line)
+
+-- a page that is put, in its bytes
+pub appended : (b : MutBor (List ℕ)) {q : Page} {text : List ℕ} → q ≡ put (page_from b 0) text → Appended b.now 0 text q.bytes.now q.at
+unfolding put
+appended b e = record { all = ap (λ (q : Page). q.bytes.now) e; end = ap (λ (q : Page). q.at) e }
 
 -- each answer is begun with room for the longest
 pub room-again : (n : ℕ) (s : List ℕ) {page middle : List ℕ} {written : ℕ} → Appended page 0 (answers_to n s) middle written → length (answers_to n s) ≤ length page

@@ -2,7 +2,6 @@
 use Rattle.std.specs.Prelude.{None, Option, Some}
 use Rattle.trim.specs.declared.changes.Turn.{Turn}
 use Rattle.arithmetic.proofs.Kit.{◌≡◌, refl, Bool, true, false, ◌||◌, ◌&&◌, cond, List, [], ◌∷◌, ◌++◌, ℕ, zero, suc, ◌*◌, ◌≤◌, mul-suc, arith, leb-true, ltb-false, ltb, leb, eqb, lit≤, Float, binary64, to_bits, is_nan, length, get_or, length-append}
-use Rattle.std.proofs.Common.{Option, Some, None}
 use Rattle.arithmetic.specs.Places.{places}
 use Rattle.arithmetic.specs.declared.word.Word.{Word}
 use Rattle.antilog.specs.Log.{logarithm}
@@ -22,7 +21,8 @@ use Rattle.trim.specs.declared.changes.Quantity.{Quantity}
 use Rattle.trim.specs.declared.changes.Quantity.TheVariants.{Temperature, MeasuredPressure}
 use Rattle.trim.specs.declared.changes.Direction.{Direction}
 use Rattle.trim.specs.declared.changes.Direction.TheVariants.{Up, Down}
-use Rattle.trim.specs.Search.{Next, next_trim_class}
+use Rattle.trim.specs.declared.search.Next.{Next}
+use Rattle.trim.specs.Search.{next_trim_class}
 use Rattle.vote.specs.Vote.{VoteOutcome}
 use Rattle.sheet.specs.Sheet.{setting_sheet}
 use Rattle.sheet.proofs.GoodSheet.{good_sheet}
@@ -50,8 +50,7 @@ use Rattle.lines.specs.Written.{bytes_text, length_text, text_or, written_text}
 use Rattle.lines.specs.Classes.{quantity_text, direction_text, turn_text, found_text, class_text}
 use Rattle.lines.specs.Votes.{mast_text, vote_text}
 use Rattle.lines.specs.Records.{read_text, record_answer_text, sheet_text}
-use Rattle.lines.specs.Items.{write_answer}
-use Rattle.lines.specs.Items as items
+use Rattle.lines.specs.Items.{items_text, items_in, write_answer}
 use Rattle.lines.specs.Typed.{park_answer}
 use Rattle.lines.specs.Answers.{question_names, question_shapes, record_answer, vote_answer, sheet_answer, load_answer, known_answer, question_answer, answer_line}
 use Rattle.ask_run.proofs.Stated.{HasRoom}
@@ -268,9 +267,9 @@ unfolding known_answer vote_answer sheet_answer load_answer record_answer
 known-short number ws =
     either (eqb number 8) _ _ (vote-short _) (either (eqb number 9) _ _ (sheet_short _ _ _) (either (eqb number 10) _ _ (load_short _) (record_short number _)))
 
-items_short : (r : items.Read) → length (items.items_text r) ≤ 4096
-items_short (items.given r) = written-short (accepted (record_of r))
-items_short items.wrong = lit≤ tt
+items_short : (r : Option Readings) → length (items_text r) ≤ 4096
+items_short (Some r) = written-short (accepted (record_of r))
+items_short None = lit≤ tt
 
 -- ---- a line
 functions_short : (s : List ℕ) → length (function_answer s) ≤ 4096
@@ -287,7 +286,7 @@ question_short s =
     let number = place_in question_names (get_or (line_parts s) 0 []) in
     either (leb 13 number) _ _ (functions_short s)
     (either (eqb number 12) _ _ (has_room _)
-    (either (eqb number 11) _ _ (items_short (items.items_in (line_parts s)))
+    (either (eqb number 11) _ _ (items_short (items_in (line_parts s)))
     (either (fits (line_parts s) (get_or question_shapes number [])) _ _ (known-short number (line_parts s)) (wrong-short _ _ (each 60 question_names refl number) (each 4 question_shapes refl number)))))
 
 pub answers_fit : HasRoom

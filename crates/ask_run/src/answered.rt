@@ -3,6 +3,7 @@ ghost use Rattle.std.specs.Prelude.{◌≡◌};
 ghost use Rattle.ask_run.specs.Answered.{Answered};
 
 use lines::put_line_answer;
+use pages::Page;
 use questions::line_ends::first_line;
 
 // An answer is begun with so many bytes free; none is longer than 4,096.
@@ -23,21 +24,22 @@ pub fn answer_lines(input: &[u8], ended: bool, page: &mut [u8]) -> Progress
     ensures answered { Answered ended input.now page.old page.new result }
     ensures kept { input.now ≡ input.now }
 {
+    let room = page.len();
+    let mut page = Page::new(page);
     let mut lines = 0;
     let mut taken = 0;
-    let mut written = 0;
-    while page.len() - written >= LONGEST {
+    while room - page.position() >= LONGEST {
         let rest = &input[taken..];
         let Some(line) = first_line(rest, ended) else {
             break;
         };
-        written = put_line_answer(page, written, &rest[..line.end]);
+        put_line_answer(&mut page, &rest[..line.end]);
         taken += line.next;
         lines += 1;
     }
     Progress {
         lines,
         taken,
-        written,
+        written: page.position(),
     }
 }
