@@ -5,6 +5,7 @@
 use load_text::asked::asked_for;
 use load_text::blocks::put_records;
 use std::env::{Env, FillError};
+use std::io;
 
 // Longer words than this ask for nothing.
 const WORD: usize = 64;
@@ -29,29 +30,26 @@ fn asked<E: Env>(env: &E) -> Option<u32> {
     asked_for(word_count(env), &word[..length])
 }
 
-// The first records, in pieces of many. Where the output fails, nothing more is written.
-fn write_records<P: Print>(rt: &P, count: u32) {
+// The first records, in pieces of many.
+fn write_records<P: Print>(rt: &P, count: u32) -> io::Result<()> {
     let mut page = [0u8; PAGE];
     let mut first = 0;
     while first < count {
         let block = put_records(&mut page, first, count - first);
         let length = block.length;
-        if rt.write_all(&page[..length]).is_err() {
-            return;
-        }
+        rt.write_all(&page[..length])?;
         first += block.records;
     }
+    Ok(())
 }
 
 // Ten thousand records, or as many as its argument says. Where that asks for nothing that there is, what
-// there is is written.
+// there is is written. Where the output fails, nothing more is written.
 fn main(rt: HostRuntime) {
-    match asked(&rt) {
+    let _ = match asked(&rt) {
         Some(count) => write_records(&rt, count),
-        None => {
-            let _ = rt.write_all(
-                b"usage: load [COUNT], a whole number from 0 to 2147483, 10000 if there is none\n",
-            );
-        }
-    }
+        None => rt.write_all(
+            b"usage: load [COUNT], a whole number from 0 to 2147483, 10000 if there is none\n",
+        ),
+    };
 }
