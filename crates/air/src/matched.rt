@@ -24,8 +24,7 @@ pub fn density_matched_altitude_of(density_kg_m3: f64) -> f64
     let ratio = density_kg_m3 / REFERENCE_DENSITY;
     let troposphere = (ISA_SEA_LEVEL_TEMP_K / ISA_LAPSE_K_PER_M)
         * (1.0 - power(ratio, TROPOSPHERE_EXPONENT_RECIPROCAL));
-    // only a NaN differs from itself
-    if troposphere != troposphere || troposphere <= TROPOSPHERE_TOP_M {
+    if troposphere.is_nan() || troposphere <= TROPOSPHERE_TOP_M {
         return troposphere;
     }
     standard_altitude_above_tropopause_m(ratio)

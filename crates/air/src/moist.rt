@@ -41,10 +41,7 @@ pub(crate) fn saturation_at(temp_k: f64, humidity_percent: f64) -> Saturation
 pub(crate) fn is_one(x: f64, y: f64) -> bool
     ensures { result ≡ is_one x y }
 {
-    if x == y {
-        return f64::to_bits(x) == f64::to_bits(y);
-    }
-    false
+    x == y && x.to_bits() == y.to_bits()
 }
 
 fn saturation_pressure(known: Saturation, temp_k: f64, humidity_percent: f64) -> f64
