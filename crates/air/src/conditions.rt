@@ -87,6 +87,7 @@ pub(crate) fn conditions_at(
 // The density and the speed of sound of the air at an altitude, and the mole fraction of vapour that its
 // density uses: a temperature in degrees Celsius or a pressure in hPa that is given takes the place of the
 // standard atmosphere's.
+#[tactic(auto, using(crate::proofs::Served::served), unfolding(crate::specs::Station::atmosphere))]
 pub fn calculate_atmosphere(
     altitude_m: f64,
     temp_override_c: Reading,

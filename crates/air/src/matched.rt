@@ -31,6 +31,7 @@ pub fn density_matched_altitude_of(density_kg_m3: f64) -> f64
 }
 
 // The geopotential height, m, at which the standard atmosphere has the density of this air.
+#[tactic(auto, using(crate::proofs::Served::served), unfolding(crate::specs::Station::atmosphere, crate::specs::Matched::density_matched_altitude))]
 pub fn density_matched_altitude_m(
     temperature_c: f64,
     station_pressure_hpa: f64,

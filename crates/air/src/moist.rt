@@ -56,6 +56,7 @@ fn saturation_pressure(known: Saturation, temp_k: f64, humidity_percent: f64) ->
 
 // The mole fraction of vapour, uncapped. The temperature stands in K and in degrees Celsius, as the
 // callers round it.
+#[tactic(auto, using(humid_air::proofs::Needed::needed_serves))]
 pub(crate) fn uncapped_mole_fraction(
     known: Saturation,
     temp_k: f64,
@@ -71,6 +72,7 @@ pub(crate) fn uncapped_mole_fraction(
 }
 
 // The density and its mole fraction, of K, Pa and percent.
+#[tactic(auto, using(crate::proofs::Served::clamped_serves), unfolding(crate::specs::Moist::density_of))]
 pub(crate) fn density_of(
     known: Saturation,
     temp_k: f64,
@@ -97,6 +99,7 @@ pub(crate) fn density_of(
 }
 
 // The speed of sound, m/s, of K, Pa and percent.
+#[tactic(auto, using(crate::proofs::Served::clamped_serves), unfolding(humid_air::specs::Sound::sound_speed))]
 pub(crate) fn sound_speed_of(
     known: Saturation,
     temp_k: f64,
