@@ -3,8 +3,8 @@ use Rattle.arithmetic.proofs.Kit.{◌≡◌, sym, subst, Bool, true, T, eqb, eqb
 use Rattle.arithmetic.proofs.Pattern.{one-pattern}
 use Rattle.air.specs.Moist.{is_one}
 
-pub one-double : (x y : Float) → T (fits binary64 x) → T (fits binary64 y) → {r : Bool} → r ≡ is_one x y → r ≡ true → x ≡ y
+pub one_double : (x y : Float) → T (fits binary64 x) → T (fits binary64 y) → {r : Bool} → r ≡ is_one x y → r ≡ true → x ≡ y
 unfolding is_one
-one-double x y fx fy is t =
+one_double x y fx fy is t =
     let same : T (is_one x y) = subst T is (subst T (sym t) tt) in
     one-pattern x y fx fy (eqb→eq _ _ (and_r (eq x y) (eqb (to_bits binary64 x) (to_bits binary64 y)) same))

@@ -47,52 +47,47 @@ pub(crate) fn conditions_at(
 ) -> Conditions
     ensures { result ≡ conditions_at places altitude_m temp_override_c press_override_hpa }
 {
-    match temp_override_c {
-        Reading::Given(temp_c) => match press_override_hpa {
-            Reading::Given(pressure_hpa) => {
-                Conditions {
-                    temp_k: temp_c + 273.15,
-                    pressure_pa: pressure_hpa * 100.0,
-                    shown_c: temp_c,
-                    shown_hpa: pressure_hpa,
-                }
-            }
-            Reading::FromLayer => {
-                let standard = calculate_icao_standard_atmosphere(altitude_m);
-                Conditions {
-                    temp_k: temp_c + 273.15,
-                    pressure_pa: standard.pressure_pa,
-                    shown_c: temp_c,
-                    shown_hpa: standard.pressure_pa / 100.0,
-                }
-            }
+    match (temp_override_c, press_override_hpa) {
+        (Reading::Given(temp_c), Reading::Given(pressure_hpa)) => Conditions {
+            temp_k: temp_c + 273.15,
+            pressure_pa: pressure_hpa * 100.0,
+            shown_c: temp_c,
+            shown_hpa: pressure_hpa,
         },
-        Reading::FromLayer => match press_override_hpa {
-            Reading::Given(pressure_hpa) => {
-                let temperature_k = standard_temperature_k(altitude_m);
-                Conditions {
-                    temp_k: temperature_k,
-                    pressure_pa: pressure_hpa * 100.0,
-                    shown_c: temperature_k - 273.15,
-                    shown_hpa: pressure_hpa,
-                }
+        (Reading::Given(temp_c), Reading::FromLayer) => {
+            let standard = calculate_icao_standard_atmosphere(altitude_m);
+            Conditions {
+                temp_k: temp_c + 273.15,
+                pressure_pa: standard.pressure_pa,
+                shown_c: temp_c,
+                shown_hpa: standard.pressure_pa / 100.0,
             }
-            Reading::FromLayer => {
-                let standard = calculate_icao_standard_atmosphere(altitude_m);
-                Conditions {
-                    temp_k: standard.temperature_k,
-                    pressure_pa: standard.pressure_pa,
-                    shown_c: standard.temperature_k - 273.15,
-                    shown_hpa: standard.pressure_pa / 100.0,
-                }
+        }
+        (Reading::FromLayer, Reading::Given(pressure_hpa)) => {
+            let temperature_k = standard_temperature_k(altitude_m);
+            Conditions {
+                temp_k: temperature_k,
+                pressure_pa: pressure_hpa * 100.0,
+                shown_c: temperature_k - 273.15,
+                shown_hpa: pressure_hpa,
             }
-        },
+        }
+        (Reading::FromLayer, Reading::FromLayer) => {
+            let standard = calculate_icao_standard_atmosphere(altitude_m);
+            Conditions {
+                temp_k: standard.temperature_k,
+                pressure_pa: standard.pressure_pa,
+                shown_c: standard.temperature_k - 273.15,
+                shown_hpa: standard.pressure_pa / 100.0,
+            }
+        }
     }
 }
 
 // The density and the speed of sound of the air at an altitude, and the mole fraction of vapour that its
 // density uses: a temperature in degrees Celsius or a pressure in hPa that is given takes the place of the
 // standard atmosphere's.
+#[tactic(auto, using(crate::proofs::Served::served), unfolding(crate::specs::Station::atmosphere))]
 pub fn calculate_atmosphere(
     altitude_m: f64,
     temp_override_c: Reading,

@@ -35,12 +35,8 @@ fn shown_density(
     requires density_kg_m3_value { density_kg_m3 ≡ (density_of places at.temp_k at.pressure_pa humidity_percent).density_kg_m3 }
     ensures { result ≡ (density_of places shown_k shown_pa humidity_percent).density_kg_m3 }
 {
-    let same_temperature = is_one(at.temp_k, shown_k);
-    let same_pressure = is_one(at.pressure_pa, shown_pa);
-    if same_temperature {
-        if same_pressure {
-            return density_kg_m3;
-        }
+    if is_one(at.temp_k, shown_k) && is_one(at.pressure_pa, shown_pa) {
+        return density_kg_m3;
     }
     density_of(known, shown_k, shown_pa, humidity_percent).density_kg_m3
 }

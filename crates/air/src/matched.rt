@@ -24,14 +24,14 @@ pub fn density_matched_altitude_of(density_kg_m3: f64) -> f64
     let ratio = density_kg_m3 / REFERENCE_DENSITY;
     let troposphere = (ISA_SEA_LEVEL_TEMP_K / ISA_LAPSE_K_PER_M)
         * (1.0 - power(ratio, TROPOSPHERE_EXPONENT_RECIPROCAL));
-    // only a NaN differs from itself
-    if troposphere != troposphere || troposphere <= TROPOSPHERE_TOP_M {
+    if troposphere.is_nan() || troposphere <= TROPOSPHERE_TOP_M {
         return troposphere;
     }
     standard_altitude_above_tropopause_m(ratio)
 }
 
 // The geopotential height, m, at which the standard atmosphere has the density of this air.
+#[tactic(auto, using(crate::proofs::Served::served), unfolding(crate::specs::Station::atmosphere, crate::specs::Matched::density_matched_altitude))]
 pub fn density_matched_altitude_m(
     temperature_c: f64,
     station_pressure_hpa: f64,

@@ -41,10 +41,7 @@ pub(crate) fn saturation_at(temp_k: f64, humidity_percent: f64) -> Saturation
 pub(crate) fn is_one(x: f64, y: f64) -> bool
     ensures { result ≡ is_one x y }
 {
-    if x == y {
-        return f64::to_bits(x) == f64::to_bits(y);
-    }
-    false
+    x == y && x.to_bits() == y.to_bits()
 }
 
 fn saturation_pressure(known: Saturation, temp_k: f64, humidity_percent: f64) -> f64
@@ -59,6 +56,7 @@ fn saturation_pressure(known: Saturation, temp_k: f64, humidity_percent: f64) ->
 
 // The mole fraction of vapour, uncapped. The temperature stands in K and in degrees Celsius, as the
 // callers round it.
+#[tactic(auto, using(humid_air::proofs::Needed::needed_serves))]
 pub(crate) fn uncapped_mole_fraction(
     known: Saturation,
     temp_k: f64,
@@ -74,6 +72,7 @@ pub(crate) fn uncapped_mole_fraction(
 }
 
 // The density and its mole fraction, of K, Pa and percent.
+#[tactic(auto, using(crate::proofs::Served::clamped_serves), unfolding(crate::specs::Moist::density_of))]
 pub(crate) fn density_of(
     known: Saturation,
     temp_k: f64,
@@ -100,6 +99,7 @@ pub(crate) fn density_of(
 }
 
 // The speed of sound, m/s, of K, Pa and percent.
+#[tactic(auto, using(crate::proofs::Served::clamped_serves), unfolding(humid_air::specs::Sound::sound_speed))]
 pub(crate) fn sound_speed_of(
     known: Saturation,
     temp_k: f64,

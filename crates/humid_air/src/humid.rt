@@ -16,6 +16,7 @@ const GAMMA: f64 = 1.4;
 
 // The saturation pressure, hPa, that air of a humidity in percent asks for at a temperature in K. Dry air
 // asks for none, and 0 stands for it: the pressure is by far the longest step.
+#[tactic(auto, unfolding(crate::specs::Humidity::needed_pressure))]
 pub fn needed_saturation_pressure(t_k: f64, humidity_percent: f64) -> f64
     ensures { result ≡ needed_pressure places t_k humidity_percent }
 {
@@ -27,6 +28,7 @@ pub fn needed_saturation_pressure(t_k: f64, humidity_percent: f64) -> f64
 
 // The mole fraction of vapour, uncapped. The temperature stands in K and in degrees Celsius, as the two
 // callers round it.
+#[tactic(auto, using(crate::proofs::Needed::needed_serves))]
 fn vapor_mole_fraction_at(t_k: f64, temp_c: f64, pressure_pa: f64, humidity_percent: f64) -> f64
     ensures { result ≡ mole_fraction_at places t_k temp_c pressure_pa humidity_percent }
 {
@@ -77,6 +79,7 @@ pub fn moist_sound_speed_at_mole_fraction(temp_k: f64, mole_fraction_vapor: f64)
 }
 
 // The speed of sound in moist air, m/s, of K, Pa and percent.
+#[tactic(auto, unfolding(crate::specs::Sound::sound_speed))]
 pub fn moist_speed_of_sound(temp_k: f64, pressure_pa: f64, humidity_percent: f64) -> f64
     ensures { result ≡ sound_speed places temp_k pressure_pa humidity_percent }
 {

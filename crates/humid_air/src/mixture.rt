@@ -53,6 +53,7 @@ pub fn enhanced_enhancement_factor(p: f64, t: f64) -> f64
 
 // The compressibility factor of moist air, of a pressure in Pa, a temperature in K and the mole fraction
 // of vapour.
+#[tactic(auto, unfolding(crate::specs::MoistAir::compressibility_factor))]
 pub fn enhanced_compressibility_factor(p: f64, t_k: f64, x_v: f64) -> f64
     ensures { result ≡ compressibility_factor p t_k x_v }
 {
@@ -68,6 +69,7 @@ pub fn enhanced_compressibility_factor(p: f64, t_k: f64, x_v: f64) -> f64
 // The mole fraction of vapour, uncapped, of a saturation pressure in hPa, an enhancement factor, a
 // humidity in percent and a pressure in Pa. At 0 percent the saturation pressure is left out, so that dry
 // air is dry air above the critical temperature too.
+#[tactic(auto, unfolding(crate::specs::MoistAir::mole_fraction))]
 pub fn vapor_mole_fraction(p_sv_hpa: f64, f: f64, humidity_percent: f64, p_pa: f64) -> f64
     ensures { result ≡ mole_fraction p_sv_hpa f humidity_percent p_pa }
 {
@@ -113,6 +115,7 @@ pub fn moist_molar_mass_ratio(mole_fraction_vapor: f64) -> f64
 }
 
 // The density of moist air, kg/m3, of degrees Celsius, hPa and the mole fraction of vapour.
+#[tactic(auto, unfolding(crate::specs::MoistAir::air_density_at))]
 pub fn air_density_at_mole_fraction(temp_c: f64, pressure_hpa: f64, x_v: f64) -> f64
     ensures { result ≡ air_density_at temp_c pressure_hpa x_v }
 {
