@@ -54,19 +54,12 @@ run : {k l m o p q : Bool} (a b c d e f : Bool) → k ≡ not a → l ≡ not b 
     → ◌≡◌ {A = ℕ} (cond a 0 (cond (k && b) 1 (cond (l && c) 2 (cond (m && d) 3 (cond (o && e) 4 (cond (p && f) 5 (cond q 6 0))))))) (cond a 0 (cond b 1 (cond c 2 (cond d 3 (cond e 4 (cond f 5 6))))))
 run a b c d e f h₁ h₂ h₃ h₄ h₅ h₆ = cc (flat a b c d e f)
 
-pub first_below : (H : Float) → is_nan H ≡ false → layer_at H ≡ first_from (below H) 6 0
+first_below : (H : Float) → is_nan H ≡ false → layer_at H ≡ first_from (below H) 6 0
 unfolding layers layer_at first_from of_bits
 first_below H e =
     let u = is_number H e in
     run (below H 0) (below H 1) (below H 2) (below H 3) (below H 4) (below H 5) (from_not_below H (base_height 1) u tt) (from_not_below H (base_height 2) u tt) (from_not_below H (base_height 3) u tt) (from_not_below H (base_height 4) u tt)
     (from_not_below H (base_height 5) u tt) (from_not_below H (base_height 6) u tt)
-
--- ---- NaN takes layer 0
-pub nan-lowest : (H : Float) → is_nan H ≡ true → 0 ≡ layer_at H
-unfolding layer_at is_nan lt le of_bits
-nan-lowest nan e = refl
-nan-lowest (inf s) e = absurd (true≢false (sym e))
-nan-lowest (fin s m k) e = absurd (true≢false (sym e))
 
 -- ---- one of seven
 pub layer-lt : (H : Float) → layer_at H < 7

@@ -72,16 +72,29 @@ pub fn standard_geopotential_height_m(altitude_m: f64) -> f64
 fn layer_number(geopotential_height: f64) -> usize
     ensures { result ≡ layer_at geopotential_height }
 {
-    // NaN lies in none
-    if geopotential_height.is_nan() {
+    if geopotential_height < 11000.0 {
         return 0;
     }
-    for number in 0..6 {
-        if geopotential_height < ICAO_LAYERS[number + 1][0] {
-            return number;
-        }
+    if (11000.0 <= geopotential_height) & (geopotential_height < 20000.0) {
+        return 1;
     }
-    6
+    if (20000.0 <= geopotential_height) & (geopotential_height < 32000.0) {
+        return 2;
+    }
+    if (32000.0 <= geopotential_height) & (geopotential_height < 47000.0) {
+        return 3;
+    }
+    if (47000.0 <= geopotential_height) & (geopotential_height < 51000.0) {
+        return 4;
+    }
+    if (51000.0 <= geopotential_height) & (geopotential_height < 71000.0) {
+        return 5;
+    }
+    if 71000.0 <= geopotential_height {
+        return 6;
+    }
+    // NaN lies in none
+    0
 }
 
 // The pressure in a layer, at so many metres above its base and at the temperature there.
