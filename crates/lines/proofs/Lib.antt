@@ -1,5 +1,4 @@
 -- What the answers share.
 pub mod Buffer
-pub mod Items
 pub mod Sheet
 pub mod ShownText

@@ -1,7 +1,8 @@
 // The question `write`: readings as items, `TAG=DATA`, and the record that is written of them.
 #![tactic(auto, using(pages::proofs::Putting::puts), unfolding(crate::specs::Items::write_answer))]
 
-ghost use Rattle.std.specs.Prelude.{◌≡◌, take, drop, ◌+◌, ◌*◌};
+ghost use Rattle.std.specs.Prelude.{◌≡◌, take, drop, ◌+◌, ◌*◌, ◌&&◌, eqb, length};
+ghost use Rattle.questions.specs.Digits.{are_hex};
 ghost use Rattle.fields.specs.Fields.{is_tag, data_size};
 ghost use Rattle.pages.specs.Pages.{put};
 ghost use Rattle.questions.specs.Words.{line_parts};
@@ -9,7 +10,7 @@ ghost use Rattle.lines.specs.Items.{item_tag, is_item, value_in, with_item, item
 
 use crate::written::put_record;
 use fields::bits::double;
-use fields::fields::{Value, is_count_tag, is_tag, meaning_of};
+use fields::fields::{Value, data_size, is_count_tag, is_tag, meaning_of};
 use pages::Page;
 use questions::digits::{are_hex, word_in};
 use questions::words::{nth_word, word_count};
@@ -39,9 +40,17 @@ fn tag_in(item: &[u8]) -> u8
 fn item_size(tag: u8) -> usize
     ensures { result ≡ 3 + 2 * data_size tag }
 {
-    if is_count_tag(tag) { 11 } else { 19 }
+    3 + 2 * data_size(tag)
 }
 
+// Whether an item has as many digits of data as its tag asks for.
+fn has_data(item: &[u8], tag: u8) -> bool
+    ensures { result ≡ (eqb (length item.now) (3 + 2 * data_size tag) && are_hex (drop 3 item.now)) }
+{
+    item.len() == item_size(tag) && are_hex(data_part(item))
+}
+
+#[tactic(auto, unfolding(crate::specs::Items::is_item))]
 fn is_item(item: &[u8]) -> bool
     ensures { result ≡ is_item item.now }
 {
@@ -50,8 +59,7 @@ fn is_item(item: &[u8]) -> bool
         && are_hex(tag_part(item))
         && item[2] == b'='
         && is_tag(tag)
-        && item.len() == item_size(tag)
-        && are_hex(data_part(item))
+        && has_data(item, tag)
 }
 
 #[tactic(auto, unfolding(crate::specs::Items::value_in))]
