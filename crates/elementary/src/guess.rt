@@ -5,10 +5,9 @@ mod table;
 ghost use Rattle.elementary.specs.Base.{Neared};
 
 use crate::guess::table::{logarithm, reciprocal};
-use crate::log::{Units, log_bits};
+use crate::log::Units;
 use antilog::near_bits::within_two;
 use arithmetic::wide::product;
-use arithmetic::word::ONES;
 use std::num::{wrapping_add_u64, wrapping_sub_u64};
 
 // 1 / ln 2 in units of 2^-63, and 1 / (j ln 2) in units of 2^-64 for j from 2 to 8
@@ -50,16 +49,12 @@ fn guessed_logarithm(m: u64) -> u64 {
     wrapping_sub_u64(above, upper(upper(w, w), second) >> 12)
 }
 
-// Bits that the log bits lie from to two more: they lie mostly a unit or so above those that are guessed,
-// and only where they do not, sixty squarings are taken.
-pub(crate) fn near_bits(units: Units) -> u64
+// Bits that the log bits lie from to two more, where they are known to: mostly a unit or so above those
+// that are guessed.
+pub(crate) fn near_bits(units: Units) -> Option<u64>
     ensures { Neared units.q units.k result }
 {
     let m = units.mantissa();
     let bits = wrapping_sub_u64(guessed_logarithm(2 * m), 23) >> 4;
-    if within_two(m, bits) {
-        bits
-    } else {
-        log_bits(m).min(ONES - 2)
-    }
+    within_two(m, bits).then_some(bits)
 }

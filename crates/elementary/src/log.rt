@@ -22,7 +22,7 @@ fn squared(m: u64) -> u64
 
 // The 60 bits of the logarithm of m / 2^62, which lies from 1 up to 2. A square of 2 or more gives
 // the bit 1 and is halved; it has its highest digit set, so that digit is the bit.
-pub(crate) fn log_bits(m: u64) -> u64
+fn log_bits(m: u64) -> u64
     requires { (2 ^ 62 ≤ m) × (m < 2 ^ 63) }
     ensures { result ≡ log_bits places m }
 {

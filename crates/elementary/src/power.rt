@@ -112,13 +112,18 @@ fn near_power(units: Units, bits: u64, number: usize) -> Option<f64>
     antilog_among(times(least, factor, 58), (factor >> 57) + 1)
 }
 
-// The same: sixty squarings are taken only where the bits leave the power open.
-fn positive_power(units: Units, near: u64, number: usize) -> f64
+// The same: sixty squarings are taken only where the bits, guessed and checked, leave the power open.
+fn positive_power(units: Units, near: Option<u64>, number: usize) -> f64
     requires near { Neared units.q units.k near }
     requires number_bound { number < 27 }
     ensures { result ≡ positive_power places (exponent_at number) (odd 53 false units.q units.k 1074) }
 {
-    near_power(units, near, number).unwrap_or_else(|| squared_power(units, number))
+    if let Some(bits) = near
+        && let Some(value) = near_power(units, bits, number)
+    {
+        return value;
+    }
+    squared_power(units, number)
 }
 
 // An infinite base.
@@ -144,7 +149,7 @@ fn zero_power(negative: bool, number: usize) -> f64
 }
 
 // A finite base that is not zero.
-fn finite_power(negative: bool, units: Units, near: u64, number: usize) -> f64
+fn finite_power(negative: bool, units: Units, near: Option<u64>, number: usize) -> f64
     requires near { Neared units.q units.k near }
     requires number_bound { number < 27 }
     ensures { result ≡ power places (exponent_at number) (odd 53 negative units.q units.k 1074) }
@@ -159,12 +164,11 @@ fn finite_power(negative: bool, units: Units, near: u64, number: usize) -> f64
     }
 }
 
-// A double taken apart, with the bits near those of its size's logarithm, and 0 where it is not finite or
-// is zero.
+// A double taken apart, with the bits near those of its size's logarithm where it is finite and not zero.
 #[derive(Clone, Copy)]
 struct Base {
     parts: Parts,
-    near: u64,
+    near: Option<u64>,
 }
 
 fn base_of(x: f64) -> Base
@@ -173,7 +177,7 @@ fn base_of(x: f64) -> Base
     let parts = take_apart(x);
     let near = match parts {
         Parts::Finite(_, q, k) => near_bits(Units { q, k }),
-        _ => 0,
+        _ => None,
     };
     Base { parts, near }
 }
