@@ -95,14 +95,16 @@ pub(crate) fn put_function_answer(page: &mut Page<'_>, line: &[u8])
     let names =
         b"enhanced_saturation_vapor_pressure enhanced_enhancement_factor enhanced_compressibility_factor vapor_mole_fraction capped_vapor_mole_fraction water_vapor_mole_fraction_uncapped moist_air_vapor_mole_fraction moist_molar_mass_ratio calculate_air_density_cimp moist_sound_speed_at_mole_fraction moist_speed_of_sound geometric_to_geopotential_height_m reduce_qnh_to_station_pressure nws_pressure_altitude_ft pressure_altitude_m standard_pressure_altitude_m faa_rule_density_altitude_ft density_matched_altitude_m standard_altitude_above_tropopause_m exp ln sqrt in_legacy_default_pressure_band in_legacy_default_temperature_band resolve_station_pressure resolve_station_temperature calculate_icao_standard_atmosphere calculate_atmosphere resolve_atmosphere_for_density_altitude station_for_density_altitude power log_word antilog root decimal station_pressure_plausibility";
     let number = place(nth_word(line, 0), names);
-    let shapes =
-        b"x xx xxx xxxx x xxx xxx x xxx xx xxx x xx x x x xx xxx x x x x x x xx xx x xoox xo xo nx x ww ww nx xx";
-    let shape = nth_word(shapes, number);
     if number >= 36 {
         page.put(
             b"unknown question: expected judge, strict, judge-values, strict-values, vote, class, counts, doubles, report, write, sheet, load, park, power, log_word, antilog, exp, ln, sqrt, root, decimal or a function of the source\n",
         );
-    } else if fits(line, shape) {
+        return;
+    }
+    let shapes =
+        b"x xx xxx xxxx x xxx xxx x xxx xx xxx x xx x x x xx xxx x x x x x x xx xx x xoox xo xo nx x ww ww nx xx";
+    let shape = nth_word(shapes, number);
+    if fits(line, shape) {
         put_numbered(page, number, line);
     } else {
         put_wrong(page, nth_word(names, number), shape);

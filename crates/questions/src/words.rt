@@ -26,8 +26,8 @@ pub fn place(word: &[u8], names: &[u8]) -> usize
     ensures kept { word.now ≡ word.now }
     ensures left { names.now ≡ names.now }
 {
-    match names.split(|&b| b == b' ').position(|name| name == word) {
-        Some(i) => i,
-        None => word_count(names),
-    }
+    names
+        .split(|&b| b == b' ')
+        .take_while(|name| *name != word)
+        .count()
 }
