@@ -14,10 +14,13 @@ pub const CLASS_DENSITIES: [f64; 6] = [1.0, 1.05, 1.1, 1.15, 1.2, 1.25];
 pub fn trim_class(density_kg_m3: f64) -> u8
     ensures { result ≡ trim_class density_kg_m3 }
 {
-    CLASS_DENSITIES
-        .iter()
-        .filter(|limit| **limit <= density_kg_m3)
-        .count() as u8
+    let mut class = 0;
+    for i in 0..6 {
+        if CLASS_DENSITIES[i] <= density_kg_m3 {
+            class += 1;
+        }
+    }
+    class
 }
 
 // The trim class of readings, or their refusal.
