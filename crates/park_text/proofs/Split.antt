@@ -19,7 +19,7 @@ words-by_first (b ∷ s) = go (eqb b 10) s (words-by_first s)
     go false [] h = refl
     go false (a ∷ s) h = ap (before false b) h
 
-some_word : (s : List ℕ) → 0 < length s → arguments s ≡ take (index_of 10 s) s ∷ arguments (drop (suc (index_of 10 s)) s)
+pub some_word : (s : List ℕ) → 0 < length s → arguments s ≡ take (index_of 10 s) s ∷ arguments (drop (suc (index_of 10 s)) s)
 some_word [] h = absurd (omega arith)
 some_word (b ∷ s) h = words-by_first (b ∷ s)
 
