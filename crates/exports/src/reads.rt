@@ -72,7 +72,6 @@ fn put_read(
 }
 
 // The readings of a record by one of the two readers, the room of the arrays first.
-#[inline(always)]
 fn read_by(
     strict: bool,
     record: &[u8],

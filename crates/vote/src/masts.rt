@@ -13,7 +13,6 @@ use refusal::Refusal;
 use refusal::judge::Figures;
 
 // The readings of a record that is accepted by itself, or its refusal.
-#[inline(always)]
 #[tactic(auto, unfolding(crate::specs::Vote::accepted_readings))]
 fn accepted_readings(bytes: &[u8]) -> Result<Readings, Refusal>
     ensures { outcome result ≡ accepted_readings bytes.now }
